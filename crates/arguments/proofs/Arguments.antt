@@ -1,0 +1,226 @@
+-- Laws of arguments: the name and then the value, where they stand, and what they cost. Assumes nothing.
+use Prim.Native.Nat.{ℕ, zero, suc, _+_, _-_, _*_, _%_, _≤_, _<_}
+use mathlib.Core.Path.{_≡_, refl, sym, subst, ap, _∙_}
+use mathlib.Core.List.{List, [], _∷_}
+use mathlib.Core.Bool.{Bool, true, false, _&&_}
+use native.Mathlib.Omega.{arith}
+use borrow.Author.Tests.{ltb-false, eqb-false}
+use lib.Dec.{eqb, ltb}
+use lib.ListN.{length, drop, length-drop}
+use Rattle.words.specs.Word.{pick, wordAt, field}
+use Rattle.format.specs.declared.Format.{Format}
+use Rattle.format.specs.declared.Reference.{Reference}
+use Rattle.format.specs.declared.Reference.the-variants.{Inline, Index}
+use Rattle.format.specs.declared.Taken.{Taken}
+use Rattle.format.specs.declared.Taken.the-variants.{Refused as TextRefused, Part as TextRead}
+use Rattle.format.specs.Part.{Part, words, text, takePart, takeText, takeWords, Body, refused as bodyRefused, body, prepend as prependPart, onTaken, onBody, takeParts, part, placeOf, inlineBytes, Inside}
+use Rattle.format.proofs.Parts.{on-pick, inside-wider, Moves, text-moves}
+use Rattle.arguments.specs.declared.Scalar.{Scalar}
+use Rattle.arguments.specs.declared.Scalar.the-variants.{Signed64, Unsigned64, Double, Pointer, KernelObject}
+use Rattle.arguments.specs.declared.Value.{Value}
+use Rattle.arguments.specs.declared.Value.the-variants.{Scalar as ScalarValue, Text}
+use Rattle.arguments.specs.declared.Argument.{Argument}
+use Rattle.arguments.specs.declared.Valued.{Valued}
+use Rattle.arguments.specs.declared.Valued.the-variants.{Refused as ValueRefused, Value as ValueRead}
+use Rattle.arguments.specs.declared.Argued.{Argued}
+use Rattle.arguments.specs.declared.Argued.the-variants.{Refused, Argument as Read}
+use Rattle.arguments.specs.declared.Walked.the-variants.{Refused as WalkRefused}
+use Rattle.arguments.specs.Argument.{argumentType, argumentSize, scalarWords, headerScalar, holdsWord, wordScalar, valueParts, valueOf, takeValue, argumentBody, argumentOf, Arguments, refused, arguments, prepend, onArgued, argumentsOf, walked}
+use Rattle.arguments.specs.Loss.{valueBytes, argumentBytes, ValueInside, Fits, argumentKeeps, argumentsKeep}
+
+-- a test and its two outcomes
+pub cases : {P : Type 0} (b : Bool) → (b ≡ true → P) → (b ≡ false → P) → P
+cases true f g = f refl
+cases false f g = g refl
+
+-- ---- the name, and then the value
+
+-- an argument whose name is read, by what its value is
+abbrev pub named : Reference → ℕ → Valued → Argued
+named name size (ValueRefused number) = Refused number
+named name size (ValueRead v) = Read (record { name = name; value = v }) size
+
+abbrev pub onName : Taken → (Reference → ℕ → Argued) → Argued
+onName (TextRefused number) then = Refused number
+onName (TextRead name next) then = then name next
+
+value-behind : (header : ℕ) (rest : List ℕ) (place size : ℕ) (name : Reference) (b : Body)
+    → onBody (prependPart name b) Refused (λ rs next. Read (record { name = part 0 rs; value = valueOf header rest place (part 1 rs) }) size)
+    ≡ named name size (onBody b ValueRefused (λ rs next. ValueRead (valueOf header rest place (part 0 rs))))
+value-behind header rest place size name (bodyRefused number) = refl
+value-behind header rest place size name (body rs next) = refl
+
+-- an argument's body is its name, and then its value
+pub name-then-value : (f : Format) (rest : List ℕ) (place : ℕ)
+    → argumentBody f rest place
+    ≡ onName (takeText f (field 16 31 (wordAt rest 0)) (place + 8) (place + argumentSize (wordAt rest 0)))
+    (λ name next. named name (argumentSize (wordAt rest 0)) (takeValue f rest place next (place + argumentSize (wordAt rest 0))))
+unfolding argumentBody takeParts takePart takeValue
+name-then-value f rest place = go (takeText f (field 16 31 h) (place + 8) (place + argumentSize h))
+  where
+    h : ℕ
+    h = wordAt rest 0
+
+    go : (t : Taken)
+        → onBody (onTaken t (λ x next. prependPart x (takeParts f (valueParts h) next (place + argumentSize h)))) Refused
+        (λ rs next. Read (record { name = part 0 rs; value = valueOf h rest place (part 1 rs) }) (argumentSize h))
+        ≡ onName t (λ name next. named name (argumentSize h)
+        (onBody (takeParts f (valueParts h) next (place + argumentSize h)) ValueRefused (λ rs last. ValueRead (valueOf h rest place (part 0 rs)))))
+    go (TextRefused number) = refl
+    go (TextRead x next) = value-behind h rest place (argumentSize h) x (takeParts f (valueParts h) next (place + argumentSize h))
+
+-- ---- where they stand, and what they cost
+
+-- a value that is read fits between two places
+abbrev pub ValueFits : ℕ → ℕ → Valued → Type 0
+ValueFits at end (ValueRefused number) = Unit {0}
+ValueFits at end (ValueRead v) = (at + valueBytes v ≤ end) × ValueInside at end v
+
+-- the scalars that take a word, and those that take none
+word-scalar-words : (type word : ℕ) → scalarWords (wordScalar type word) ≡ 1
+unfolding wordScalar
+word-scalar-words type word =
+    on-pick (λ s. scalarWords s ≡ 1) (eqb type 3) _ _ (λ e. refl)
+    (λ e. on-pick (λ s. scalarWords s ≡ 1) (eqb type 4) _ _ (λ e. refl)
+    (λ e. on-pick (λ s. scalarWords s ≡ 1) (eqb type 5) _ _ (λ e. refl)
+    (λ e. on-pick (λ s. scalarWords s ≡ 1) (eqb type 7) _ _ (λ e. refl) (λ e. refl))))
+
+header-scalar-words : (header : ℕ) → scalarWords (headerScalar header) ≡ 0
+unfolding headerScalar
+header-scalar-words header =
+    on-pick (λ s. scalarWords s ≡ 0) (eqb (argumentType header) 0) _ _ (λ e. refl)
+    (λ e. on-pick (λ s. scalarWords s ≡ 0) (eqb (argumentType header) 1) _ _ (λ e. refl)
+    (λ e. on-pick (λ s. scalarWords s ≡ 0) (eqb (argumentType header) 2) _ _ (λ e. refl)
+    (λ e. on-pick (λ s. scalarWords s ≡ 0) (eqb (argumentType header) 9) _ _ (λ e. refl) (λ e. refl))))
+
+-- every value fits so
+pub value-fits : (f : Format) (rest : List ℕ) (place at end : ℕ) → at ≤ end → ValueFits at end (takeValue f rest place at end)
+unfolding takeValue takeParts takePart takeWords valueBytes
+value-fits f rest place at end h =
+    cases (eqb (argumentType hd) 6) (λ e. rw e (of-text (takeText f (field 32 47 hd) at end) (text-moves f (field 32 47 hd) at end h)))
+    (λ e. cases (holdsWord (argumentType hd)) (λ e′. rw (e, e′) of-word) (λ e′. rw (e, e′, header-scalar-words hd) (omega arith, tt)))
+  where
+    hd : ℕ
+    hd = wordAt rest 0
+
+    of-text : (t : Taken) → Moves at end t
+        → ValueFits at end (onBody (onTaken t (λ x next. prependPart x (body [] next))) ValueRefused (λ rs next. ValueRead (Text (part 0 rs))))
+    of-text (TextRefused number) m = tt
+    of-text (TextRead x next) m = (omega (arith, m .0, m .1), m .2)
+
+    of-word : ValueFits at end (onBody (takeParts f (words 1 ∷ []) at end) ValueRefused
+        (λ rs next. ValueRead (ScalarValue (wordScalar (argumentType hd) (wordAt rest (placeOf (part 0 rs) - place))))))
+    of-word =
+        cases (ltb end (at + 8)) (λ q. rw q tt)
+        (λ q. let l = ltb-false end (at + 8) q in rw (q, word-scalar-words (argumentType hd) (wordAt rest (at - place))) (omega arith, tt))
+
+-- what is said of an argument that is read, of any answer
+abbrev pub ArgumentFits : List ℕ → ℕ → Argued → Type 0
+ArgumentFits rest place (Refused number) = Unit {0}
+ArgumentFits rest place (Read a size) = Fits rest place a size
+
+-- a value's text that stands between two places stands between wider ones
+pub value-inside-wider : {from to : ℕ} (from′ to′ : ℕ) (v : Value) → from′ ≤ from → to ≤ to′ → ValueInside from to v → ValueInside from′ to′ v
+value-inside-wider from′ to′ (ScalarValue s) h k i = tt
+value-inside-wider from′ to′ (Text r) h k i = inside-wider from′ to′ r h k i
+
+-- every argument fits so
+pub argument-fits : (f : Format) (rest : List ℕ) (place : ℕ) → ArgumentFits rest place (argumentOf f rest place)
+unfolding argumentOf
+argument-fits f rest place =
+    on-pick (ArgumentFits rest place) (ltb (length rest) 8) _ _ (λ e. tt)
+    (λ e₁. on-pick (ArgumentFits rest place) (eqb size 0) _ _ (λ e. tt)
+    (λ e₂. on-pick (ArgumentFits rest place) (ltb (length rest) size) _ _ (λ e. tt)
+    (λ e₃. rw (name-then-value f rest place)
+    (of-name (eqb-false size 0 e₂) (ltb-false (length rest) size e₃) (takeText f (field 16 31 hd) (place + 8) (place + size))
+    (text-moves f (field 16 31 hd) (place + 8) (place + size))))))
+  where
+    hd : ℕ
+    hd = wordAt rest 0
+
+    size : ℕ
+    size = argumentSize hd
+
+    of-value : (size ≡ 0 → ⊥) → size ≤ length rest → (name : Reference) (next : ℕ) → Moves (place + 8) (place + size) (TextRead name next)
+        → (v : Valued) → ValueFits next (place + size) v → ArgumentFits rest place (named name size v)
+    of-value z l name next m (ValueRefused number) k = tt
+    of-value z l name next m (ValueRead v) k =
+        record {
+          some = omega arith;
+          whole = omega arith;
+          inside = l;
+          enough = omega (arith, m .0, k .0);
+          name = inside-wider place (place + size) name (omega arith) (omega arith) (m .2);
+          value = value-inside-wider place (place + size) v (omega (arith, m .0)) (omega arith) (k .1);
+        }
+
+    of-name : (size ≡ 0 → ⊥) → size ≤ length rest → (t : Taken) → (place + 8 ≤ place + size → Moves (place + 8) (place + size) t)
+        → ArgumentFits rest place (onName t (λ name next. named name size (takeValue f rest place next (place + size))))
+    of-name z l (TextRefused number) m = tt
+    of-name z l (TextRead name next) m =
+        let m′ = m (omega arith) in
+        of-value z l name next m′ (takeValue f rest place next (place + size)) (value-fits f rest place next (place + size) (m′ .1))
+
+-- the same of an argument that is known to be read
+pub argument-read : (f : Format) (rest : List ℕ) (place : ℕ) (a : Argument) (size : ℕ) → argumentOf f rest place ≡ Read a size → Fits rest place a size
+argument-read f rest place a size e = subst (ArgumentFits rest place) e (argument-fits f rest place)
+
+-- ---- all arguments of an event
+
+abbrev pub argumentsBytes : List Argument → ℕ
+argumentsBytes [] = 0
+argumentsBytes (a ∷ l) = argumentBytes a + argumentsBytes l
+
+-- arguments that are read are as many as asked for, and end inside what is left of the event, behind what they cost
+abbrev pub ArgumentsFit : ℕ → List ℕ → ℕ → Arguments → Type 0
+ArgumentsFit count rest place (refused number) = Unit {0}
+ArgumentsFit count rest place (arguments l next) =
+    (length l ≡ count) × (place + argumentsBytes l ≤ next) × (next ≤ place + length rest) × ((next - place) % 8 ≡ 0)
+
+pub arguments-fit : (f : Format) (count : ℕ) (rest : List ℕ) (place : ℕ) → ArgumentsFit count rest place (argumentsOf f count rest place)
+unfolding argumentsOf
+arguments-fit f zero rest place = (refl, omega arith, omega arith, omega arith)
+arguments-fit f (suc count) rest place =
+    of-argument (λ more at. arguments-fit f count more at) (argumentOf f rest place) (argument-fits f rest place)
+  where
+    of-rest : (a : Argument) (size : ℕ) → Fits rest place a size → (q : Arguments) → ArgumentsFit count (drop size rest) (place + size) q
+        → ArgumentsFit (suc count) rest place (prepend a q)
+    of-rest a size s (refused number) k = tt
+    of-rest a size s (arguments l next) k = (
+      ap suc (k .0),
+      omega (arith, s .enough, k .1),
+      omega (arith, s .inside, k .2, length-drop size rest),
+      omega (arith, s .whole, k .1, k .3),
+    )
+
+    of-argument : ((more : List ℕ) (at : ℕ) → ArgumentsFit count more at (argumentsOf f count more at)) → (r : Argued) → ArgumentFits rest place r
+        → ArgumentsFit (suc count) rest place (onArgued r refused (λ a size. prepend a (argumentsOf f count (drop size rest) (place + size))))
+    of-argument fit (Refused number) s = tt
+    of-argument fit (Read a size) s = of-rest a size s (argumentsOf f count (drop size rest) (place + size)) (fit (drop size rest) (place + size))
+
+-- one turn of the walk over arguments
+pub walk-turn : (f : Format) (n : ℕ) (rest : List ℕ) (place : ℕ) → 0 < n
+    → walked (argumentsOf f n rest place)
+    ≡ onArgued (argumentOf f rest place) WalkRefused (λ a size. walked (argumentsOf f (n - 1) (drop size rest) (place + size)))
+unfolding argumentsOf
+walk-turn f zero rest place h = absurd (omega arith)
+walk-turn f (suc n) rest place h = let e : suc n - 1 ≡ n = omega arith in rw e (go (argumentOf f rest place))
+  where
+    behind : (a : Argument) (q : Arguments) → walked (prepend a q) ≡ walked q
+    behind a (refused number) = refl
+    behind a (arguments l next) = refl
+
+    go : (r : Argued)
+        → walked (onArgued r refused (λ a size. prepend a (argumentsOf f n (drop size rest) (place + size))))
+        ≡ onArgued r WalkRefused (λ a size. walked (argumentsOf f n (drop size rest) (place + size)))
+    go (Refused number) = refl
+    go (Read a size) = behind a (argumentsOf f n (drop size rest) (place + size))
+
+-- one turn of the same walk for what the arguments keep
+pub keep-turn : (f : Format) (n : ℕ) (rest : List ℕ) (place extra : ℕ) → 0 < n
+    → argumentsKeep f n rest place extra
+    ≡ onArgued (argumentOf f rest place) (λ number. false)
+    (λ a size. argumentKeeps rest place a size && argumentsKeep f (n - 1) (drop size rest) (place + size) extra)
+unfolding argumentsKeep
+keep-turn f zero rest place extra h = absurd (omega arith)
+keep-turn f (suc n) rest place extra h = let e : suc n - 1 ≡ n = omega arith in rw e

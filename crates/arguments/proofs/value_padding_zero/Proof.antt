@@ -1,0 +1,22 @@
+use mathlib.Core.Path.{subst}
+use Prim.Native.Nat.{_+_}
+use lib.ListN.{length}
+use Rattle.arguments.specs.Loss.{valuePaddingZero, ValueInside}
+use borrow.Author.Needs.{needs}
+use Rattle.arguments.proofs.value_padding_zero.Statement.{statement}
+use Rattle.arguments.proofs.value_padding_zero.Tie as tie
+
+padding-zero-requires : tie.Need-padding-zero-requires
+padding-zero-requires c κs = (c .before .before .before .before .pre .0, subst (ValueInside (c .before .before .before .before .args .place) (c .before .before .before .before .args .place + length (c .before .before .before .before .args .rest .now))) (c .before .value .given .1) (c .before .before .before .before .pre .1))
+
+returns : tie.Need-returns
+unfolding valuePaddingZero
+returns c = simp (c .enum-told .given .1)
+
+returns-2 : tie.Need-returns-2
+unfolding valuePaddingZero
+returns-2 c = simp (c .before .before .value .given .1) (c .padding-zero .ensures)
+
+pub value-padding-zero-spec : {M : Type 1} → statement M
+value-padding-zero-spec =
+    tie.close (tie.spec (λ c. search needs) (λ c. search needs) padding-zero-requires returns returns-2)

@@ -1,0 +1,299 @@
+// The arguments of an event, apart from any table. An argument is taken from the part of the event that starts at it.
+ghost use mathlib.Core.Path.{_≡_};
+ghost use Prim.Native.Nat.{ℕ, _+_, _-_, _*_, _^_, _<_, _≤_};
+ghost use lib.ListN.{length};
+ghost use Rattle.arguments.specs.Argument.{scalarWords, headerScalar, wordScalar, holdsWord, takeValue, argumentOf, argumentsOf, walked};
+ghost use Rattle.arguments.specs.Loss.{valueBytes, reservedBits, ValueInside, valuePaddingZero, Fits, argumentKeeps, argumentsKeep};
+use format::Format;
+use format::MALFORMED;
+use format::Reference;
+use format::Taken;
+
+// A value that is no text. A double is its 64 bits.
+pub enum Scalar {
+    Null,
+    Signed32(i32),
+    Unsigned32(u32),
+    Signed64(i64),
+    Unsigned64(u64),
+    Double(u64),
+    Pointer(u64),
+    KernelObject(u64),
+    Boolean(bool),
+    Unknown(u8),
+}
+
+pub enum Value {
+    Scalar(Scalar),
+    Text(Reference),
+}
+
+pub struct Argument {
+    pub name: Reference,
+    pub value: Value,
+}
+
+pub enum Valued {
+    Refused(u8),
+    Value(Value),
+}
+
+// An argument with its size in bytes.
+pub enum Argued {
+    Refused(u8),
+    Argument { argument: Argument, size: usize },
+}
+
+// Where an event's arguments end.
+pub enum Walked {
+    Refused(u8),
+    End(usize),
+}
+
+// The value that an argument's header holds itself, or that the type is unknown.
+fn header_scalar(header: u64) -> Scalar
+    ensures { λ r. ⌜ r ≡ headerScalar header ⌝ }
+{
+    let kind = words::field(header, 0, 3);
+    if kind == 0 {
+        return Scalar::Null;
+    }
+    if kind == 1 {
+        return Scalar::Signed32(words::signed_half(header));
+    }
+    if kind == 2 {
+        return Scalar::Unsigned32(words::field(header, 32, 63) as u32);
+    }
+    if kind == 9 {
+        return Scalar::Boolean(words::field(header, 32, 32) == 1);
+    }
+    Scalar::Unknown(kind as u8)
+}
+
+// Whether an argument of this type has its value in a word.
+fn holds_word(kind: u64) -> bool
+    ensures { λ r. ⌜ r ≡ holdsWord kind ⌝ }
+{
+    if kind < 3 {
+        return false;
+    }
+    kind < 9
+}
+
+// The value of a type that has it in a word.
+fn word_scalar(kind: u64, word: u64) -> Scalar
+    ensures { λ r. ⌜ r ≡ wordScalar kind word ⌝ }
+{
+    if kind == 3 {
+        return Scalar::Signed64(words::signed_word(word));
+    }
+    if kind == 4 {
+        return Scalar::Unsigned64(word);
+    }
+    if kind == 5 {
+        return Scalar::Double(word);
+    }
+    if kind == 7 {
+        return Scalar::Pointer(word);
+    }
+    Scalar::KernelObject(word)
+}
+
+// The value of the argument at the start of `rest`, whose name ends at the place `at` and which ends at `end`.
+fn take_value(f: Format, rest: &[u8], place: usize, at: usize, end: usize) -> Valued
+    requires { ⌜ (8 ≤ length (now rest)) × (place ≤ at) × (at ≤ end) × (end ≤ place + length (now rest)) × (place + length (now rest) < 2 ^ 63) ⌝ }
+    ensures { λ r. ⌜ r ≡ takeValue f (now (rest .entry)) place at end ⌝ }
+{
+    let header = words::word(rest, 0);
+    let kind = words::field(header, 0, 3);
+    if kind == 6 {
+        let text = format::take_text(f, words::field(header, 32, 47), at, end);
+        match text {
+            Taken::Refused(number) => {
+                return Valued::Refused(number);
+            }
+            Taken::Part { reference, next: _ } => {
+                return Valued::Value(Value::Text(reference));
+            }
+        }
+    }
+    if holds_word(kind) {
+        if end < at + 8 {
+            return Valued::Refused(MALFORMED);
+        }
+        let word = words::word(rest, at - place);
+        return Valued::Value(Value::Scalar(word_scalar(kind, word)));
+    }
+    Valued::Value(Value::Scalar(header_scalar(header)))
+}
+
+// The argument at the start of what is left of an event, which stands at `place`.
+pub fn argument_of(f: Format, rest: &[u8], place: usize) -> Argued
+    requires { ⌜ place + length (now rest) < 2 ^ 63 ⌝ }
+    ensures { λ r. ⌜ r ≡ argumentOf f (now (rest .entry)) place ⌝ }
+{
+    if rest.len() < 8 {
+        return Argued::Refused(MALFORMED);
+    }
+    let header = words::word(rest, 0);
+    let size = 8 * words::field(header, 4, 15) as usize;
+    if size == 0 {
+        return Argued::Refused(MALFORMED);
+    }
+    if rest.len() < size {
+        return Argued::Refused(MALFORMED);
+    }
+    let end = place + size;
+    let named = format::take_text(f, words::field(header, 16, 31), place + 8, end);
+    match named {
+        Taken::Refused(number) => Argued::Refused(number),
+        Taken::Part {
+            reference: name,
+            next,
+        } => {
+            let valued = take_value(f, rest, place, next, end);
+            match valued {
+                Valued::Refused(number) => Argued::Refused(number),
+                Valued::Value(value) => Argued::Argument {
+                    argument: Argument { name, value },
+                    size,
+                },
+            }
+        }
+    }
+}
+
+// Where so many arguments end. Each is taken from the part that starts at it.
+pub fn walk(f: Format, part: &[u8], place: usize, count: usize) -> Walked
+    requires { ⌜ place + length (now part) < 2 ^ 63 ⌝ }
+    ensures { λ r. ⌜ r ≡ walked (argumentsOf f count (now (part .entry)) place) ⌝ }
+{
+    let mut rest = part;
+    let mut at = place;
+    let mut left = count;
+    while 0 < left {
+        let argued = argument_of(f, rest, at);
+        match argued {
+            Argued::Refused(number) => {
+                return Walked::Refused(number);
+            }
+            Argued::Argument { argument: _, size } => {
+                rest = &rest[size..];
+                at += size;
+                left -= 1;
+            }
+        }
+    }
+    Walked::End(at)
+}
+
+// The words that a value takes behind its argument's name.
+fn scalar_words(scalar: Scalar) -> usize
+    ensures { λ r. ⌜ r ≡ scalarWords scalar ⌝ }
+{
+    match scalar {
+        Scalar::Null => 0,
+        Scalar::Signed32(_) => 0,
+        Scalar::Unsigned32(_) => 0,
+        Scalar::Signed64(_) => 1,
+        Scalar::Unsigned64(_) => 1,
+        Scalar::Double(_) => 1,
+        Scalar::Pointer(_) => 1,
+        Scalar::KernelObject(_) => 1,
+        Scalar::Boolean(_) => 0,
+        Scalar::Unknown(_) => 0,
+    }
+}
+
+// The bytes that a value has behind its argument's name.
+fn value_bytes(value: Value) -> usize
+    requires { ⌜ valueBytes value < 2 ^ 63 ⌝ }
+    ensures { λ r. ⌜ r ≡ valueBytes value ⌝ }
+{
+    match value {
+        Value::Scalar(scalar) => 8 * scalar_words(scalar),
+        Value::Text(reference) => format::inline_bytes(reference),
+    }
+}
+
+// The reserved bits of an argument's header, which repacking would lose.
+fn reserved_bits(header: u64) -> u64
+    ensures { λ r. ⌜ r ≡ reservedBits header ⌝ }
+{
+    let kind = words::field(header, 0, 3);
+    if kind == 6 {
+        return words::field(header, 48, 63);
+    }
+    if kind == 9 {
+        return words::field(header, 33, 63);
+    }
+    if kind == 1 {
+        return 0;
+    }
+    if kind == 2 {
+        return 0;
+    }
+    words::field(header, 32, 63)
+}
+
+// Whether a value's padding is zero.
+fn value_padding_zero(rest: &[u8], place: usize, value: Value) -> bool
+    requires { ⌜ (place + length (now rest) < 2 ^ 63) × ValueInside place (place + length (now rest)) value ⌝ }
+    ensures { λ r. ⌜ r ≡ valuePaddingZero (now (rest .entry)) place value ⌝ }
+{
+    match value {
+        Value::Scalar(_) => true,
+        Value::Text(reference) => format::padding_zero(rest, place, reference),
+    }
+}
+
+// Whether the argument that was read at the start of `rest` loses nothing when it is repacked.
+fn argument_keeps(rest: &[u8], place: usize, argument: Argument, size: usize) -> bool
+    requires { ⌜ (place + length (now rest) < 2 ^ 63) × Fits (now rest) place argument size ⌝ }
+    ensures { λ r. ⌜ r ≡ argumentKeeps (now (rest .entry)) place argument size ⌝ }
+{
+    let header = words::word(rest, 0);
+    if 10 <= words::field(header, 0, 3) {
+        return false;
+    }
+    if reserved_bits(header) != 0 {
+        return false;
+    }
+    let name = argument.name;
+    let value = argument.value;
+    if size != 8 + format::inline_bytes(name) + value_bytes(value) {
+        return false;
+    }
+    if format::padding_zero(rest, place, name) {
+        return value_padding_zero(rest, place, value);
+    }
+    false
+}
+
+// Whether so many arguments lose nothing, with `extra` bytes and no more behind them.
+pub fn arguments_keep(f: Format, part: &[u8], place: usize, count: usize, extra: usize) -> bool
+    requires { ⌜ place + length (now part) < 2 ^ 63 ⌝ }
+    ensures { λ r. ⌜ r ≡ argumentsKeep f count (now (part .entry)) place extra ⌝ }
+{
+    let mut rest = part;
+    let mut at = place;
+    let mut left = count;
+    while 0 < left {
+        let argued = argument_of(f, rest, at);
+        match argued {
+            Argued::Refused(_) => {
+                return false;
+            }
+            Argued::Argument { argument, size } => {
+                if argument_keeps(rest, at, argument, size) {
+                    rest = &rest[size..];
+                    at += size;
+                    left -= 1;
+                } else {
+                    return false;
+                }
+            }
+        }
+    }
+    rest.len() == extra
+}

@@ -1,0 +1,111 @@
+-- Laws of the parts of a body: where they stand, and what they cost. Assumes nothing.
+use Prim.Native.Nat.{ℕ, _+_, _-_, _*_, _≤_, _<_}
+use mathlib.Core.Path.{_≡_, refl, sym, subst}
+use mathlib.Core.List.{List, [], _∷_}
+use mathlib.Core.Bool.{Bool, true, false}
+use native.Mathlib.Omega.{arith}
+use borrow.Author.Tests.{ltb-false}
+use lib.Dec.{eqb, ltb}
+use Rattle.words.specs.Word.{pick}
+use Rattle.words.specs.Stream.{streamWords}
+use Rattle.format.specs.declared.Format.{Format}
+use Rattle.format.specs.declared.Reference.{Reference}
+use Rattle.format.specs.declared.Reference.the-variants.{Inline, Index}
+use Rattle.format.specs.declared.Taken.{Taken}
+use Rattle.format.specs.declared.Taken.the-variants.{Refused, Part as Read}
+use Rattle.format.specs.Part.{takeWords, takeStream, takeText, takeThread, Part, words, stream, text, thread, takePart, Body, refused, body, prepend, onTaken, takeParts, inlineBytes, Inside}
+
+-- a property of both cases of a test is one of the case that is picked
+pub on-pick : {A : Type 0} (P : A → Type 0) (b : Bool) (x y : A) → (b ≡ true → P x) → (b ≡ false → P y) → P (pick b x y)
+on-pick P true x y f g = f refl
+on-pick P false x y f g = g refl
+
+-- a part that is taken moves the place by what it has inline, and stands inside its record
+abbrev pub Moves : ℕ → ℕ → Taken → Type 0
+Moves place end (Refused number) = Unit {0}
+Moves place end (Read reference next) = (next ≡ place + inlineBytes reference) × (next ≤ end) × Inside place end reference
+
+words-move : (n place end : ℕ) → Moves place end (takeWords n place end)
+unfolding takeWords
+words-move n place end =
+    on-pick (Moves place end) (ltb end (place + 8 * n)) _ _ (λ e. tt)
+    (λ e. let h = ltb-false end (place + 8 * n) e in (omega arith, omega arith, (omega arith, omega arith)))
+
+stream-moves : (f : Format) (n place end : ℕ) → Moves place end (takeStream f n place end)
+unfolding takeStream
+stream-moves f n place end =
+    on-pick (Moves place end) (ltb (f .longest) n) _ _ (λ e. tt)
+    (λ e. on-pick (Moves place end) (ltb end (place + 8 * streamWords n)) _ _ (λ e. tt)
+    (λ e. let h = ltb-false end (place + 8 * streamWords n) e in (omega arith, omega arith, (omega arith, omega arith))))
+
+-- a string reference moves so
+pub text-moves : (f : Format) (reference place end : ℕ) → place ≤ end → Moves place end (takeText f reference place end)
+unfolding takeText
+text-moves f reference place end h =
+    on-pick (Moves place end) (eqb reference 0) _ _ (λ e. (omega arith, h, (omega arith, omega arith)))
+    (λ e. on-pick (Moves place end) (ltb reference 0x8000) _ _ (λ e. (omega arith, h, tt)) (λ e. stream-moves f (reference - 0x8000) place end))
+
+-- and a thread reference
+pub thread-moves : (reference place end : ℕ) → place ≤ end → Moves place end (takeThread reference place end)
+unfolding takeThread
+thread-moves reference place end h =
+    on-pick (Moves place end) (eqb reference 0) _ _ (λ e. words-move 2 place end) (λ e. (omega arith, h, tt))
+
+-- every part moves so
+pub part-moves : (f : Format) (p : Part) (place end : ℕ) → place ≤ end → Moves place end (takePart f p place end)
+unfolding takePart
+part-moves f (words n) place end h = words-move n place end
+part-moves f (stream n) place end h = stream-moves f n place end
+part-moves f (text reference) place end h = text-moves f reference place end h
+part-moves f (thread reference) place end h = thread-moves reference place end h
+
+-- the same of a part that is known to be taken
+pub text-taken : (f : Format) (r place end : ℕ) (x : Reference) (next : ℕ) → place ≤ end → takeText f r place end ≡ Read x next
+    → Moves place end (Read x next)
+text-taken f r place end x next h e = subst (Moves place end) e (text-moves f r place end h)
+
+pub thread-taken : (r place end : ℕ) (x : Reference) (next : ℕ) → place ≤ end → takeThread r place end ≡ Read x next
+    → Moves place end (Read x next)
+thread-taken r place end x next h e = subst (Moves place end) e (thread-moves r place end h)
+
+-- what references have inline, all together
+abbrev pub inlineAll : List Reference → ℕ
+inlineAll [] = 0
+inlineAll (r ∷ rs) = inlineBytes r + inlineAll rs
+
+abbrev pub AllInside : ℕ → ℕ → List Reference → Type 0
+AllInside from to [] = Unit {0}
+AllInside from to (r ∷ rs) = Inside from to r × AllInside from to rs
+
+-- a body that is read ends behind its parts, which stand inside its record one after another
+abbrev pub Ends : ℕ → ℕ → Body → Type 0
+Ends place end (refused number) = Unit {0}
+Ends place end (body references next) = (next ≡ place + inlineAll references) × (next ≤ end) × AllInside place end references
+
+-- what stands between two places stands between wider ones
+pub inside-wider : {from to : ℕ} (from′ to′ : ℕ) (r : Reference) → from′ ≤ from → to ≤ to′ → Inside from to r → Inside from′ to′ r
+inside-wider from′ to′ (Inline place length) h k i = (omega (arith, i .0), omega (arith, i .1))
+inside-wider from′ to′ (Index index) h k i = tt
+
+all-inside-wider : {from : ℕ} (from′ to : ℕ) (rs : List Reference) → from′ ≤ from → AllInside from to rs → AllInside from′ to rs
+all-inside-wider from′ to [] h i = tt
+all-inside-wider from′ to (r ∷ rs) h i =
+    (inside-wider from′ to r h (omega arith) (i .0), all-inside-wider from′ to rs h (i .1))
+
+prepend-ends : (x : Reference) (place next end : ℕ) (b : Body) → Moves place end (Read x next) → Ends next end b → Ends place end (prepend x b)
+prepend-ends x place next end (refused number) m e = tt
+prepend-ends x place next end (body rs last) m e =
+    (omega (arith, m .0, e .0), e .1, (m .2, all-inside-wider place end rs (omega (arith, m .0)) (e .2)))
+
+on-taken : (place end : ℕ) (t : Taken) (k : Reference → ℕ → Body) → Moves place end t
+    → ((x : Reference) (next : ℕ) → Moves place end (Read x next) → Ends place end (k x next)) → Ends place end (onTaken t k)
+on-taken place end (Refused number) k m g = tt
+on-taken place end (Read x next) k m g = g x next m
+
+-- every list of parts ends so
+pub parts-end : (f : Format) (ps : List Part) (place end : ℕ) → place ≤ end → Ends place end (takeParts f ps place end)
+unfolding takeParts
+parts-end f [] place end h = (omega arith, h, tt)
+parts-end f (p ∷ ps) place end h =
+    on-taken place end (takePart f p place end) (λ x next. prepend x (takeParts f ps next end)) (part-moves f p place end h)
+    (λ x next m. prepend-ends x place next end (takeParts f ps next end) m (parts-end f ps next end (m .1)))

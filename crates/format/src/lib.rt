@@ -1,0 +1,174 @@
+// What every record is made of, apart from any table: limits, references, headers, and the parts of a body.
+ghost use mathlib.Core.Path.{_≡_};
+ghost use Prim.Native.Nat.{ℕ, _+_, _*_, _^_, _<_, _≤_};
+ghost use lib.ListN.{length};
+ghost use Rattle.format.specs.Limits.{smallFormat};
+ghost use Rattle.format.specs.Header.{recordWords, extentOf};
+ghost use Rattle.format.specs.Part.{takeWords, takeStream, takeText, takeThread, inlineBytes, Inside, paddingZero};
+
+// The limits of an archive: the longest text in bytes, and the highest index of a string record.
+pub struct Format {
+    pub longest: usize,
+    pub highest: usize,
+}
+
+// Document 01's numbers for what a record can be refused by.
+pub const CUT: u8 = 5;
+
+pub const MALFORMED: u8 = 6;
+
+pub const LONG_TEXT: u8 = 7;
+
+pub const HIGH_INDEX: u8 = 8;
+
+// Bytes of the archive, or an entry of a table.
+pub enum Reference {
+    Inline { place: usize, length: usize },
+    Index(usize),
+}
+
+// A part of a record with the place right behind it.
+pub enum Taken {
+    Refused(u8),
+    Part { reference: Reference, next: usize },
+}
+
+// How many bytes a record takes.
+pub enum Extent {
+    Refused(u8),
+    Bytes(usize),
+}
+
+// The small size, the one of the base.
+pub fn small_format() -> Format
+    ensures { λ r. ⌜ r ≡ smallFormat ⌝ }
+{
+    Format {
+        longest: 256,
+        highest: 511,
+    }
+}
+
+// The size that a record's header gives, in words.
+pub fn record_words(header: u64) -> u64
+    ensures { λ r. ⌜ r ≡ recordWords header ⌝ }
+{
+    if words::field(header, 0, 3) == 15 {
+        words::field(header, 4, 35)
+    } else {
+        words::field(header, 4, 15)
+    }
+}
+
+// The extent of the record at the start of what is left of the archive.
+pub fn extent_of(rest: &[u8]) -> Extent
+    ensures { λ r. ⌜ r ≡ extentOf (now (rest .entry)) ⌝ }
+{
+    if rest.len() < 8 {
+        return Extent::Refused(CUT);
+    }
+    let size = record_words(words::word(rest, 0)) as usize;
+    if size == 0 {
+        return Extent::Refused(MALFORMED);
+    }
+    if rest.len() < 8 * size {
+        return Extent::Refused(CUT);
+    }
+    Extent::Bytes(8 * size)
+}
+
+// So many words of a record that ends at `end`.
+pub fn take_words(n: usize, place: usize, end: usize) -> Taken
+    requires { ⌜ (n < 2 ^ 32) × (place < 2 ^ 63) ⌝ }
+    ensures { λ r. ⌜ r ≡ takeWords n place end ⌝ }
+{
+    let next = place + 8 * n;
+    if end < next {
+        return Taken::Refused(MALFORMED);
+    }
+    Taken::Part {
+        reference: Reference::Inline {
+            place,
+            length: 8 * n,
+        },
+        next,
+    }
+}
+
+// A stream of n bytes of a record that ends at `end`.
+pub fn take_stream(f: Format, n: usize, place: usize, end: usize) -> Taken
+    requires { ⌜ (n < 2 ^ 32) × (place < 2 ^ 63) ⌝ }
+    ensures { λ r. ⌜ r ≡ takeStream f n place end ⌝ }
+{
+    if f.longest < n {
+        return Taken::Refused(LONG_TEXT);
+    }
+    let next = place + 8 * words::stream_words(n);
+    if end < next {
+        return Taken::Refused(MALFORMED);
+    }
+    Taken::Part {
+        reference: Reference::Inline { place, length: n },
+        next,
+    }
+}
+
+// A string reference with its inline stream.
+pub fn take_text(f: Format, reference: u64, place: usize, end: usize) -> Taken
+    requires { ⌜ (reference < 2 ^ 16) × (place < 2 ^ 63) ⌝ }
+    ensures { λ r. ⌜ r ≡ takeText f reference place end ⌝ }
+{
+    if reference == 0 {
+        return Taken::Part {
+            reference: Reference::Inline { place, length: 0 },
+            next: place,
+        };
+    }
+    if reference < 0x8000 {
+        return Taken::Part {
+            reference: Reference::Index(reference as usize),
+            next: place,
+        };
+    }
+    take_stream(f, (reference - 0x8000) as usize, place, end)
+}
+
+// A thread reference with its inline process and thread words.
+pub fn take_thread(reference: u64, place: usize, end: usize) -> Taken
+    requires { ⌜ (reference < 2 ^ 8) × (place < 2 ^ 63) ⌝ }
+    ensures { λ r. ⌜ r ≡ takeThread reference place end ⌝ }
+{
+    if reference == 0 {
+        return take_words(2, place, end);
+    }
+    Taken::Part {
+        reference: Reference::Index(reference as usize),
+        next: place,
+    }
+}
+
+// The bytes that a reference has inline.
+pub fn inline_bytes(reference: Reference) -> usize
+    requires { ⌜ inlineBytes reference < 2 ^ 63 ⌝ }
+    ensures { λ r. ⌜ r ≡ inlineBytes reference ⌝ }
+{
+    match reference {
+        Reference::Index(_) => 0,
+        Reference::Inline { place: _, length } => 8 * words::stream_words(length),
+    }
+}
+
+// Whether the padding behind a part is zero. The bytes of `source` start at the place `start`.
+pub fn padding_zero(source: &[u8], start: usize, reference: Reference) -> bool
+    requires { ⌜ (start + length (now source) < 2 ^ 63) × Inside start (start + length (now source)) reference ⌝ }
+    ensures { λ r. ⌜ r ≡ paddingZero (now (source .entry)) start reference ⌝ }
+{
+    match reference {
+        Reference::Index(_) => true,
+        Reference::Inline { place, length } => {
+            let from = place + length - start;
+            let to = from + (8 * words::stream_words(length) - length);
+            words::all_zero(&source[from..to])
+        }
+    }
+}

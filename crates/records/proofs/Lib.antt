@@ -1,0 +1,6 @@
+pub mod Events
+pub mod Examples
+pub mod WrittenParts
+pub mod WrittenRecords
+pub mod WrittenArguments
+pub mod WrittenEvents

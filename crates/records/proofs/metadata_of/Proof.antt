@@ -1,0 +1,35 @@
+use borrow.Author.Tests.{eq-eqb, ne-eqb, lt-ltb, lt-leb, le-ltb, le-leb, not-true, not-false}
+use Rattle.records.specs.Record.{metadataOf}
+use borrow.Author.Needs.{needs}
+use Rattle.records.proofs.metadata_of.Statement.{statement}
+use Rattle.records.proofs.metadata_of.Tie as tie
+
+returns : tie.Need-returns
+unfolding metadataOf
+returns c = simp (← c .provider-info-of .ensures, eq-eqb _ _ (c .before .if1 .taken), ← c .before .before .field .ensures, ← c .before .before .before .word .ensures)
+
+returns-2 : tie.Need-returns-2
+unfolding metadataOf
+returns-2 c = simp (← c .field2 .ensures, eq-eqb _ _ (c .before .if2 .taken), ne-eqb _ _ (c .before .before .if1 .left), ← c .before .before .before .field .ensures, ← c .before .before .before .before .word .ensures)
+
+returns-3 : tie.Need-returns-3
+unfolding metadataOf
+returns-3 c = simp (← c .field4 .ensures, ← c .before .field3 .ensures, eq-eqb _ _ (c .before .before .if3 .taken), ne-eqb _ _ (c .before .before .before .if2 .left), ne-eqb _ _ (c .before .before .before .before .if1 .left), ← c .before .before .before .before .before .field .ensures, ← c .before .before .before .before .before .before .word .ensures)
+
+returns-4 : tie.Need-returns-4
+unfolding metadataOf
+returns-4 c = simp (c .if5 .taken, ← c .before .starts-with-magic .ensures, eq-eqb _ _ (c .before .before .if4 .taken), ← c .before .before .before .field5 .ensures, ne-eqb _ _ (c .before .before .before .before .if3 .left), ne-eqb _ _ (c .before .before .before .before .before .if2 .left), ne-eqb _ _ (c .before .before .before .before .before .before .if1 .left), ← c .before .before .before .before .before .before .before .field .ensures, ← c .before .before .before .before .before .before .before .before .word .ensures)
+
+returns-5 : tie.Need-returns-5
+unfolding metadataOf
+returns-5 c = simp (c .if5 .left, ← c .before .starts-with-magic .ensures, eq-eqb _ _ (c .before .before .if4 .taken), ← c .before .before .before .field5 .ensures, ne-eqb _ _ (c .before .before .before .before .if3 .left), ne-eqb _ _ (c .before .before .before .before .before .if2 .left), ne-eqb _ _ (c .before .before .before .before .before .before .if1 .left), ← c .before .before .before .before .before .before .before .field .ensures, ← c .before .before .before .before .before .before .before .before .word .ensures)
+
+returns-6 : tie.Need-returns-6
+unfolding metadataOf
+returns-6 c = simp (← c .record-words .ensures, ne-eqb _ _ (c .before .if4 .left), ← c .before .before .field5 .ensures, ne-eqb _ _ (c .before .before .before .if3 .left), ne-eqb _ _ (c .before .before .before .before .if2 .left), ne-eqb _ _ (c .before .before .before .before .before .if1 .left), ← c .before .before .before .before .before .before .field .ensures, ← c .before .before .before .before .before .before .before .word .ensures)
+
+pub metadata-of-spec : {M : Type 1} → statement M
+metadata-of-spec =
+    tie.close (tie.spec (λ c κs. search needs) (λ c κs. search needs) (λ c. search needs) (λ c κs. search needs) returns (λ c κs. search needs)
+    (λ c. search needs) returns-2 (λ c κs. search needs) (λ c. search needs) (λ c κs. search needs) (λ c. search needs) returns-3
+    (λ c κs. search needs) (λ c κs. search needs) returns-4 returns-5 (λ c κs. search needs) returns-6)

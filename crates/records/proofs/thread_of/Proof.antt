@@ -1,0 +1,23 @@
+use borrow.Author.Tests.{eq-eqb, ne-eqb, lt-ltb, lt-leb, le-ltb, le-leb, not-true, not-false}
+use Rattle.records.specs.Record.{threadOf}
+use Rattle.format.specs.Part.{takeParts, takePart}
+use borrow.Author.Needs.{needs}
+use Rattle.records.proofs.thread_of.Statement.{statement}
+use Rattle.records.proofs.thread_of.Tie as tie
+
+returns : tie.Need-returns
+unfolding threadOf takeParts takePart
+returns c = simp (eq-eqb _ _ (c .if1 .taken), ← c .before .field .ensures)
+
+returns-2 : tie.Need-returns-2
+unfolding threadOf takeParts takePart
+returns-2 c = simp (c .before .pair .given .1, ← c .before .before .before .take-words .ensures, ne-eqb _ _ (c .before .before .before .before .if1 .left), ← c .before .before .before .before .before .field .ensures)
+
+returns-3 : tie.Need-returns-3
+unfolding threadOf takeParts takePart
+returns-3 c = simp (c .enum-told .given .1, ← c .before .before .take-words .ensures, ne-eqb _ _ (c .before .before .before .if1 .left), ← c .before .before .before .before .field .ensures)
+
+pub thread-of-spec : {M : Type 1} → statement M
+thread-of-spec =
+    tie.close (tie.spec (λ c κs. search needs) returns (λ c. search needs) (λ c κs. search needs) (λ c. search needs) (λ c. search needs) (λ c. search needs)
+    returns-2 returns-3)

@@ -1,0 +1,17 @@
+use borrow.Author.Tests.{eq-eqb, ne-eqb, lt-ltb, lt-leb, le-ltb, le-leb, not-true, not-false}
+use Rattle.records.specs.Loss.{wordsKeep}
+use borrow.Author.Needs.{needs}
+use Rattle.records.proofs.words_keep.Statement.{statement}
+use Rattle.records.proofs.words_keep.Tie as tie
+
+returns : tie.Need-returns
+unfolding wordsKeep
+returns c = simp (ne-eqb _ _ (c .if1 .taken))
+
+returns-2 : tie.Need-returns-2
+unfolding wordsKeep
+returns-2 c = simp (eq-eqb _ _ (c .if1 .left))
+
+pub words-keep-spec : {M : Type 1} → statement M
+words-keep-spec =
+    tie.close (tie.spec (λ c. search needs) returns returns-2)

@@ -1,0 +1,4 @@
+pub mod Record
+pub mod Loss
+pub mod Item
+pub mod Written

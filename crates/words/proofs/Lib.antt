@@ -1,0 +1,5 @@
+pub mod Fields
+pub mod Words
+pub mod Streams
+pub mod Same
+pub mod Signs

@@ -1,0 +1,97 @@
+-- Words as bytes: what a written word reads back as, what a read depends on, and bytes that stand at a place.
+-- Assumes nothing.
+use Prim.Native.Nat.{ℕ, zero, suc, _+_, _*_, _/_, _^_, _<_, _≤_}
+use mathlib.Core.Path.{_≡_, refl, ap, _∙_}
+use mathlib.Core.List.{List, [], _∷_, _++_, append-assoc}
+use native.Mathlib.Nat.{add-zero, div-one, div-div-eq-div-mul}
+use native.Mathlib.Omega.{arith}
+use lib.ListN.{length, getD, take, drop, replicate}
+use lib.Seq.{getD-drop, getD-take, drop-drop, drop-append-seam, take-append-seam}
+use Rattle.words.specs.Word.{little, wordAt, bytesOf, field}
+use Rattle.words.specs.Stream.{padded, paddingOf}
+
+-- k bytes of a number are k bytes
+pub length-bytesOf : (k n : ℕ) → length (bytesOf k n) ≡ k
+unfolding bytesOf
+length-bytesOf zero n = refl
+length-bytesOf (suc k) n = ap suc (length-bytesOf k (n / 256))
+
+-- the eight bytes of a word, each as a field of it
+pub bytesOf-fields : (n : ℕ)
+    → bytesOf 8 n
+    ≡ field 0 7 n ∷ field 8 15 n ∷ field 16 23 n ∷ field 24 31 n ∷ field 32 39 n ∷ field 40 47 n ∷ field 48 55 n ∷ field 56 63 n ∷ []
+unfolding bytesOf
+bytesOf-fields n = simp (div-div-eq-div-mul, div-one)
+
+-- a number that was written as k bytes reads back as itself
+pub little-bytes : (k n : ℕ) (rest : List ℕ) → n < 256 ^ k → little k (bytesOf k n ++ rest) ≡ n
+unfolding bytesOf little
+little-bytes zero n rest h = omega arith
+little-bytes (suc k) n rest h = rw (little-bytes k (n / 256) rest (omega arith)) (omega arith)
+
+-- a word as the sum of its eight bytes
+pub word-bytes : (bytes : List ℕ) (place : ℕ)
+    → wordAt bytes place
+    ≡ getD bytes place 0 + getD bytes (place + 1) 0 * 2 ^ 8
+    + getD bytes (place + 2) 0 * 2 ^ 16 + getD bytes (place + 3) 0 * 2 ^ 24
+    + getD bytes (place + 4) 0 * 2 ^ 32 + getD bytes (place + 5) 0 * 2 ^ 40
+    + getD bytes (place + 6) 0 * 2 ^ 48 + getD bytes (place + 7) 0 * 2 ^ 56
+unfolding wordAt little
+word-bytes bytes place = simp (getD-drop, add-zero) (omega arith)
+
+-- bytes spell a number of as many bytes
+pub little-lt : (k : ℕ) (bytes : List ℕ) → ((i : ℕ) → getD bytes i 0 < 256) → little k bytes < 256 ^ k
+unfolding little
+little-lt zero bytes h = omega arith
+little-lt (suc k) bytes h = omega (arith, h 0, little-lt k (drop 1 bytes) (λ i. rw (getD-drop 1 bytes i 0) (h (1 + i))))
+
+-- k bytes spell the same number wherever those k bytes are the same
+pub little-same : (k : ℕ) (a b : List ℕ) → ((i : ℕ) → i < k → getD a i 0 ≡ getD b i 0) → little k a ≡ little k b
+unfolding little
+little-same zero a b h = refl
+little-same (suc k) a b h =
+    rw (
+      h 0 (omega arith),
+      little-same k (drop 1 a) (drop 1 b) (λ i l. rw (getD-drop 1 a i 0, getD-drop 1 b i 0) (h (1 + i) (omega arith))),
+    )
+
+-- a word of bytes has 64 bits
+pub wordAt-lt : (bytes : List ℕ) (place : ℕ) → ((i : ℕ) → getD bytes i 0 < 256) → wordAt bytes place < 2 ^ 64
+unfolding wordAt
+wordAt-lt bytes place h = little-lt 8 (drop place bytes) (λ i. rw (getD-drop place bytes i 0) (h (place + i)))
+
+-- a word of what is left behind a place
+pub wordAt-drop : (bytes : List ℕ) (a b : ℕ) → wordAt (drop a bytes) b ≡ wordAt bytes (a + b)
+unfolding wordAt
+wordAt-drop bytes a b = rw (drop-drop b a bytes)
+
+-- a word that ends before a cut is not changed by it
+pub wordAt-take : (bytes : List ℕ) (place n : ℕ) → place + 8 ≤ n → wordAt (take n bytes) place ≡ wordAt bytes place
+unfolding wordAt
+wordAt-take bytes place n h =
+    little-same 8 (drop place (take n bytes)) (drop place bytes)
+    (λ i l. rw (getD-drop place (take n bytes) i 0, getD-drop place bytes i 0, getD-take n bytes (place + i) 0 (omega arith)))
+
+-- the bytes of a list stand at a place
+abbrev pub At : List ℕ → ℕ → List ℕ → Type 0
+At bytes place l = (rest : List ℕ) × (drop place bytes ≡ l ++ rest)
+
+-- the first part of what stands at a place stands there
+pub at-left : (bytes : List ℕ) (place : ℕ) (a b : List ℕ) → At bytes place (a ++ b) → At bytes place a
+at-left bytes place a b h = (b ++ h .0, h .1 ∙ append-assoc a b (h .0))
+
+-- the second part of what stands at a place stands right behind the first
+pub at-right : (bytes : List ℕ) (place : ℕ) (a b : List ℕ) → At bytes place (a ++ b) → At bytes (place + length a) b
+at-right bytes place a b h =
+    (h .0, rw (← drop-drop (length a) place bytes, h .1, append-assoc a b (h .0), drop-append-seam a (b ++ h .0)))
+
+-- where the bytes of a word stand, the word is read
+pub word-is : (bytes : List ℕ) (place n : ℕ) → n < 256 ^ 8 → At bytes place (bytesOf 8 n) → wordAt bytes place ≡ n
+unfolding wordAt
+word-is bytes place n h at = rw (at .1) (little-bytes 8 n (at .0) h)
+
+-- where a padded stream stands, its bytes are read
+pub stream-is : (bytes : List ℕ) (place : ℕ) (b : List ℕ) → At bytes place (padded b) → take (length b) (drop place bytes) ≡ b
+stream-is bytes place b at =
+    let left = at-left bytes place b (replicate (paddingOf (length b)) 0) at in
+    rw (left .1, take-append-seam b (left .0))
