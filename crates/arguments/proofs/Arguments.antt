@@ -1,22 +1,19 @@
 -- Laws of arguments: the name and then the value, where they stand, and what they cost. Assumes nothing.
-use Prim.Native.Nat.{ℕ, zero, suc, _+_, _-_, _*_, _%_, _≤_, _<_}
-use mathlib.Core.Path.{_≡_, refl, sym, subst, ap, _∙_}
+use Prim.Native.Nat.{ℕ, zero, suc, _+_, _-_, _%_, _≤_, _<_}
+use mathlib.Core.Path.{_≡_, refl, subst, ap}
 use mathlib.Core.List.{List, [], _∷_}
 use mathlib.Core.Bool.{Bool, true, false, _&&_}
 use native.Mathlib.Omega.{arith}
 use borrow.Author.Tests.{ltb-false, eqb-false}
 use lib.Dec.{eqb, ltb}
 use lib.ListN.{length, drop, length-drop}
-use Rattle.words.specs.Word.{pick, wordAt, field}
+use Rattle.words.specs.Word.{wordAt, field}
 use Rattle.format.specs.declared.Format.{Format}
 use Rattle.format.specs.declared.Reference.{Reference}
-use Rattle.format.specs.declared.Reference.the-variants.{Inline, Index}
 use Rattle.format.specs.declared.Taken.{Taken}
 use Rattle.format.specs.declared.Taken.the-variants.{Refused as TextRefused, Part as TextRead}
-use Rattle.format.specs.Part.{Part, words, text, takePart, takeText, takeWords, Body, refused as bodyRefused, body, prepend as prependPart, onTaken, onBody, takeParts, part, placeOf, inlineBytes, Inside}
+use Rattle.format.specs.Part.{words, takePart, takeText, takeWords, Body, refused as bodyRefused, body, prepend as prependPart, onTaken, onBody, takeParts, part, placeOf}
 use Rattle.format.proofs.Parts.{on-pick, inside-wider, Moves, text-moves}
-use Rattle.arguments.specs.declared.Scalar.{Scalar}
-use Rattle.arguments.specs.declared.Scalar.the-variants.{Signed64, Unsigned64, Double, Pointer, KernelObject}
 use Rattle.arguments.specs.declared.Value.{Value}
 use Rattle.arguments.specs.declared.Value.the-variants.{Scalar as ScalarValue, Text}
 use Rattle.arguments.specs.declared.Argument.{Argument}

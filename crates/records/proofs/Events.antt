@@ -1,6 +1,6 @@
 -- Laws of events: where their fields stand, and what they cost. Assumes nothing.
-use Prim.Native.Nat.{ℕ, _+_, _-_, _*_, _≤_, _<_}
-use mathlib.Core.Path.{_≡_, refl, subst}
+use Prim.Native.Nat.{ℕ, _+_, _-_, _≤_}
+use mathlib.Core.Path.{_≡_, subst}
 use mathlib.Core.List.{List, [], _∷_}
 use native.Mathlib.Omega.{arith}
 use borrow.Author.Tests.{ltb-false}
@@ -12,7 +12,7 @@ use Rattle.format.specs.declared.Reference.{Reference}
 use Rattle.format.specs.declared.Reference.the-variants.{Inline}
 use Rattle.format.specs.declared.Taken.{Taken}
 use Rattle.format.specs.declared.Taken.the-variants.{Refused as PartRefused, Part as PartRead}
-use Rattle.format.specs.Part.{text, thread, takePart, takeText, takeThread, takeWords, prepend, onTaken, takeParts, body, inlineBytes, Inside}
+use Rattle.format.specs.Part.{text, takePart, takeText, takeThread, takeWords, prepend, onTaken, takeParts, body, inlineBytes, Inside}
 use Rattle.format.proofs.Parts.{inside-wider, Moves, text-moves, thread-moves}
 use Rattle.arguments.specs.declared.Walked.{Walked}
 use Rattle.arguments.specs.declared.Walked.the-variants.{Refused as WalkRefused, End}

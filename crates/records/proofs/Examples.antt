@@ -4,7 +4,7 @@ use mathlib.Core.Path.{_≡_, refl}
 use mathlib.Core.List.{List, [], _∷_, _++_}
 use mathlib.Core.Bool.{true}
 use lib.IntN.{negsuc}
-use lib.ListN.{replicate, take, drop}
+use lib.ListN.{replicate, drop}
 use Rattle.words.specs.Word.{wordAt, little, bytesOf}
 use Rattle.words.specs.Stream.{magic, startsWithMagic}
 use Rattle.format.specs.declared.Reference.the-variants.{Inline, Index}

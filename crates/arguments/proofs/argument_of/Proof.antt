@@ -1,9 +1,10 @@
+-- `arguments::argument_of` meets its contract: each answer is what the definition gives under the tests that led there. Assumes nothing.
 use native.Mathlib.Omega.{arith}
 use mathlib.Core.Path.{sym, _∙_}
 use Prim.Native.Nat.{_+_, _*_}
 use Rattle.format.proofs.Parts.{text-taken}
 use Rattle.arguments.proofs.Arguments.{name-then-value}
-use borrow.Author.Tests.{eq-eqb, ne-eqb, lt-ltb, lt-leb, le-ltb, le-leb, not-true, not-false}
+use borrow.Author.Tests.{eq-eqb, ne-eqb, lt-ltb, le-ltb}
 use Rattle.arguments.specs.Argument.{argumentOf}
 use borrow.Author.Needs.{needs}
 use Rattle.arguments.proofs.argument_of.Statement.{statement}
@@ -11,30 +12,30 @@ use Rattle.arguments.proofs.argument_of.Tie as tie
 
 returns : tie.Need-returns
 unfolding argumentOf
-returns c = simp (lt-ltb _ _ (c .if1 .taken), lt-leb _ _ (c .if1 .taken))
+returns c = simp (lt-ltb _ _ (c .if1 .taken))
 
 returns-2 : tie.Need-returns-2
 unfolding argumentOf
-returns-2 c = simp (eq-eqb _ _ (c .if2 .taken), ← c .before .field .ensures, ← c .before .before .word .ensures, le-leb _ _ (c .before .before .before .if1 .left), le-ltb _ _ (c .before .before .before .if1 .left))
+returns-2 c = simp (eq-eqb _ _ (c .if2 .taken), ← c .before .field .ensures, ← c .before .before .word .ensures, le-ltb _ _ (c .before .before .before .if1 .left))
 
 returns-3 : tie.Need-returns-3
 unfolding argumentOf
-returns-3 c = simp (lt-ltb _ _ (c .if3 .taken), lt-leb _ _ (c .if3 .taken), ne-eqb _ _ (c .before .if2 .left), ← c .before .before .field .ensures, ← c .before .before .before .word .ensures, le-leb _ _ (c .before .before .before .before .if1 .left), le-ltb _ _ (c .before .before .before .before .if1 .left))
+returns-3 c = simp (lt-ltb _ _ (c .if3 .taken), ne-eqb _ _ (c .before .if2 .left), ← c .before .before .field .ensures, ← c .before .before .before .word .ensures, le-ltb _ _ (c .before .before .before .before .if1 .left))
 
 take-value-requires : tie.Need-take-value-requires
 take-value-requires c κs = let m = text-taken (c .before .before .before .before .before .before .before .before .before .before .before .args .f) (c .before .before .before .before .field2 .result) (c .before .before .before .before .before .before .before .before .before .before .before .args .place + 8) (c .before .before .before .before .before .before .before .before .before .before .before .args .place + 8 * c .before .before .before .before .before .before .before .field .result) (c .before .named2 .given .0 .0) (c .before .named2 .given .0 .1 .0) (omega arith) (sym (c .before .before .before .take-text .ensures) ∙ c .before .named2 .given .1) in omega (arith, m .0, m .1)
 
 returns-4 : tie.Need-returns-4
 unfolding argumentOf
-returns-4 c = simp (c .before .named .given .1, ← c .before .before .before .take-text .ensures, ← c .before .before .before .before .field2 .ensures, le-leb _ _ (c .before .before .before .before .before .if3 .left), le-ltb _ _ (c .before .before .before .before .before .if3 .left), ne-eqb _ _ (c .before .before .before .before .before .before .if2 .left), ← c .before .before .before .before .before .before .before .field .ensures, ← c .before .before .before .before .before .before .before .before .word .ensures, le-leb _ _ (c .before .before .before .before .before .before .before .before .before .if1 .left), le-ltb _ _ (c .before .before .before .before .before .before .before .before .before .if1 .left), name-then-value)
+returns-4 c = simp (c .before .named .given .1, ← c .before .before .before .take-text .ensures, ← c .before .before .before .before .field2 .ensures, le-ltb _ _ (c .before .before .before .before .before .if3 .left), ne-eqb _ _ (c .before .before .before .before .before .before .if2 .left), ← c .before .before .before .before .before .before .before .field .ensures, ← c .before .before .before .before .before .before .before .before .word .ensures, le-ltb _ _ (c .before .before .before .before .before .before .before .before .before .if1 .left), name-then-value)
 
 returns-5 : tie.Need-returns-5
 unfolding argumentOf
-returns-5 c = simp (c .before .valued .given .1, ← c .before .before .before .take-value .ensures, c .before .before .before .before .before .named2 .given .1, ← c .before .before .before .before .before .before .before .take-text .ensures, ← c .before .before .before .before .before .before .before .before .field2 .ensures, le-leb _ _ (c .before .before .before .before .before .before .before .before .before .if3 .left), le-ltb _ _ (c .before .before .before .before .before .before .before .before .before .if3 .left), ne-eqb _ _ (c .before .before .before .before .before .before .before .before .before .before .if2 .left), ← c .before .before .before .before .before .before .before .before .before .before .before .field .ensures, ← c .before .before .before .before .before .before .before .before .before .before .before .before .word .ensures, le-leb _ _ (c .before .before .before .before .before .before .before .before .before .before .before .before .before .if1 .left), le-ltb _ _ (c .before .before .before .before .before .before .before .before .before .before .before .before .before .if1 .left), name-then-value)
+returns-5 c = simp (c .before .valued .given .1, ← c .before .before .before .take-value .ensures, c .before .before .before .before .before .named2 .given .1, ← c .before .before .before .before .before .before .before .take-text .ensures, ← c .before .before .before .before .before .before .before .before .field2 .ensures, le-ltb _ _ (c .before .before .before .before .before .before .before .before .before .if3 .left), ne-eqb _ _ (c .before .before .before .before .before .before .before .before .before .before .if2 .left), ← c .before .before .before .before .before .before .before .before .before .before .before .field .ensures, ← c .before .before .before .before .before .before .before .before .before .before .before .before .word .ensures, le-ltb _ _ (c .before .before .before .before .before .before .before .before .before .before .before .before .before .if1 .left), name-then-value)
 
 returns-6 : tie.Need-returns-6
 unfolding argumentOf
-returns-6 c = simp (c .before .valued2 .given .1, ← c .before .before .before .take-value .ensures, c .before .before .before .before .before .named2 .given .1, ← c .before .before .before .before .before .before .before .take-text .ensures, ← c .before .before .before .before .before .before .before .before .field2 .ensures, le-leb _ _ (c .before .before .before .before .before .before .before .before .before .if3 .left), le-ltb _ _ (c .before .before .before .before .before .before .before .before .before .if3 .left), ne-eqb _ _ (c .before .before .before .before .before .before .before .before .before .before .if2 .left), ← c .before .before .before .before .before .before .before .before .before .before .before .field .ensures, ← c .before .before .before .before .before .before .before .before .before .before .before .before .word .ensures, le-leb _ _ (c .before .before .before .before .before .before .before .before .before .before .before .before .before .if1 .left), le-ltb _ _ (c .before .before .before .before .before .before .before .before .before .before .before .before .before .if1 .left), name-then-value)
+returns-6 c = simp (c .before .valued2 .given .1, ← c .before .before .before .take-value .ensures, c .before .before .before .before .before .named2 .given .1, ← c .before .before .before .before .before .before .before .take-text .ensures, ← c .before .before .before .before .before .before .before .before .field2 .ensures, le-ltb _ _ (c .before .before .before .before .before .before .before .before .before .if3 .left), ne-eqb _ _ (c .before .before .before .before .before .before .before .before .before .before .if2 .left), ← c .before .before .before .before .before .before .before .before .before .before .before .field .ensures, ← c .before .before .before .before .before .before .before .before .before .before .before .before .word .ensures, le-ltb _ _ (c .before .before .before .before .before .before .before .before .before .before .before .before .before .if1 .left), name-then-value)
 
 pub argument-of-spec : {M : Type 1} → statement M
 argument-of-spec =

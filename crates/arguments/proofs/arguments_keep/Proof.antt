@@ -1,9 +1,9 @@
-use Prim.Native.Nat.{_+_, _-_, _<_, _^_}
-use mathlib.Core.Path.{_≡_, refl, sym, ap, _∙_}
+-- `arguments::arguments_keep` meets its contract: the loop keeps the definition of the whole equal to that of what is left. Assumes nothing.
+use Prim.Native.Nat.{_+_, _-_}
+use mathlib.Core.Path.{_≡_, refl, sym, _∙_}
 use lib.ListN.{length, length-drop}
 use native.Mathlib.Omega.{arith}
 use Rattle.format.proofs.Headers.{part-from}
-use Rattle.arguments.specs.Argument.{onArgued}
 use Rattle.arguments.specs.Loss.{argumentsKeep}
 use Rattle.arguments.proofs.Arguments.{keep-turn, argument-read}
 use borrow.Author.Needs.{needs}

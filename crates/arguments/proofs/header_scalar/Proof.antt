@@ -1,9 +1,10 @@
+-- `arguments::header_scalar` meets its contract: each answer is what the definition gives under the tests that led there. Assumes nothing.
 use mathlib.Core.Path.{ap}
 use mir.Facts.{toZ-ofZ}
 use mir.Syntax.{w32}
 use borrow.Author.Needs.{sfits-of}
 use Rattle.arguments.specs.declared.Scalar.the-variants.{Signed32}
-use borrow.Author.Tests.{eq-eqb, ne-eqb, lt-ltb, lt-leb, le-ltb, le-leb, not-true, not-false}
+use borrow.Author.Tests.{eq-eqb, ne-eqb}
 use Rattle.arguments.specs.Argument.{headerScalar}
 use borrow.Author.Needs.{needs}
 use Rattle.arguments.proofs.header_scalar.Statement.{statement}

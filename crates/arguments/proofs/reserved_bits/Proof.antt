@@ -1,4 +1,5 @@
-use borrow.Author.Tests.{eq-eqb, ne-eqb, lt-ltb, lt-leb, le-ltb, le-leb, not-true, not-false}
+-- `arguments::reserved_bits` meets its contract: each answer is what the definition gives under the tests that led there. Assumes nothing.
+use borrow.Author.Tests.{eq-eqb, ne-eqb}
 use Rattle.arguments.specs.Loss.{reservedBits}
 use borrow.Author.Needs.{needs}
 use Rattle.arguments.proofs.reserved_bits.Statement.{statement}

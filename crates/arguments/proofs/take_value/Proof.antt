@@ -1,4 +1,5 @@
-use borrow.Author.Tests.{eq-eqb, ne-eqb, lt-ltb, lt-leb, le-ltb, le-leb, not-true, not-false}
+-- `arguments::take_value` meets its contract: each answer is what the definition gives under the tests that led there. Assumes nothing.
+use borrow.Author.Tests.{eq-eqb, ne-eqb, lt-ltb, le-ltb}
 use Rattle.arguments.specs.Argument.{takeValue}
 use Rattle.format.specs.Part.{takeParts, takePart, takeWords}
 use borrow.Author.Needs.{needs}
@@ -15,11 +16,11 @@ returns-2 c = simp (c .before .text2 .given .1, ← c .before .before .before .t
 
 returns-3 : tie.Need-returns-3
 unfolding takeValue takeParts takePart takeWords
-returns-3 c = simp (lt-ltb _ _ (c .if3 .taken), lt-leb _ _ (c .if3 .taken), c .before .if2 .taken, ← c .before .before .holds-word .ensures, ne-eqb _ _ (c .before .before .before .if1 .left), ← c .before .before .before .before .field .ensures, ← c .before .before .before .before .before .word .ensures)
+returns-3 c = simp (lt-ltb _ _ (c .if3 .taken), c .before .if2 .taken, ← c .before .before .holds-word .ensures, ne-eqb _ _ (c .before .before .before .if1 .left), ← c .before .before .before .before .field .ensures, ← c .before .before .before .before .before .word .ensures)
 
 returns-4 : tie.Need-returns-4
 unfolding takeValue takeParts takePart takeWords
-returns-4 c = simp (← c .word-scalar .ensures, ← c .before .word2 .ensures, le-leb _ _ (c .before .before .if3 .left), le-ltb _ _ (c .before .before .if3 .left), c .before .before .before .if2 .taken, ← c .before .before .before .before .holds-word .ensures, ne-eqb _ _ (c .before .before .before .before .before .if1 .left), ← c .before .before .before .before .before .before .field .ensures, ← c .before .before .before .before .before .before .before .word .ensures)
+returns-4 c = simp (← c .word-scalar .ensures, ← c .before .word2 .ensures, le-ltb _ _ (c .before .before .if3 .left), c .before .before .before .if2 .taken, ← c .before .before .before .before .holds-word .ensures, ne-eqb _ _ (c .before .before .before .before .before .if1 .left), ← c .before .before .before .before .before .before .field .ensures, ← c .before .before .before .before .before .before .before .word .ensures)
 
 returns-5 : tie.Need-returns-5
 unfolding takeValue takeParts takePart takeWords

@@ -1,6 +1,6 @@
+-- `arguments::value_bytes` meets its contract: each answer is what the definition gives under the tests that led there. Assumes nothing.
 use native.Mathlib.Omega.{arith}
-use mathlib.Core.Path.{ap, subst}
-use Prim.Native.Nat.{_<_, _^_}
+use mathlib.Core.Path.{ap}
 use Rattle.arguments.specs.Loss.{valueBytes}
 use borrow.Author.Needs.{needs}
 use Rattle.arguments.proofs.value_bytes.Statement.{statement}

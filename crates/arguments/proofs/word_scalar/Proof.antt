@@ -1,9 +1,10 @@
+-- `arguments::word_scalar` meets its contract: each answer is what the definition gives under the tests that led there. Assumes nothing.
 use mathlib.Core.Path.{ap}
 use mir.Facts.{toZ-ofZ}
 use mir.Syntax.{w64}
 use borrow.Author.Needs.{sfits-of}
 use Rattle.arguments.specs.declared.Scalar.the-variants.{Signed64}
-use borrow.Author.Tests.{eq-eqb, ne-eqb, lt-ltb, lt-leb, le-ltb, le-leb, not-true, not-false}
+use borrow.Author.Tests.{eq-eqb, ne-eqb}
 use Rattle.arguments.specs.Argument.{wordScalar}
 use borrow.Author.Needs.{needs}
 use Rattle.arguments.proofs.word_scalar.Statement.{statement}

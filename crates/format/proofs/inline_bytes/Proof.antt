@@ -1,6 +1,6 @@
+-- `format::inline_bytes` meets its contract: each answer is what the definition gives under the tests that led there. Assumes nothing.
 use native.Mathlib.Omega.{arith}
 use mathlib.Core.Path.{ap}
-use borrow.Author.Tests.{eq-eqb, ne-eqb, lt-ltb, lt-leb, le-ltb, le-leb, not-true, not-false}
 use Rattle.format.specs.Part.{inlineBytes}
 use borrow.Author.Needs.{needs}
 use Rattle.format.proofs.inline_bytes.Statement.{statement}

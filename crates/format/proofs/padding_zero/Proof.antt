@@ -1,9 +1,9 @@
+-- `format::padding_zero` meets its contract: each answer is what the definition gives under the tests that led there. Assumes nothing.
 use native.Mathlib.Omega.{arith}
 use native.Mathlib.Nat.{add-sub-cancel-left}
-use Prim.Native.Nat.{_+_, _-_, _*_}
-use mathlib.Core.Path.{subst, _∙_, _≡_}
+use Prim.Native.Nat.{_+_, _-_}
+use mathlib.Core.Path.{subst, _∙_}
 use lib.ListN.{length}
-use Rattle.words.specs.Stream.{streamWords, paddingOf}
 use Rattle.format.specs.Part.{Inside, paddingZero}
 use borrow.Author.Needs.{needs}
 use Rattle.format.proofs.padding_zero.Statement.{statement}

@@ -1,4 +1,5 @@
-use borrow.Author.Tests.{eq-eqb, ne-eqb, lt-ltb, lt-leb, le-ltb, le-leb, not-true, not-false}
+-- `format::record_words` meets its contract: each answer is what the definition gives under the tests that led there. Assumes nothing.
+use borrow.Author.Tests.{eq-eqb, ne-eqb}
 use Rattle.format.specs.Header.{recordWords}
 use borrow.Author.Needs.{needs}
 use Rattle.format.proofs.record_words.Statement.{statement}

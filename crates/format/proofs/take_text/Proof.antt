@@ -1,4 +1,5 @@
-use borrow.Author.Tests.{eq-eqb, ne-eqb, lt-ltb, lt-leb, le-ltb, le-leb, not-true, not-false}
+-- `format::take_text` meets its contract: each answer is what the definition gives under the tests that led there. Assumes nothing.
+use borrow.Author.Tests.{eq-eqb, ne-eqb, lt-ltb, le-ltb}
 use Rattle.format.specs.Part.{takeText}
 use borrow.Author.Needs.{needs}
 use Rattle.format.proofs.take_text.Statement.{statement}
@@ -10,11 +11,11 @@ returns c = simp (eq-eqb _ _ (c .if1 .taken))
 
 returns-2 : tie.Need-returns-2
 unfolding takeText
-returns-2 c = simp (lt-ltb _ _ (c .if2 .taken), lt-leb _ _ (c .if2 .taken), ne-eqb _ _ (c .before .if1 .left))
+returns-2 c = simp (lt-ltb _ _ (c .if2 .taken), ne-eqb _ _ (c .before .if1 .left))
 
 returns-3 : tie.Need-returns-3
 unfolding takeText
-returns-3 c = simp (← c .take-stream .ensures, le-leb _ _ (c .before .if2 .left), le-ltb _ _ (c .before .if2 .left), ne-eqb _ _ (c .before .before .if1 .left))
+returns-3 c = simp (← c .take-stream .ensures, le-ltb _ _ (c .before .if2 .left), ne-eqb _ _ (c .before .before .if1 .left))
 
 pub take-text-spec : {M : Type 1} → statement M
 take-text-spec =

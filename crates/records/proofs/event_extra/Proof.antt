@@ -1,4 +1,5 @@
-use borrow.Author.Tests.{eq-eqb, ne-eqb, lt-ltb, lt-leb, le-ltb, le-leb, not-true, not-false}
+-- `records::event_extra` meets its contract: each answer is what the definition gives under the tests that led there. Assumes nothing.
+use borrow.Author.Tests.{lt-ltb, le-ltb}
 use Rattle.records.specs.Record.{eventExtra}
 use Rattle.format.specs.Part.{takeParts, takePart, takeWords}
 use borrow.Author.Needs.{needs}
@@ -7,11 +8,11 @@ use Rattle.records.proofs.event_extra.Tie as tie
 
 returns : tie.Need-returns
 unfolding eventExtra takeParts takePart takeWords
-returns c = simp (lt-ltb _ _ (c .if2 .taken), lt-leb _ _ (c .if2 .taken), c .before .if1 .taken, ← c .before .before .has-extra .ensures, ← c .before .before .before .field .ensures)
+returns c = simp (lt-ltb _ _ (c .if2 .taken), c .before .if1 .taken, ← c .before .before .has-extra .ensures, ← c .before .before .before .field .ensures)
 
 returns-2 : tie.Need-returns-2
 unfolding eventExtra takeParts takePart takeWords
-returns-2 c = simp (← c .word .ensures, le-leb _ _ (c .before .if2 .left), le-ltb _ _ (c .before .if2 .left), c .before .before .if1 .taken, ← c .before .before .before .has-extra .ensures, ← c .before .before .before .before .field .ensures)
+returns-2 c = simp (← c .word .ensures, le-ltb _ _ (c .before .if2 .left), c .before .before .if1 .taken, ← c .before .before .before .has-extra .ensures, ← c .before .before .before .before .field .ensures)
 
 returns-3 : tie.Need-returns-3
 unfolding eventExtra takeParts takePart takeWords

@@ -1,9 +1,8 @@
+-- `records::event_of` meets its contract: each answer is what the definition gives under the tests that led there. Assumes nothing.
 use native.Mathlib.Omega.{arith}
-use mathlib.Core.Path.{sym, _∙_, _≡_}
-use mathlib.Core.List.{List}
-use Prim.Native.Nat.{ℕ, _+_, _-_}
-use lib.ListN.{length, drop, take, length-drop}
-use borrow.Author.Tests.{eq-eqb, ne-eqb, lt-ltb, lt-leb, le-ltb, le-leb, not-true, not-false}
+use mathlib.Core.Path.{sym, _∙_}
+use Prim.Native.Nat.{_+_, _-_}
+use lib.ListN.{length, drop, length-drop}
 use Rattle.records.specs.Record.{eventOf}
 use Rattle.format.proofs.Headers.{part-from}
 use Rattle.records.proofs.Events.{fields-read, walk-ends}

@@ -1,4 +1,5 @@
-use borrow.Author.Tests.{eq-eqb, ne-eqb, lt-ltb, lt-leb, le-ltb, le-leb, not-true, not-false}
+-- `records::has_extra` meets its contract: each answer is what the definition gives under the tests that led there. Assumes nothing.
+use borrow.Author.Tests.{eq-eqb, ne-eqb}
 use Rattle.records.specs.Record.{hasExtra}
 use Rattle.records.proofs.has_extra.Statement.{statement}
 use Rattle.records.proofs.has_extra.Tie as tie

@@ -1,9 +1,9 @@
+-- `records::record_at` meets its contract: each answer is what the definition gives under the tests that led there. Assumes nothing.
 use native.Mathlib.Omega.{arith}
-use mathlib.Core.Path.{sym, _∙_, _≡_, refl}
-use Prim.Native.Nat.{_+_, _-_, _≤_}
+use mathlib.Core.Path.{sym, _∙_, _≡_}
+use Prim.Native.Nat.{_-_, _≤_}
 use lib.ListN.{length, drop, take, length-drop, drop-of-length-le}
 use lib.Seq.{length-take-le}
-use borrow.Author.Tests.{eq-eqb, ne-eqb, lt-ltb, lt-leb, le-ltb, le-leb, not-true, not-false}
 use Rattle.records.specs.Record.{recordOf}
 use Rattle.format.specs.Header.{extentOf}
 use Rattle.format.proofs.Headers.{part-from, extent-read}

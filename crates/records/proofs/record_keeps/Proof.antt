@@ -1,8 +1,8 @@
+-- `records::record_keeps` meets its contract: each answer is what the definition gives under the tests that led there. Assumes nothing.
 use native.Mathlib.Omega.{arith}
 use mathlib.Core.Path.{subst}
 use Prim.Native.Nat.{_+_}
 use lib.ListN.{length}
-use borrow.Author.Tests.{eq-eqb, ne-eqb, lt-ltb, lt-leb, le-ltb, le-leb, not-true, not-false}
 use Rattle.records.specs.Loss.{ContentInside, recordKeeps}
 use borrow.Author.Needs.{needs}
 use Rattle.records.proofs.record_keeps.Statement.{statement}
@@ -19,11 +19,11 @@ event-keeps-requires c κs = (omega arith, subst (ContentInside (c .before .befo
 
 returns : tie.Need-returns
 unfolding recordKeeps
-returns c = simp (c .enum-told .given .1, ← c .before .before .word .ensures)
+returns c = simp (c .enum-told .given .1)
 
 returns-2 : tie.Need-returns-2
 unfolding recordKeeps
-returns-2 c = simp (c .enum-told2 .given .1, ← c .before .before .word .ensures)
+returns-2 c = simp (c .enum-told2 .given .1)
 
 returns-3 : tie.Need-returns-3
 unfolding recordKeeps
@@ -51,15 +51,15 @@ returns-8 c = simp (← c .words-keep4 .ensures, ← c .before .field7 .ensures,
 
 returns-9 : tie.Need-returns-9
 unfolding recordKeeps
-returns-9 c = simp (← c .event-keeps .ensures, c .before .before .content3 .given .1, ← c .before .before .before .before .word .ensures, c .before .before .content3 .given .1)
+returns-9 c = simp (← c .event-keeps .ensures, c .before .before .content3 .given .1, c .before .before .content3 .given .1)
 
 returns-10 : tie.Need-returns-10
 unfolding recordKeeps
-returns-10 c = simp (c .enum-told7 .given .1, ← c .before .before .word .ensures)
+returns-10 c = simp (c .enum-told7 .given .1)
 
 returns-11 : tie.Need-returns-11
 unfolding recordKeeps
-returns-11 c = simp (c .enum-told8 .given .1, ← c .before .before .word .ensures)
+returns-11 c = simp (c .enum-told8 .given .1)
 
 pub record-keeps-spec : {M : Type 1} → statement M
 record-keeps-spec =

@@ -1,5 +1,5 @@
+-- `records::stream_keeps` meets its contract: each answer is what the definition gives under the tests that led there. Assumes nothing.
 use native.Mathlib.Omega.{arith}
-use borrow.Author.Tests.{eq-eqb, ne-eqb, lt-ltb, lt-leb, le-ltb, le-leb, not-true, not-false}
 use Rattle.records.specs.Loss.{streamKeeps}
 use borrow.Author.Needs.{needs}
 use Rattle.records.proofs.stream_keeps.Statement.{statement}
