@@ -22,7 +22,7 @@ use Rattle.arguments.specs.declared.Valued.the-variants.{Refused as Valu
 use Rattle.arguments.specs.declared.Argued.{Argued}
 use Rattle.arguments.specs.declared.Argued.the-variants.{Refused, Argument as Read}
 use Rattle.arguments.specs.declared.Walked.the-variants.{Refused as WalkRefused}
-use Rattle.arguments.specs.Argument.{argumentType, argumentSize, scalarWords, headerScalar, holdsWord, wordScalar, valueParts, valueOf, takeValue, argumentBody, argumentOf, Arguments, refused, arguments, prepend, onArgued, argumentsOf, walked}
+use Rattle.arguments.specs.Argument.{argumentType, argumentSize, scalarWords, headerScalar, holdsWord, wordScalar, valueParts, valueOf, takeValue, argumentBody, argumentOf, Arguments, refused, arguments, prepend, onArgued, argumentsOf, walked, numberedOf}
 use Rattle.arguments.specs.Loss.{valueBytes, argumentBytes, ValueInside, Fits, argumentKeeps, argumentsKeep}
 
 -- a test and its two outcomes
@@ -221,3 +221,10 @@ pub keep-turn : (f : Format) (n : ℕ) (rest : List ℕ) (place extra : ℕ) →
 unfolding argumentsKeep
 keep-turn f zero rest place extra h = absurd (omega arith)
 keep-turn f (suc n) rest place extra h = let e : suc n - 1 ≡ n = omega arith in rw e
+
+-- and of the walk to the argument of a number
+pub number-turn : (f : Format) (n : ℕ) (rest : List ℕ) (place : ℕ) → 0 < n
+    → numberedOf f n rest place ≡ onArgued (argumentOf f rest place) Refused (λ a size. numberedOf f (n - 1) (drop size rest) (place + size))
+unfolding numberedOf
+number-turn f zero rest place h = absurd (omega arith)
+number-turn f (suc n) rest place h = let e : suc n - 1 ≡ n = omega arith in rw e

@@ -126,3 +126,9 @@ walked (arguments l next) = End next
 abbrev pub listed : Arguments → List Argument
 listed (refused number) = []
 listed (arguments l next) = l
+
+-- the argument of a number, from 0
+unfoldable pub numberedOf : Format → ℕ → List ℕ → ℕ → Argued
+numberedOf f zero rest place = argumentOf f rest place
+numberedOf f (suc number) rest place =
+    onArgued (argumentOf f rest place) Refused (λ a size. numberedOf f number (drop size rest) (place + size))

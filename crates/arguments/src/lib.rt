@@ -2,7 +2,7 @@
 ghost use mathlib.Core.Path.{_≡_};
 ghost use Prim.Native.Nat.{ℕ, _+_, _-_, _*_, _^_, _<_, _≤_};
 ghost use lib.ListN.{length};
-ghost use Rattle.arguments.specs.Argument.{scalarWords, headerScalar, wordScalar, holdsWord, takeValue, argumentOf, argumentsOf, walked};
+ghost use Rattle.arguments.specs.Argument.{scalarWords, headerScalar, wordScalar, holdsWord, takeValue, argumentOf, argumentsOf, walked, numberedOf};
 ghost use Rattle.arguments.specs.Loss.{valueBytes, reservedBits, ValueInside, valuePaddingZero, Fits, argumentKeeps, argumentsKeep};
 use format::Format;
 use format::MALFORMED;
@@ -185,6 +185,30 @@ pub fn walk(f: Format, part: &[u8], place: usize, count: usize) -> Walked
         }
     }
     Walked::End(at)
+}
+
+// The argument of this number, from 0.
+pub fn numbered(f: Format, part: &[u8], place: usize, number: usize) -> Argued
+    requires { ⌜ place + length (now part) < 2 ^ 63 ⌝ }
+    ensures { λ r. ⌜ r ≡ numberedOf f number (now (part .entry)) place ⌝ }
+{
+    let mut rest = part;
+    let mut at = place;
+    let mut left = number;
+    while 0 < left {
+        let argued = argument_of(f, rest, at);
+        match argued {
+            Argued::Refused(number) => {
+                return Argued::Refused(number);
+            }
+            Argued::Argument { argument: _, size } => {
+                rest = &rest[size..];
+                at += size;
+                left -= 1;
+            }
+        }
+    }
+    argument_of(f, rest, at)
 }
 
 // The words that a value takes behind its argument's name.

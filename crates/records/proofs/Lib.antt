@@ -4,3 +4,4 @@ pub mod WrittenParts
 pub mod WrittenRecords
 pub mod WrittenArguments
 pub mod WrittenEvents
+pub mod Contents

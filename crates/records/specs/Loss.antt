@@ -27,6 +27,7 @@ streamKeeps source place at long reserved =
 
 -- the places that an event shows stand between two places
 pub record EventInside (from to : ℕ) (e : Event) : Type 0 where
+  pub thread : Inside from to (e .thread)
   pub category : Inside from to (e .category)
   pub name : Inside from to (e .name)
   pub behind : from ≤ e .arguments

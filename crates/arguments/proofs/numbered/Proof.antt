@@ -1,0 +1,44 @@
+-- `arguments::numbered` meets its contract: the loop keeps the definition of the whole equal to that of what is left. Assumes nothing.
+use Prim.Native.Nat.{_+_}
+use mathlib.Core.Path.{_≡_, refl, sym, _∙_}
+use lib.ListN.{length, length-drop}
+use native.Mathlib.Omega.{arith}
+use Rattle.format.proofs.Headers.{part-from}
+use Rattle.arguments.specs.Argument.{numberedOf}
+use Rattle.arguments.proofs.Arguments.{number-turn, argument-read}
+use borrow.Author.Needs.{needs}
+use Rattle.arguments.proofs.numbered.Statement.{statement}
+use Rattle.arguments.proofs.numbered.Tie as tie
+
+abbrev Inv-loop : tie.InvT-loop
+Inv-loop f part place number rest₀ at₀ left₀ rest at left = (numberedOf f number part place ≡ numberedOf f left rest at) × (at + length rest ≡ place + length part)
+
+abbrev μ-loop : tie.MeasureT-loop
+μ-loop f part place number rest₀ at₀ left₀ rest at left = left
+
+loop-holds : tie.Need-loop-holds Inv-loop μ-loop
+loop-holds c = (refl, refl)
+
+returns : tie.Need-returns Inv-loop μ-loop
+returns c = sym (c .before .before .before .before .before .loop .inv .0 ∙ number-turn (c .before .before .before .before .before .before .before .args .f) (c .before .before .before .before .before .loop .left) (c .before .before .before .before .before .loop .rest .now) (c .before .before .before .before .before .loop .at) (c .before .before .before .before .loop-test .taken) ∙ simp (← c .before .before .before .argument-of .ensures, c .before .argued .given .1))
+
+sub-rest : tie.Need-sub-rest Inv-loop μ-loop
+sub-rest c = argument-read (c .before .before .before .before .before .before .before .args .f) (c .before .before .before .before .before .loop .rest .now) (c .before .before .before .before .before .loop .at) (c .before .argued2 .given .0 .0) (c .before .argued2 .given .0 .1 .0) (sym (c .before .before .before .argument-of .ensures) ∙ c .before .argued2 .given .1) .inside
+
+part-rest-start : tie.Need-part-rest-start Inv-loop μ-loop
+part-rest-start c = argument-read (c .before .before .before .before .before .before .before .args .f) (c .before .before .before .before .before .loop .rest .now) (c .before .before .before .before .before .loop .at) (c .before .argued2 .given .0 .0) (c .before .argued2 .given .0 .1 .0) (sym (c .before .before .before .argument-of .ensures) ∙ c .before .argued2 .given .1) .inside
+
+add-at : tie.Need-add-at Inv-loop μ-loop
+add-at c = let s = argument-read (c .before .before .before .before .before .before .before .before .args .f) (c .before .before .before .before .before .before .loop .rest .now) (c .before .before .before .before .before .before .loop .at) (c .before .before .argued2 .given .0 .0) (c .before .before .argued2 .given .0 .1 .0) (sym (c .before .before .before .before .argument-of .ensures) ∙ c .before .before .argued2 .given .1) in omega (arith, s .inside, c .before .before .before .before .before .before .loop .inv .1)
+
+loop-again : tie.Need-loop-again Inv-loop μ-loop
+loop-again c = let s = argument-read (c .before .before .before .before .before .before .before .before .args .f) (c .before .before .before .before .before .before .loop .rest .now) (c .before .before .before .before .before .before .loop .at) (c .before .before .argued2 .given .0 .0) (c .before .before .argued2 .given .0 .1 .0) (sym (c .before .before .before .before .argument-of .ensures) ∙ c .before .before .argued2 .given .1) in (c .before .before .before .before .before .before .loop .inv .0 ∙ number-turn (c .before .before .before .before .before .before .before .before .args .f) (c .before .before .before .before .before .before .loop .left) (c .before .before .before .before .before .before .loop .rest .now) (c .before .before .before .before .before .before .loop .at) (c .before .before .before .before .before .loop-test .taken) ∙ simp (← c .before .before .before .before .argument-of .ensures, c .before .before .argued2 .given .1, part-from), simp part-from (omega (arith, s .inside, c .before .before .before .before .before .before .loop .inv .1, length-drop (c .before .before .argued2 .given .0 .1 .0) (c .before .before .before .before .before .before .loop .rest .now))))
+
+returns-2 : tie.Need-returns-2 Inv-loop μ-loop
+unfolding numberedOf
+returns-2 c = let z : c .before .before .loop .left ≡ 0 = omega arith in c .argument-of2 .ensures ∙ sym (c .before .before .loop .inv .0 ∙ rw z)
+
+pub numbered-spec : {M : Type 1} → statement M
+numbered-spec =
+    tie.close (tie.spec Inv-loop μ-loop loop-holds (λ c κs. search needs) (λ c. search needs) returns (λ c. search needs) sub-rest part-rest-start
+    (λ c. search needs) add-at (λ c. search needs) (λ c. search needs) loop-again (λ c κs. search needs) returns-2)
