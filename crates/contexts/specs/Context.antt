@@ -1,0 +1,58 @@
+-- The state of a reading and its contexts, after "Contexts" and number 4 of document 01.
+use Prim.Native.Nat.{ℕ, _+_, _-_, _%_}
+use mathlib.Core.List.{List, [], _∷_}
+use mathlib.Core.Bool.{Bool, true, false, _&&_}
+use lib.ListN.{take, getD, set, replicate}
+use lib.Dec.{eqb, leb}
+use Rattle.words.specs.Word.{pick}
+use Rattle.contexts.specs.declared.State.{State}
+use Rattle.contexts.specs.declared.Found.{Found}
+use Rattle.contexts.specs.declared.Found.the-variants.{At, Nothing}
+use Rattle.contexts.specs.declared.Entered.{Entered}
+use Rattle.contexts.specs.declared.Provider.{Provider}
+use Rattle.contexts.specs.declared.Provider.the-variants.{None, Id}
+
+-- "Its state has no ids (all eight places 0), no provider current and the rate 1,000,000,000"; it "stands at byte 0"
+abbrev pub opening : State
+opening = record { place = 0; rate = 1000000000; ids = replicate 8 0; count = 0; current = 0 }
+
+-- number 4's opposite for a state: "the place is not a multiple of 8 or is past the end; more than 8 ids; the current context is not open"
+unfoldable pub belongsTo : State → ℕ → Bool
+belongsTo s n = eqb (s .place % 8) 0 && (leb (s .place) n && (leb (s .count) 8 && leb (s .current) (s .count)))
+
+-- where an id first stands in a list, counted from i
+abbrev pub findFrom : ℕ → List ℕ → ℕ → Found
+findFrom i [] id = Nothing
+findFrom i (x ∷ xs) id = pick (eqb x id) (At i) (findFrom (i + 1) xs id)
+
+-- "Of equal ids the first counts."
+unfoldable pub findId : List ℕ → ℕ → ℕ → Found
+findId ids count id = findFrom 0 (take count ids) id
+
+-- the state at another place; with another rate; in another context; with one id more
+abbrev pub moved : State → ℕ → State
+moved s place = record { place = place; rate = s .rate; ids = s .ids; count = s .count; current = s .current }
+
+abbrev pub rated : State → ℕ → ℕ → State
+rated s rate place = record { place = place; rate = rate; ids = s .ids; count = s .count; current = s .current }
+
+abbrev pub inContext : State → ℕ → ℕ → State
+inContext s current place = record { place = place; rate = s .rate; ids = s .ids; count = s .count; current = current }
+
+abbrev pub withId : State → ℕ → ℕ → State
+withId s id place =
+    record { place = place; rate = s .rate; ids = set (s .ids) (s .count) id; count = s .count + 1; current = s .count + 1 }
+
+abbrev pub onFound : Found → (ℕ → Entered) → Entered → Entered
+onFound (At i) found missing = found i
+onFound Nothing found missing = missing
+
+-- "provider info or a section makes its id current, and opens a context if the id is new; an id met again keeps its tables"
+unfoldable pub entering : State → ℕ → ℕ → Entered
+entering s id place =
+    onFound (findId (s .ids) (s .count) id) (λ i. record { ninth = false; state = inContext s (i + 1) place })
+    (pick (eqb (s .count) 8) (record { ninth = true; state = s }) (record { ninth = false; state = withId s id place }))
+
+-- the provider of the current context: none, or the id of its slot
+unfoldable pub providerOf : State → Provider
+providerOf s = pick (eqb (s .current) 0) None (Id (getD (s .ids) (s .current - 1) 0))

@@ -1,0 +1,342 @@
+-- Along a run from opening no step gives number 4, no looked-up entry is bad, and every event has all of its arguments. Assumes nothing.
+use Prim.Native.Nat.{ℕ, zero, suc, _+_, _-_, _%_, _≤_, _<_}
+use mathlib.Core.Path.{_≡_, refl, sym, ap, subst, _∙_}
+use mathlib.Core.List.{List, [], _∷_}
+use mathlib.Core.Bool.{true, false, true≢false}
+use mathlib.Core.Option.{Option, none, some}
+use mathlib.Core.Logic.{_⊎_, inl, inr}
+use native.Mathlib.Omega.{arith}
+use borrow.Author.Tests.{ltb-false, le-ltb, lt-leb, eqb-true, eqb-false, eq-eqb}
+use lib.Dec.{eqb, ltb}
+use lib.ListN.{length, take, drop, getD}
+use lib.Seq.{drop-drop, take-nil}
+use Rattle.words.specs.Word.{pick}
+use Rattle.format.specs.declared.Format.{Format}
+use Rattle.format.specs.declared.Reference.{Reference}
+use Rattle.format.specs.declared.Reference.the-variants.{Inline, Index}
+use Rattle.format.proofs.Parts.{on-pick}
+use Rattle.arguments.specs.declared.Value.{Value}
+use Rattle.arguments.specs.declared.Value.the-variants.{Scalar as ScalarValue, Text as TextValue}
+use Rattle.arguments.specs.declared.Argument.{Argument}
+use Rattle.arguments.specs.declared.Argued.{Argued}
+use Rattle.arguments.specs.declared.Argued.the-variants.{Refused as ArgumentRefused, Argument as ArgumentRead}
+use Rattle.arguments.specs.Argument.{argumentOf, Arguments, refused, arguments, prepend as prependArgument, onArgued, argumentsOf, numberedOf}
+use Rattle.arguments.proofs.Arguments.{cases}
+use Rattle.records.specs.declared.Event.{Event}
+use Rattle.records.specs.declared.Content.the-variants.{Event as EventRead}
+use Rattle.records.specs.Record.{recordAt}
+use Rattle.records.specs.Loss.{ContentInside}
+use Rattle.records.specs.Item.{Argument as ArgumentItem, Item}
+use Rattle.contexts.specs.declared.State.{State}
+use Rattle.contexts.specs.Context.{belongsTo, moved}
+use Rattle.contexts.proofs.Contexts.{facts-belong}
+use Rattle.tables.specs.declared.Resolved.{Resolved}
+use Rattle.tables.specs.Table.{highestOf, position, entryAt, resolved}
+use Rattle.reader.specs.declared.Answer.the-variants.{End, Event as EventShown}
+use Rattle.reader.specs.declared.ShownEvent.{ShownEvent}
+use Rattle.reader.specs.declared.Asked.{Asked}
+use Rattle.reader.specs.declared.Asked.the-variants.{Refused, Argument as ArgumentShown}
+use Rattle.reader.specs.declared.Decision.{Decision}
+use Rattle.reader.specs.Shown.{isBad, valueBad, argumentBad, argumentsFound, shownEvent}
+use Rattle.reader.specs.Step.{doorOf, stopping, showing, registering, eventDecision, decisionOf, changed, stepReply, stepTables}
+use Rattle.reader.specs.Ask.{shownArgument, askedEvent, askedPlace, argumentReply}
+use Rattle.reader.specs.Reads.{prepend as prependItem, argumentItems, eventItem, itemOf}
+use Rattle.reader.proofs.Lookups.{AllRead, ContentFits, record-whole}
+use Rattle.reader.proofs.Changes.{Plain, Names, Kind, on-decision, on-entering}
+use Rattle.reader.proofs.Runs.{Held, Sound, step-sound, Run, run-sound}
+
+-- ---- no looked-up entry is bad
+
+-- an entry that is set is found
+held-found : (f : Format) (archive : List ℕ) (limit kind index entry : ℕ) → Held f archive limit kind index entry
+    → isBad (entryAt f archive kind index entry limit) ≡ false
+unfolding entryAt isBad
+held-found f archive limit kind index entry h =
+    rw (
+      eq-eqb (entry % 8) 0 (h .whole),
+      le-ltb limit (recordAt f archive entry .next) (h .ends),
+      h .registers .is,
+      eq-eqb kind kind refl,
+      eq-eqb index index refl,
+    )
+
+-- in a sound state no looked-up entry is bad
+pub never-bad : (f : Format) (archive tables : List ℕ) (s : State) (kind : ℕ) (reference : Reference) → Sound f archive s tables → Kind kind
+    → isBad (resolved f archive tables (s .current) kind (s .place) reference) ≡ false
+unfolding resolved isBad
+never-bad f archive tables s kind (Inline place long) h k = refl
+never-bad f archive tables s kind (Index index) h k =
+    on-pick P (ltb (highestOf f kind) index) _ _ (λ e. refl)
+    (λ e. on-pick P (eqb entry 0) _ _ (λ z. refl)
+    (λ z. set z (h .entries (s .current) kind index (omega (arith, h .current, h .count)) k (ltb-false (highestOf f kind) index e))))
+  where
+    P : Resolved → Type 0
+    P r = isBad r ≡ false
+
+    entry : ℕ
+    entry = getD tables (position f (s .current) kind index) 0
+
+    set : eqb entry 0 ≡ false → (entry ≡ 0) ⊎ Held f archive (s .place) kind index entry → P (entryAt f archive kind index entry (s .place))
+    set z (inl e) = absurd (eqb-false entry 0 z e)
+    set z (inr q) = held-found f archive (s .place) kind index entry q
+
+-- nor is one that an argument looks up
+pub argument-never-bad : (f : Format) (archive tables : List ℕ) (s : State) (a : Argument) → Sound f archive s tables
+    → argumentBad f archive tables (s .current) (s .place) a ≡ false
+unfolding argumentBad valueBad
+argument-never-bad f archive tables s a h = rw (never-bad f archive tables s 2 (a .name) h (inl refl)) (of-value (a .value))
+  where
+    of-value : (v : Value) → valueBad f archive tables (s .current) (s .place) v ≡ false
+    of-value (ScalarValue x) = refl
+    of-value (TextValue reference) = never-bad f archive tables s 2 reference h (inl refl)
+
+behind-read : (a : Argument) (q : Arguments) → AllRead (prependArgument a q) → AllRead q
+behind-read a (refused number) r = r
+behind-read a (arguments l next) r = tt
+
+-- so the entries of arguments that are read are found
+arguments-found : (f : Format) (archive tables : List ℕ) (s : State) (count : ℕ) (rest : List ℕ) (place : ℕ) → Sound f archive s tables
+    → AllRead (argumentsOf f count rest place) → argumentsFound f archive tables (s .current) (s .place) count rest place ≡ true
+unfolding argumentsFound argumentsOf
+arguments-found f archive tables s zero rest place h r = refl
+arguments-found f archive tables s (suc count) rest place h r =
+    go (λ more at. arguments-found f archive tables s count more at h) (argumentOf f rest place) r
+  where
+    go : ((more : List ℕ) (at : ℕ) → AllRead (argumentsOf f count more at)
+        → argumentsFound f archive tables (s .current) (s .place) count more at ≡ true) → (x : Argued)
+        → AllRead (onArgued x refused (λ a size. prependArgument a (argumentsOf f count (drop size rest) (place + size))))
+        → onArgued x (λ number. false)
+        (λ a size. pick (argumentBad f archive tables (s .current) (s .place) a) false
+        (argumentsFound f archive tables (s .current) (s .place) count (drop size rest) (place + size))) ≡ true
+    go found (ArgumentRefused number) r = absurd r
+    go found (ArgumentRead a size) r =
+        rw (argument-never-bad f archive tables s a h)
+        (found (drop size rest) (place + size) (behind-read a (argumentsOf f count (drop size rest) (place + size)) r))
+
+-- ---- an event in a sound state is shown
+
+drop-take : (k n : ℕ) (l : List ℕ) → drop k (take n l) ≡ take (n - k) (drop k l)
+drop-take zero n l = let e : n - 0 ≡ n = omega arith in rw e
+drop-take (suc k) zero l = let e : 0 - suc k ≡ 0 = omega arith in rw e
+drop-take (suc k) (suc n) [] = sym (take-nil (suc n - suc k))
+drop-take (suc k) (suc n) (x ∷ xs) = let e : suc n - suc k ≡ n - k = omega arith in rw e (drop-take k n xs)
+
+-- the part of a record from a place of it on is the part of the archive from there to the record's end
+part-behind : (archive : List ℕ) (place at next : ℕ) → place ≤ at
+    → drop (at - place) (take (next - place) (drop place archive)) ≡ take (next - at) (drop at archive)
+part-behind archive place at next h =
+    drop-take (at - place) (next - place) (drop place archive)
+    ∙ rw (drop-drop (at - place) place archive, there, left)
+  where
+    there : place + (at - place) ≡ at
+    there = omega arith
+
+    left : next - place - (at - place) ≡ next - at
+    left = omega arith
+
+-- the arguments of an event that is read are all read, from the part of the archive that a step and an asking take them from
+pub event-arguments : (f : Format) (archive : List ℕ) (place : ℕ) (e : Event) → recordAt f archive place .content ≡ EventRead e
+    → AllRead (argumentsOf f (e .count) (take (recordAt f archive place .next - e .arguments) (drop (e .arguments) archive)) (e .arguments))
+event-arguments f archive place e k =
+    rw (part-behind archive place (e .arguments) next (inside .behind)) at (holds .1)
+  where
+    next : ℕ
+    next = recordAt f archive place .next
+
+    inside : ContentInside place next (EventRead e)
+    inside = subst (ContentInside place next) k (record-whole f archive place .inside)
+
+    holds : ContentFits f (take (next - place) (drop place archive)) place (EventRead e)
+    holds = subst (ContentFits f (take (next - place) (drop place archive)) place) k (record-whole f archive place .holds)
+
+-- the event that a step from a sound state shows
+abbrev shownAt : Format → List ℕ → List ℕ → State → Event → ShownEvent
+shownAt f archive tables s e =
+    shownEvent archive s e (resolved f archive tables (s .current) 3 (s .place) (e .thread))
+    (resolved f archive tables (s .current) 2 (s .place) (e .category)) (resolved f archive tables (s .current) 2 (s .place) (e .name))
+
+event-shown : (f : Format) (archive tables : List ℕ) (s : State) (e : Event) → Sound f archive s tables
+    → recordAt f archive (s .place) .content ≡ EventRead e
+    → eventDecision f archive tables s e (recordAt f archive (s .place) .next)
+    ≡ showing s (EventShown (shownAt f archive tables s e)) (recordAt f archive (s .place) .next)
+unfolding eventDecision
+event-shown f archive tables s e h k =
+    rw (
+      never-bad f archive tables s 3 (e .thread) h (inr refl),
+      never-bad f archive tables s 2 (e .category) h (inl refl),
+      never-bad f archive tables s 2 (e .name) h (inl refl),
+      arguments-found f archive tables s (e .count)
+          (take (recordAt f archive (s .place) .next - e .arguments) (drop (e .arguments) archive)) (e .arguments) h
+          (event-arguments f archive (s .place) e k),
+    )
+
+-- a sound state belongs to its archive
+pub sound-belongs : (f : Format) (archive tables : List ℕ) (s : State) → Sound f archive s tables → belongsTo s (length archive) ≡ true
+sound-belongs f archive tables s h =
+    facts-belong s (length archive) (record { whole = h .whole; inside = h .before; few = h .count; known = h .current })
+
+-- from a sound state no step answers number 4
+pub never-four : (f : Format) (archive tables : List ℕ) (s : State) → Sound f archive s tables → (place : ℕ)
+    → stepReply f archive tables s .answer ≡ End 4 place → ⊥
+unfolding stopping registering
+never-four f archive tables s h =
+    on-decision P f archive tables s
+    (λ number at k place e. let n : number ≡ 4 = cc in true≢false (sym (sound-belongs f archive tables s h) ∙ k n))
+    (λ answer k place e. subst Plain e k) (λ rate place e. let z : _≡_ {A = ℕ} 0 1 = cc in omega arith)
+    (λ id answer k. on-entering P s id next answer (λ place e. let z : _≡_ {A = ℕ} 9 4 = cc in omega arith)
+    (λ i q place e. subst (Names id) e k) (λ q z place e. subst (Names id) e k))
+    (λ kind index r place e. let z : _≡_ {A = ℕ} 0 1 = cc in omega arith)
+    (λ ev k. rw (event-shown f archive tables s ev h k) (λ place e. let z : _≡_ {A = ℕ} 0 1 = cc in omega arith))
+  where
+    next : ℕ
+    next = recordAt f archive (s .place) .next
+
+    P : Decision → Type 0
+    P d = (place : ℕ) → d .answer ≡ End 4 place → ⊥
+
+-- so no step of a run from opening, or from any other sound state, does
+pub run-never-four : (f : Format) (archive : List ℕ) {s : State} {tables : List ℕ} {items : List Item} {s′ : State} {tables′ : List ℕ}
+    → Run f archive s tables items s′ tables′ → Sound f archive s tables → (place : ℕ) → stepReply f archive tables′ s′ .answer ≡ End 4 place → ⊥
+run-never-four f archive {s′ = s′} {tables′ = tables′} r h = never-four f archive tables′ s′ (run-sound f archive r h)
+
+-- ---- an event has all of its arguments
+
+-- what a step that shows an event has read, and what it leaves
+pub record EventStep (f : Format) (archive tables : List ℕ) (s : State) (e : ShownEvent) (d : Decision) : Type 0 where
+  pub event : Event
+  pub is : recordAt f archive (s .place) .content ≡ EventRead event
+  pub place : e .place ≡ s .place
+  pub count : e .count ≡ event .count
+  pub state : d .state ≡ moved s (recordAt f archive (s .place) .next)
+  pub tables′ : changed tables (d .change) ≡ tables
+
+pub event-step : (f : Format) (archive tables : List ℕ) (s : State) (e : ShownEvent) → Sound f archive s tables
+    → stepReply f archive tables s .answer ≡ EventShown e → EventStep f archive tables s e (decisionOf f archive tables s)
+unfolding stopping registering shownEvent changed
+event-step f archive tables s e h =
+    on-decision P f archive tables s (λ number at k q. let z : _≡_ {A = ℕ} 0 1 = cc in absurd (omega arith))
+    (λ answer k q. absurd (subst Plain q k)) (λ rate q. let z : _≡_ {A = ℕ} 0 1 = cc in absurd (omega arith))
+    (λ id answer k. on-entering P s id next answer (λ q. let z : _≡_ {A = ℕ} 0 1 = cc in absurd (omega arith))
+    (λ i n q. absurd (subst (Names id) q k)) (λ n z q. absurd (subst (Names id) q k)))
+    (λ kind index r q. let z : _≡_ {A = ℕ} 0 1 = cc in absurd (omega arith))
+    (λ ev k. rw (event-shown f archive tables s ev h k)
+    (λ q. let e′ : shownAt f archive tables s ev ≡ e = cc in
+    record {
+      event = ev;
+      is = k;
+      place = sym (ap (λ x. x .place) e′);
+      count = sym (ap (λ x. x .count) e′);
+      state = refl;
+      tables′ = refl;
+    }))
+  where
+    next : ℕ
+    next = recordAt f archive (s .place) .next
+
+    P : Decision → Type 0
+    P d = d .answer ≡ EventShown e → EventStep f archive tables s e d
+
+-- a step that shows an event is past the door
+event-door : (f : Format) (archive tables : List ℕ) (s : State) (e : ShownEvent) → stepReply f archive tables s .answer ≡ EventShown e
+    → doorOf f archive (length tables) ≡ 0
+unfolding decisionOf stopping
+event-door f archive tables s e q =
+    cases (eqb (doorOf f archive (length tables)) 0) (λ b. eqb-true (doorOf f archive (length tables)) 0 b)
+    (λ b. let q′ : End (doorOf f archive (length tables)) 0 ≡ EventShown e = rw b at q in let z : _≡_ {A = ℕ} 0 1 = cc in absurd (omega arith))
+
+-- of arguments that are all read there is one of each number
+abbrev Numbered : Argued → Type 0
+Numbered (ArgumentRefused number) = ⊥
+Numbered (ArgumentRead a size) = Unit {0}
+
+numbered-read : (f : Format) (number count : ℕ) (rest : List ℕ) (place : ℕ) → number < count → AllRead (argumentsOf f count rest place)
+    → Numbered (numberedOf f number rest place)
+unfolding numberedOf argumentsOf
+numbered-read f number zero rest place l r = absurd (omega arith)
+numbered-read f zero (suc count) rest place l r = go (argumentOf f rest place) r
+  where
+    go : (x : Argued) → AllRead (onArgued x refused (λ a size. prependArgument a (argumentsOf f count (drop size rest) (place + size)))) → Numbered x
+    go (ArgumentRefused number) r = r
+    go (ArgumentRead a size) r = tt
+numbered-read f (suc number) (suc count) rest place l r =
+    go (λ more at. numbered-read f number count more at (omega arith)) (argumentOf f rest place) r
+  where
+    go : ((more : List ℕ) (at : ℕ) → AllRead (argumentsOf f count more at) → Numbered (numberedOf f number more at)) → (x : Argued)
+        → AllRead (onArgued x refused (λ a size. prependArgument a (argumentsOf f count (drop size rest) (place + size))))
+        → Numbered (onArgued x ArgumentRefused (λ a size. numberedOf f number (drop size rest) (place + size)))
+    go read (ArgumentRefused n) r = r
+    go read (ArgumentRead a size) r = read (drop size rest) (place + size) (behind-read a (argumentsOf f count (drop size rest) (place + size)) r)
+
+-- an argument that is shown, and not refused
+abbrev pub IsArgument : Asked → Type 0
+IsArgument (Refused number place) = ⊥
+IsArgument (ArgumentShown a) = Unit {0}
+
+argument-at : (f : Format) (archive tables : List ℕ) (s : State) (place number : ℕ) (e : Event) → Sound f archive s tables
+    → doorOf f archive (length tables) ≡ 0 → place % 8 ≡ 0 → recordAt f archive place .next ≡ s .place
+    → recordAt f archive place .content ≡ EventRead e → number < e .count → IsArgument (argumentReply f archive tables s place number)
+unfolding argumentReply askedPlace askedEvent shownArgument
+argument-at f archive tables s place number e h d w n k l =
+    rw (
+      eq-eqb (doorOf f archive (length tables)) 0 d,
+      sound-belongs f archive tables s h,
+      eq-eqb (place % 8) 0 w,
+      eq-eqb (recordAt f archive place .next) (s .place) n,
+      k,
+      lt-leb (e .count) number l,
+    )
+    (of-argument (numberedOf f number (take (s .place - e .arguments) (drop (e .arguments) archive)) (e .arguments))
+    (numbered-read f number (e .count) (take (s .place - e .arguments) (drop (e .arguments) archive)) (e .arguments) l
+    (rw n at (event-arguments f archive place e k))))
+  where
+    of-argument : (x : Argued) → Numbered x
+        → IsArgument (onArgued x (λ refused. Refused 4 (s .place)) (λ a size. shownArgument f archive tables s a))
+    of-argument (ArgumentRefused number) r = r
+    of-argument (ArgumentRead a size) r = rw (argument-never-bad f archive tables s a h) tt
+
+-- right after an event of a sound run each of its arguments is shown
+pub argument-shown : (f : Format) (archive tables : List ℕ) (s : State) (e : ShownEvent) (number : ℕ) → Sound f archive s tables
+    → stepReply f archive tables s .answer ≡ EventShown e → number < e .count
+    → IsArgument (argumentReply f archive (stepTables f archive tables s) (stepReply f archive tables s .state) (e .place) number)
+argument-shown f archive tables s e number h q l = go (event-step f archive tables s e h q)
+  where
+    go : EventStep f archive tables s e (decisionOf f archive tables s)
+        → IsArgument (argumentReply f archive (stepTables f archive tables s) (stepReply f archive tables s .state) (e .place) number)
+    go r =
+        argument-at f archive (stepTables f archive tables s) (stepReply f archive tables s .state) (e .place) number (r .event)
+        (step-sound f archive tables s h) (rw (r .tables′) (event-door f archive tables s e q)) (rw (r .place) (h .whole))
+        (rw (r .place, r .state)) (rw (r .place) (r .is)) (omega (arith, l, r .count))
+
+-- what is there
+abbrev Given : {A : Type 0} → Option A → Type 0
+Given none = ⊥
+Given (some a) = Unit {0}
+
+items-given : (f : Format) (archive tables : List ℕ) (s : State) (place number count : ℕ)
+    → ((n : ℕ) → n < number + count → IsArgument (argumentReply f archive tables s place n))
+    → Given (argumentItems f archive tables s place number count)
+unfolding argumentItems
+items-given f archive tables s place number zero h = tt
+items-given f archive tables s place number (suc count) h =
+    go (argumentReply f archive tables s place number) (h number (omega arith)) (argumentItems f archive tables s place (suc number) count)
+    (items-given f archive tables s place (suc number) count (λ n l. h n (omega arith)))
+  where
+    go : (x : Asked) → IsArgument x → (l : Option (List ArgumentItem)) → Given l → Given (prependItem archive x l)
+    go (Refused number place) h l k = h
+    go (ArgumentShown a) h none k = k
+    go (ArgumentShown a) h (some l) k = tt
+
+-- so an event that a step from a sound state shows is an item
+pub event-item : (f : Format) (archive tables : List ℕ) (s : State) (e : ShownEvent) → Sound f archive s tables
+    → stepReply f archive tables s .answer ≡ EventShown e
+    → (i : Item) × (itemOf f archive (stepTables f archive tables s) (stepReply f archive tables s .state) (stepReply f archive tables s .answer) ≡ some i)
+unfolding itemOf
+event-item f archive tables s e h q =
+    rw q
+    (go (argumentItems f archive (stepTables f archive tables s) (stepReply f archive tables s .state) (e .place) 0 (e .count))
+    (items-given f archive (stepTables f archive tables s) (stepReply f archive tables s .state) (e .place) 0 (e .count)
+    (λ n l. argument-shown f archive tables s e n h q (omega (arith, l)))))
+  where
+    go : (l : Option (List ArgumentItem)) → Given l → (i : Item) × (eventItem archive e l ≡ some i)
+    go none k = absurd k
+    go (some l) k = (_, refl)

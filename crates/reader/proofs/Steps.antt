@@ -1,0 +1,60 @@
+-- Laws of opening and stepping that the code's proofs go by. Assumes nothing.
+use Prim.Native.Nat.{ℕ, zero, suc, _+_, _-_, _<_, _≤_}
+use mathlib.Core.Path.{_≡_, refl}
+use mathlib.Core.List.{List}
+use mathlib.Core.Bool.{Bool, true, false}
+use native.Mathlib.Omega.{arith}
+use borrow.Author.Tests.{ltb-false}
+use lib.Dec.{ltb}
+use lib.ListN.{length, drop}
+use Rattle.words.specs.Word.{pick}
+use Rattle.words.specs.Stream.{startsWithMagic}
+use Rattle.format.specs.declared.Format.{Format}
+use Rattle.arguments.specs.Argument.{argumentOf, onArgued}
+use Rattle.records.specs.declared.Event.{Event}
+use Rattle.records.specs.declared.Content.{Content}
+use Rattle.records.specs.declared.Content.the-variants.{Event as EventRead}
+use Rattle.records.specs.Record.{recordAt}
+use Rattle.records.specs.Loss.{EventInside}
+use Rattle.tables.specs.Table.{tableWords}
+use Rattle.reader.specs.Shown.{argumentBad, argumentsFound}
+use Rattle.reader.specs.Step.{doorOf}
+use Rattle.reader.proofs.Lookups.{IndexFits, record-fits}
+
+-- what the door lets in: an archive that is short enough, and tables that are long enough
+pub record Admitted (f : Format) (archive : List ℕ) (room : ℕ) : Type 0 where
+  pub short : length archive ≤ 16777216
+  pub enough : tableWords f ≤ room
+
+pub admitted : (f : Format) (archive : List ℕ) (room : ℕ) → doorOf f archive room ≡ 0 → Admitted f archive room
+unfolding doorOf
+admitted f archive room = go (ltb 16777216 (length archive)) refl (startsWithMagic archive) (ltb room (tableWords f)) refl
+  where
+    go : (long : Bool) → ltb 16777216 (length archive) ≡ long → (m few : Bool) → ltb room (tableWords f) ≡ few
+        → _≡_ {A = ℕ} (pick long 2 (pick m (pick few 3 0) 1)) 0 → Admitted f archive room
+    go true e m few k z = absurd (omega arith)
+    go false e true true k z = absurd (omega arith)
+    go false e true false k z =
+        record { short = ltb-false 16777216 (length archive) e; enough = ltb-false room (tableWords f) k }
+    go false e false few k z = absurd (omega arith)
+
+-- one turn of the walk over arguments whose entries are looked up
+pub found-turn : (f : Format) (archive tables : List ℕ) (context limit n : ℕ) (rest : List ℕ) (place : ℕ) → 0 < n
+    → argumentsFound f archive tables context limit n rest place
+    ≡ onArgued (argumentOf f rest place) (λ number. false)
+    (λ a size.
+    pick (argumentBad f archive tables context limit a) false
+    (argumentsFound f archive tables context limit (n - 1) (drop size rest) (place + size)))
+unfolding argumentsFound
+found-turn f archive tables context limit zero rest place h = absurd (omega arith)
+found-turn f archive tables context limit (suc n) rest place h = let e : suc n - 1 ≡ n = omega arith in rw e
+
+-- an event that is read at a place: where it ends, and that the places it shows stand inside it
+pub event-stands : (f : Format) (archive : List ℕ) (place : ℕ) (e : Event) (next : ℕ) → place ≤ length archive
+    → recordAt f archive place ≡ record { content = EventRead e; next = next } → (next ≤ length archive) × EventInside place next e
+event-stands f archive place e next h k = let r = record-fits f archive place h in (rw k at (r .0), rw k at (r .1))
+
+-- a string or thread record that is read at a place has an index of its table
+pub index-stands : (f : Format) (archive : List ℕ) (place : ℕ) (c : Content) (next : ℕ) → place ≤ length archive
+    → recordAt f archive place ≡ record { content = c; next = next } → IndexFits f c
+index-stands f archive place c next h k = let r = record-fits f archive place h in rw k at (r .2)

@@ -1,0 +1,4 @@
+pub mod Shown
+pub mod Step
+pub mod Ask
+pub mod Reads

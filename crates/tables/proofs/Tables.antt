@@ -1,0 +1,222 @@
+-- Laws of the tables: where entries stand, and what a set entry stands for. Assumes nothing.
+use Prim.Native.Nat.{ℕ, _+_, _*_, _/_, _%_, _<_, _≤_}
+use mathlib.Core.Path.{_≡_, refl, sym, ap, subst, _∙_}
+use mathlib.Core.List.{List}
+use mathlib.Core.Bool.{Bool, true, false, true≢false}
+use mathlib.Core.Logic.{_⊎_, inl, inr}
+use native.Mathlib.Omega.{arith}
+use native.Mathlib.Nat.{mul-le-mul-right}
+use borrow.Author.Tests.{eqb-true, eqb-false, ltb-false}
+use lib.Arith.{digits-div, digits-mod}
+use lib.Dec.{eqb, ltb, lit<}
+use lib.ListN.{length, drop, getD, replicate, length-append, length-drop, length-replicate, getD-replicate, List·getD-append}
+use Rattle.words.specs.Word.{pick}
+use Rattle.words.specs.Stream.{streamWords}
+use Rattle.format.specs.declared.Format.{Format}
+use Rattle.format.specs.declared.Reference.the-variants.{Inline, Index}
+use Rattle.format.specs.Limits.{smallFormat}
+use Rattle.format.specs.Part.{Inside}
+use Rattle.format.proofs.Parts.{on-pick}
+use Rattle.records.specs.declared.Content.{Content}
+use Rattle.records.specs.declared.Content.the-variants.{Refused, Magic, ProviderInfo, Section, ProviderEvent, Initialization, String, Thread, Event, Ignored, Skipped}
+use Rattle.records.specs.Record.{recordAt}
+use Rattle.records.specs.Loss.{ContentInside}
+use Rattle.records.proofs.Contents.{on-record}
+use Rattle.tables.specs.declared.Registration.{Registration}
+use Rattle.tables.specs.declared.Registration.the-variants.{Nothing, Entry}
+use Rattle.tables.specs.declared.Resolved.{Resolved}
+use Rattle.tables.specs.declared.Resolved.the-variants.{Bad, Known, Unresolved}
+use Rattle.tables.specs.Table.{FormatFits, tableWords, highestOf, position, cleared, registrationOf, onRegistration, entryAt, resolved}
+
+-- ---- where entries stand
+
+-- the limits of this format fit
+pub small-fits : FormatFits smallFormat
+small-fits = record { indexes = lit< tt }
+
+place-lt : (b : Bool) (highest context index : ℕ) → context ≤ 8 → index ≤ pick b 255 highest
+    → pick b (context * (highest + 257) + (highest + 1) + index) (context * (highest + 257) + index) < 9 * (highest + 257)
+place-lt true highest context index h i = omega (arith, mul-le-mul-right (highest + 257) h)
+place-lt false highest context index h i = omega (arith, mul-le-mul-right (highest + 257) h)
+
+-- an entry stands inside the tables
+pub position-lt : (f : Format) (context kind index : ℕ) → context ≤ 8 → index ≤ highestOf f kind
+    → position f context kind index < tableWords f
+unfolding highestOf position
+position-lt f context kind index = place-lt (eqb kind 3) (f .highest) context index
+
+-- so does one that is known to be a position
+pub at-lt : (f : Format) (context kind index at : ℕ) → at ≡ position f context kind index → context ≤ 8 → index ≤ highestOf f kind
+    → at < tableWords f
+at-lt f context kind index at e h i = omega (arith, e, position-lt f context kind index h i)
+
+digits-same : (w q q′ r r′ : ℕ) → r < w → r′ < w → q * w + r ≡ q′ * w + r′ → (q ≡ q′) × (r ≡ r′)
+digits-same w q q′ r r′ h h′ e = (
+  sym (digits-div q h) ∙ (ap (λ (n : ℕ). n / w) e ∙ digits-div q′ h′),
+  sym (digits-mod q h) ∙ (ap (λ (n : ℕ). n % w) e ∙ digits-mod q′ h′),
+)
+
+places-apart : (b b′ : Bool) (highest context context′ index index′ : ℕ) → index ≤ pick b 255 highest → index′ ≤ pick b′ 255 highest
+    → pick b (context * (highest + 257) + (highest + 1) + index) (context * (highest + 257) + index)
+    ≡ pick b′ (context′ * (highest + 257) + (highest + 1) + index′) (context′ * (highest + 257) + index′)
+    → (context ≡ context′) × (b ≡ b′) × (index ≡ index′)
+places-apart true true highest c c′ i i′ h h′ e =
+    let s = digits-same (highest + 257) c c′ (highest + 1 + i) (highest + 1 + i′) (omega arith) (omega arith) (omega arith) in
+    (s .0, refl, omega (arith, s .1))
+places-apart true false highest c c′ i i′ h h′ e =
+    let s = digits-same (highest + 257) c c′ (highest + 1 + i) i′ (omega arith) (omega arith) (omega arith) in
+    absurd (omega (arith, s .1))
+places-apart false true highest c c′ i i′ h h′ e =
+    let s = digits-same (highest + 257) c c′ i (highest + 1 + i′) (omega arith) (omega arith) (omega arith) in
+    absurd (omega (arith, s .1))
+places-apart false false highest c c′ i i′ h h′ e =
+    let s = digits-same (highest + 257) c c′ i i′ (omega arith) (omega arith) (omega arith) in
+    (s .0, refl, s .1)
+
+kinds-same : (k k′ : ℕ) → (k ≡ 2) ⊎ (k ≡ 3) → (k′ ≡ 2) ⊎ (k′ ≡ 3) → eqb k 3 ≡ eqb k′ 3 → k ≡ k′
+kinds-same k k′ (inl p) (inl q) e = omega arith
+kinds-same k k′ (inl p) (inr q) e = absurd (true≢false (sym (rw (p, q) at e)))
+kinds-same k k′ (inr p) (inl q) e = absurd (true≢false (rw (p, q) at e))
+kinds-same k k′ (inr p) (inr q) e = omega arith
+
+-- two entries that stand at one position are of one context, kind and index
+pub position-apart : (f : Format) (context kind index context′ kind′ index′ : ℕ) → (kind ≡ 2) ⊎ (kind ≡ 3) → (kind′ ≡ 2) ⊎ (kind′ ≡ 3)
+    → index ≤ highestOf f kind → index′ ≤ highestOf f kind′ → position f context kind index ≡ position f context′ kind′ index′
+    → (context ≡ context′) × (kind ≡ kind′) × (index ≡ index′)
+unfolding highestOf position
+position-apart f c k i c′ k′ i′ n n′ h h′ e =
+    let s = places-apart (eqb k 3) (eqb k′ 3) (f .highest) c c′ i i′ h h′ e in
+    (s .0, kinds-same k k′ n n′ (s .1), s .2)
+
+-- ---- cleared tables
+
+-- what is cleared is 0
+pub cleared-zero : (n : ℕ) (tables : List ℕ) (i : ℕ) → i < n → getD (cleared n tables) i 0 ≡ 0
+cleared-zero n tables i h =
+    List·getD-append (replicate n 0) (drop n tables) 0 i (rw (length-replicate {A = ℕ} n 0) h) ∙ getD-replicate n i 0 0 h
+
+-- clearing keeps the number of words
+pub length-cleared : (n : ℕ) (tables : List ℕ) → n ≤ length tables → length (cleared n tables) ≡ length tables
+length-cleared n tables h =
+    omega (arith, length-append (replicate n 0) (drop n tables), length-replicate {A = ℕ} n 0, length-drop n tables)
+
+-- ---- what a set entry stands for
+
+-- what is known of an entry that stands for the bytes at a place: it is the place, a multiple of 8, of a record
+-- that ends at or before the limit and registers these bytes with this kind and index
+pub record EntryKnown (f : Format) (archive : List ℕ) (kind index entry limit place long : ℕ) : Type 0 where
+  pub whole : entry % 8 ≡ 0
+  pub ends : recordAt f archive entry .next ≤ limit
+  pub registers : registrationOf (recordAt f archive entry .content) ≡ Entry kind index place long
+
+abbrev EntryMeans : Format → List ℕ → ℕ → ℕ → ℕ → ℕ → Resolved → Type 0
+EntryMeans f archive kind index entry limit Bad = Unit {0}
+EntryMeans f archive kind index entry limit (Known place long) = EntryKnown f archive kind index entry limit place long
+EntryMeans f archive kind index entry limit (Unresolved number) = Unit {0}
+
+entry-means : (f : Format) (archive : List ℕ) (kind index entry limit : ℕ)
+    → EntryMeans f archive kind index entry limit (entryAt f archive kind index entry limit)
+unfolding entryAt
+entry-means f archive kind index entry limit =
+    on-pick P (eqb (entry % 8) 0) _ _
+    (λ a. on-pick P (ltb limit (recordAt f archive entry .next)) _ _ (λ b. tt)
+    (λ b. go (eqb-true (entry % 8) 0 a) (ltb-false limit (recordAt f archive entry .next) b) (registrationOf (recordAt f archive entry .content)) refl))
+    (λ a. tt)
+  where
+    P : Resolved → Type 0
+    P = EntryMeans f archive kind index entry limit
+
+    go : entry % 8 ≡ 0 → recordAt f archive entry .next ≤ limit → (r : Registration)
+        → registrationOf (recordAt f archive entry .content) ≡ r
+        → P (onRegistration r Bad (λ k i place long. pick (eqb k kind) (pick (eqb i index) (Known place long) Bad) Bad))
+    go a b Nothing e = tt
+    go a b (Entry k i place long) e =
+        on-pick P (eqb k kind) _ _
+        (λ s. on-pick P (eqb i index) _ _
+        (λ t. record { whole = a; ends = b; registers = e ∙ rw (eqb-true k kind s, eqb-true i index t) })
+        (λ t. tt))
+        (λ s. tt)
+
+-- a known entry is so
+pub entry-known : (f : Format) (archive : List ℕ) (kind index entry limit place long : ℕ)
+    → entryAt f archive kind index entry limit ≡ Known place long → EntryKnown f archive kind index entry limit place long
+entry-known f archive kind index entry limit place long e =
+    subst (EntryMeans f archive kind index entry limit) e (entry-means f archive kind index entry limit)
+
+-- what a record registers stands inside it
+abbrev RegistrationInside : ℕ → ℕ → Registration → Type 0
+RegistrationInside from to Nothing = Unit {0}
+RegistrationInside from to (Entry kind index place long) = Inside from to (Inline place long)
+
+registration-inside : (from to : ℕ) (c : Content) → ContentInside from to c → RegistrationInside from to (registrationOf c)
+unfolding registrationOf
+registration-inside from to (Refused number) i = tt
+registration-inside from to Magic i = tt
+registration-inside from to (ProviderInfo id place long) i = tt
+registration-inside from to (Section id) i = tt
+registration-inside from to (ProviderEvent id event) i = tt
+registration-inside from to (Initialization rate) i = tt
+registration-inside from to (String index place long) i = i
+registration-inside from to (Thread index place) i = i
+registration-inside from to (Event e) i = tt
+registration-inside from to Ignored i = tt
+registration-inside from to (Skipped type size) i = tt
+
+-- the bytes that the record at a place registers stand inside it
+pub registered-inside : (f : Format) (archive : List ℕ) (entry kind index place long : ℕ)
+    → registrationOf (recordAt f archive entry .content) ≡ Entry kind index place long
+    → Inside entry (recordAt f archive entry .next) (Inline place long)
+unfolding registrationOf
+registered-inside f archive entry kind index place long e =
+    subst (RegistrationInside entry (recordAt f archive entry .next)) e
+    (on-record (λ r. RegistrationInside entry (r .next) (registrationOf (r .content))) f archive entry (λ number. tt)
+    (λ size s. rw (s .next) (registration-inside entry (entry + size) (recordAt f archive entry .content) (s .shows))))
+
+-- ---- what a reference stands for
+
+-- an index that is resolved has a set entry that is known
+pub record IndexKnown (f : Format) (archive tables : List ℕ) (context kind index limit place long : ℕ) : Type 0 where
+  pub low : index ≤ highestOf f kind
+  pub is-set : getD tables (position f context kind index) 0 ≡ 0 → ⊥
+  pub known : EntryKnown f archive kind index (getD tables (position f context kind index) 0) limit place long
+
+abbrev IndexMeans : Format → List ℕ → List ℕ → ℕ → ℕ → ℕ → ℕ → Resolved → Type 0
+IndexMeans f archive tables context kind index limit Bad = Unit {0}
+IndexMeans f archive tables context kind index limit (Known place long) =
+    IndexKnown f archive tables context kind index limit place long
+IndexMeans f archive tables context kind index limit (Unresolved number) = Unit {0}
+
+index-means : (f : Format) (archive tables : List ℕ) (context kind index limit : ℕ)
+    → IndexMeans f archive tables context kind index limit (resolved f archive tables context kind limit (Index index))
+unfolding resolved
+index-means f archive tables context kind index limit =
+    on-pick P (ltb (highestOf f kind) index) _ _ (λ a. tt)
+    (λ a. on-pick P (eqb entry 0) _ _ (λ b. tt)
+    (λ b. go (ltb-false (highestOf f kind) index a) (eqb-false entry 0 b) (entryAt f archive kind index entry limit)
+    (entry-means f archive kind index entry limit)))
+  where
+    entry : ℕ
+    entry = getD tables (position f context kind index) 0
+
+    P : Resolved → Type 0
+    P = IndexMeans f archive tables context kind index limit
+
+    go : index ≤ highestOf f kind → (entry ≡ 0 → ⊥) → (r : Resolved) → EntryMeans f archive kind index entry limit r → P r
+    go a b Bad e = tt
+    go a b (Known place long) e = record { low = a; is-set = b; known = e }
+    go a b (Unresolved number) e = tt
+
+-- an index that stands for known bytes is so
+pub resolved-known : (f : Format) (archive tables : List ℕ) (context kind index limit place long : ℕ)
+    → resolved f archive tables context kind limit (Index index) ≡ Known place long
+    → IndexKnown f archive tables context kind index limit place long
+resolved-known f archive tables context kind index limit place long e =
+    subst (IndexMeans f archive tables context kind index limit) e (index-means f archive tables context kind index limit)
+
+-- and its bytes, with their padding, end at or before the limit
+pub resolved-inside : (f : Format) (archive tables : List ℕ) (context kind index limit place long : ℕ)
+    → resolved f archive tables context kind limit (Index index) ≡ Known place long → place + 8 * streamWords long ≤ limit
+resolved-inside f archive tables context kind index limit place long e =
+    let k = resolved-known f archive tables context kind index limit place long e .known in
+    let i = registered-inside f archive (getD tables (position f context kind index) 0) kind index place long (k .registers) in
+    omega (arith, k .ends, i .1)

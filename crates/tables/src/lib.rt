@@ -1,0 +1,175 @@
+// The reading tables: which records they name, and what a reference stands for. An entry is trusted for nothing:
+// the record that it names is read again each time.
+ghost use mathlib.Core.Path.{_≡_};
+ghost use Prim.Native.Nat.{ℕ, _+_, _*_, _^_, _<_, _≤_};
+ghost use lib.ListN.{length};
+ghost use Rattle.tables.specs.Table.{FormatFits, tableWords, highestOf, position, cleared, registrationOf, entryAt, resolved};
+use format::Format;
+use format::Reference;
+use records::Content;
+
+// What a string or thread record registers: its kind, the record type 2 or 3, its index, and where its bytes stand.
+pub enum Registration {
+    Nothing,
+    Entry {
+        kind: u64,
+        index: usize,
+        place: usize,
+        length: usize,
+    },
+}
+
+// What a reference stands for; bad where its entry does not belong.
+pub enum Resolved {
+    Bad,
+    Known { place: usize, length: usize },
+    Unresolved { index: usize },
+}
+
+// How many words the tables take.
+pub fn table_words(f: Format) -> usize
+    requires { ⌜ FormatFits f ⌝ }
+    ensures { λ r. ⌜ r ≡ tableWords f ⌝ }
+{
+    9 * (f.highest + 257)
+}
+
+// The highest index of a table.
+fn highest_of(f: Format, kind: u64) -> usize
+    ensures { λ r. ⌜ r ≡ highestOf f kind ⌝ }
+{
+    if kind == 3 {
+        return 255;
+    }
+    f.highest
+}
+
+// The position of an entry.
+pub fn position_of(f: Format, context: usize, kind: u64, index: usize) -> usize
+    requires { ⌜ FormatFits f × (context ≤ 8) × (index ≤ highestOf f kind) ⌝ }
+    ensures { λ r. ⌜ r ≡ position f context kind index ⌝ }
+{
+    let start = context * (f.highest + 257);
+    if kind == 3 {
+        return start + (f.highest + 1) + index;
+    }
+    start + index
+}
+
+// The first n words become 0.
+pub fn clear(tables: &mut [u32], n: usize)
+    requires { ⌜ n ≤ length (now tables) ⌝ }
+    ensures { λ _. ⌜ now (tables .exit) ≡ cleared n (now (tables .entry)) ⌝ }
+{
+    let mut i = 0;
+    while i < n {
+        tables[i] = 0;
+        i += 1;
+    }
+}
+
+// What a record registers.
+pub fn registration_of(content: Content) -> Registration
+    ensures { λ r. ⌜ r ≡ registrationOf content ⌝ }
+{
+    match content {
+        Content::String {
+            index,
+            place,
+            length,
+        } => Registration::Entry {
+            kind: 2,
+            index,
+            place,
+            length,
+        },
+        Content::Thread { index, place } => Registration::Entry {
+            kind: 3,
+            index,
+            place,
+            length: 16,
+        },
+        Content::Refused(_) => Registration::Nothing,
+        Content::Magic => Registration::Nothing,
+        Content::ProviderInfo {
+            id: _,
+            place: _,
+            length: _,
+        } => Registration::Nothing,
+        Content::Section { id: _ } => Registration::Nothing,
+        Content::ProviderEvent { id: _, event: _ } => Registration::Nothing,
+        Content::Initialization { rate: _ } => Registration::Nothing,
+        Content::Event(_) => Registration::Nothing,
+        Content::Ignored => Registration::Nothing,
+        Content::Skipped { kind: _, size: _ } => Registration::Nothing,
+    }
+}
+
+// What a set entry stands for: the registration of this kind and index at its place, which ends at or before `limit`.
+fn entry_at(
+    f: Format,
+    archive: &[u8],
+    kind: u64,
+    index: usize,
+    entry: usize,
+    limit: usize,
+) -> Resolved
+    requires { ⌜ length (now archive) < 2 ^ 62 ⌝ }
+    ensures { λ r. ⌜ r ≡ entryAt f (now (archive .entry)) kind index entry limit ⌝ }
+{
+    if entry % 8 != 0 {
+        return Resolved::Bad;
+    }
+    let record = records::record_at(f, archive, entry);
+    if limit < record.next {
+        return Resolved::Bad;
+    }
+    let content = record.content;
+    let registration = registration_of(content);
+    match registration {
+        Registration::Nothing => Resolved::Bad,
+        Registration::Entry {
+            kind: k,
+            index: i,
+            place,
+            length,
+        } => {
+            if k != kind {
+                return Resolved::Bad;
+            }
+            if i != index {
+                return Resolved::Bad;
+            }
+            Resolved::Known { place, length }
+        }
+    }
+}
+
+// What a reference of this kind stands for in a context.
+pub fn resolve(
+    f: Format,
+    archive: &[u8],
+    tables: &[u32],
+    context: usize,
+    kind: u64,
+    reference: Reference,
+    limit: usize,
+) -> Resolved
+    requires { ⌜ FormatFits f × (length (now archive) < 2 ^ 62) × (tableWords f ≤ length (now tables)) × (context ≤ 8) ⌝ }
+    ensures { λ r. ⌜ r ≡ resolved f (now (archive .entry)) (now (tables .entry)) context kind limit reference ⌝ }
+{
+    match reference {
+        Reference::Inline { place, length } => Resolved::Known { place, length },
+        Reference::Index(index) => {
+            if highest_of(f, kind) < index {
+                return Resolved::Unresolved { index };
+            }
+            let at = position_of(f, context, kind, index);
+            let entry = tables[at] as usize;
+            if entry == 0 {
+                return Resolved::Unresolved { index };
+            }
+            entry_at(f, archive, kind, index, entry, limit)
+        }
+    }
+}
