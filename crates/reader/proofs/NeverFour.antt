@@ -115,14 +115,15 @@ arguments-found f archive tables s (suc count) rest place h r =
 
 -- ---- an event in a sound state is shown
 
-drop-take : (k n : ℕ) (l : List ℕ) → drop k (take n l) ≡ take (n - k) (drop k l)
+-- what is left of a part behind its first elements
+pub drop-take : (k n : ℕ) (l : List ℕ) → drop k (take n l) ≡ take (n - k) (drop k l)
 drop-take zero n l = let e : n - 0 ≡ n = omega arith in rw e
 drop-take (suc k) zero l = let e : 0 - suc k ≡ 0 = omega arith in rw e
 drop-take (suc k) (suc n) [] = sym (take-nil (suc n - suc k))
 drop-take (suc k) (suc n) (x ∷ xs) = let e : suc n - suc k ≡ n - k = omega arith in rw e (drop-take k n xs)
 
 -- the part of a record from a place of it on is the part of the archive from there to the record's end
-part-behind : (archive : List ℕ) (place at next : ℕ) → place ≤ at
+pub part-behind : (archive : List ℕ) (place at next : ℕ) → place ≤ at
     → drop (at - place) (take (next - place) (drop place archive)) ≡ take (next - at) (drop at archive)
 part-behind archive place at next h =
     drop-take (at - place) (next - place) (drop place archive)

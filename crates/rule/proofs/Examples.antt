@@ -1,0 +1,200 @@
+-- Bench examples of document 01, those marked K and the nine words, computed of the definitions.
+-- Assumes nothing.
+use Prim.Native.Nat.{ℕ, _*_}
+use mathlib.Core.Path.{_≡_, refl}
+use mathlib.Core.List.{List, [], _∷_, _++_}
+use mathlib.Core.Bool.{true, false}
+use mathlib.Core.Option.{none, some}
+use lib.IntN.{negsuc}
+use lib.ListN.{length, replicate}
+use Rattle.words.specs.Word.{wordAt, little, bytesOf}
+use Rattle.words.specs.Stream.{magic as magicBytes, startsWithMagic}
+use Rattle.format.specs.declared.Reference.the-variants.{Inline}
+use Rattle.format.specs.Limits.{smallFormat}
+use Rattle.format.specs.Header.{recordWords, extentOf}
+use Rattle.format.specs.Part.{takeWords, takeStream, takeText, takeThread, takePart, takeParts, paddingZero}
+use Rattle.arguments.specs.declared.Scalar.the-variants.{Null, Signed32, Unsigned32}
+use Rattle.arguments.specs.declared.Value.the-variants.{Scalar}
+use Rattle.arguments.specs.declared.Argued.the-variants.{Argument as ArgumentRead}
+use Rattle.arguments.specs.Argument.{headerScalar, holdsWord, argumentBody, argumentOf, argumentsOf, numberedOf}
+use Rattle.arguments.specs.Loss.{valueBytes, reservedBits, valuePaddingZero, argumentKeeps, argumentsKeep}
+use Rattle.records.specs.declared.Content.the-variants.{Refused, String, Skipped}
+use Rattle.records.specs.Record.{hasExtra, extraBytes, eventFields, eventExtra, eventOf, metadataOf, stringOf, contentOf, recordOf, recordAt}
+use Rattle.records.specs.Loss.{wordsKeep, streamKeeps, eventKeeps, recordKeeps}
+use Rattle.records.specs.Item.{known, Thread, thread, scalar, Item, magic, event, threadKey, keyWords}
+use Rattle.contexts.specs.Context.{opening, belongsTo, providerOf}
+use Rattle.tables.specs.Table.{tableWords, highestOf, position, registrationOf, entryAt, resolved}
+use Rattle.reader.specs.declared.Answer.the-variants.{End}
+use Rattle.reader.specs.Shown.{isBad, shownText, shownThread, shownEvent, valueBad, argumentBad, argumentsFound, shownValue}
+use Rattle.reader.specs.Step.{doorOf, stopping, registering, eventDecision, contentDecision, placeDecision, decisionOf, changed, openReply}
+use Rattle.reader.specs.Ask.{shownArgument, askedEvent, askedPlace, argumentReply, partOf}
+use Rattle.reader.specs.Reads.{argumentItems, itemOf}
+use Rattle.rule.specs.Rule.{registers, rule}
+use Rattle.rule.specs.Refusal.{ended, passed, runFrom, runOf, refusalOf, itemsOf}
+
+-- the words of an archive, one after another
+abbrev archiveOf : List ℕ → List ℕ
+archiveOf [] = []
+archiveOf (w ∷ ws) = bytesOf 8 w ++ archiveOf ws
+
+-- a string record with this header, and so many bytes of stream
+abbrev stringOfLength : ℕ → ℕ → List ℕ
+stringOfLength header n = bytesOf 8 header ++ replicate n 0x41
+
+-- document 01's nine words: "charge" and "sun" are spelled as numbers, the first letter lowest
+abbrev nine : List ℕ
+nine =
+    archiveOf (0x0016547846040010 ∷ 0x0000000600010022 ∷ 0x0000656772616863 ∷ 0x8003000100100064 ∷ 100 ∷ 7 ∷ 8 ∷ 0x00000000006E7573 ∷ 0x0000002A00010012 ∷ [])
+
+-- the two texts byte by byte
+abbrev charge : List ℕ
+charge = 0x63 ∷ 0x68 ∷ 0x61 ∷ 0x72 ∷ 0x67 ∷ 0x65 ∷ []
+
+abbrev sun : List ℕ
+sun = 0x73 ∷ 0x75 ∷ 0x6E ∷ []
+
+-- the same repacked: nine words too, with both uses of "charge" inline; a line is a word
+abbrev repacked : List ℕ
+repacked =
+    0x10 ∷ 0x00 ∷ 0x04 ∷ 0x46 ∷ 0x78 ∷ 0x54 ∷ 0x16 ∷ 0x00
+    ∷ 0x84 ∷ 0x00 ∷ 0x10 ∷ 0x00 ∷ 0x06 ∷ 0x80 ∷ 0x03 ∷ 0x80
+    ∷ 100 ∷ 0 ∷ 0 ∷ 0 ∷ 0 ∷ 0 ∷ 0 ∷ 0
+    ∷ 7 ∷ 0 ∷ 0 ∷ 0 ∷ 0 ∷ 0 ∷ 0 ∷ 0
+    ∷ 8 ∷ 0 ∷ 0 ∷ 0 ∷ 0 ∷ 0 ∷ 0 ∷ 0
+    ∷ 0x63 ∷ 0x68 ∷ 0x61 ∷ 0x72 ∷ 0x67 ∷ 0x65 ∷ 0x00 ∷ 0x00
+    ∷ 0x73 ∷ 0x75 ∷ 0x6E ∷ 0x00 ∷ 0x00 ∷ 0x00 ∷ 0x00 ∷ 0x00
+    ∷ 0x22 ∷ 0x00 ∷ 0x06 ∷ 0x80 ∷ 0x2A ∷ 0x00 ∷ 0x00 ∷ 0x00
+    ∷ 0x63 ∷ 0x68 ∷ 0x61 ∷ 0x72 ∷ 0x67 ∷ 0x65 ∷ 0x00 ∷ 0x00
+    ∷ []
+
+-- "E 0 - 100 1000000000 7 8 6:charge 3:sun 1" and "A 2 6:charge 42"
+abbrev nineEvent : Item
+nineEvent =
+    event (record {
+      provider = none;
+      type = 0;
+      timestamp = 100;
+      rate = 1000000000;
+      thread = known (thread 7 8);
+      category = known charge;
+      name = known sun;
+      arguments = record { name = known charge; value = scalar (Unsigned32 42) } ∷ [];
+      extra = 0;
+    })
+
+-- an event that uses "sun" three times, and the thread of the nine words once
+abbrev elevenEvent : Item
+elevenEvent =
+    event (record {
+      provider = none;
+      type = 0;
+      timestamp = 100;
+      rate = 1000000000;
+      thread = known (thread 7 8);
+      category = known sun;
+      name = known sun;
+      arguments = record { name = known sun; value = scalar Null } ∷ [];
+      extra = 0;
+    })
+
+-- the same repacked: "sun" is registered under 1 right before the event, and the thread is inline; a line is a word
+abbrev eleven : List ℕ
+eleven =
+    0x10 ∷ 0x00 ∷ 0x04 ∷ 0x46 ∷ 0x78 ∷ 0x54 ∷ 0x16 ∷ 0x00
+    ∷ 0x22 ∷ 0x00 ∷ 0x01 ∷ 0x00 ∷ 0x03 ∷ 0x00 ∷ 0x00 ∷ 0x00
+    ∷ 0x73 ∷ 0x75 ∷ 0x6E ∷ 0x00 ∷ 0x00 ∷ 0x00 ∷ 0x00 ∷ 0x00
+    ∷ 0x54 ∷ 0x00 ∷ 0x10 ∷ 0x00 ∷ 0x01 ∷ 0x00 ∷ 0x01 ∷ 0x00
+    ∷ 100 ∷ 0 ∷ 0 ∷ 0 ∷ 0 ∷ 0 ∷ 0 ∷ 0
+    ∷ 7 ∷ 0 ∷ 0 ∷ 0 ∷ 0 ∷ 0 ∷ 0 ∷ 0
+    ∷ 8 ∷ 0 ∷ 0 ∷ 0 ∷ 0 ∷ 0 ∷ 0 ∷ 0
+    ∷ 0x10 ∷ 0x00 ∷ 0x01 ∷ 0x00 ∷ 0x00 ∷ 0x00 ∷ 0x00 ∷ 0x00
+    ∷ []
+
+-- the magic from its last byte to its first
+abbrev reversed : List ℕ
+reversed = 0x00 ∷ 0x16 ∷ 0x54 ∷ 0x78 ∷ 0x46 ∷ 0x04 ∷ 0x00 ∷ 0x10 ∷ []
+
+-- the bench examples, under one claim. A run of whole archives has the tables of the small format, 6,912 words.
+pub record Table : Type 0 where
+  -- K1: empty input: 1 at 0
+  pub k1 : openReply smallFormat [] (tableWords smallFormat) ≡ record { answer = End 1 0; state = opening }
+  -- K2: the magic alone: one item, 0 at 8
+  pub k2 : runOf smallFormat magicBytes ≡ passed 0 true (some magic) (ended 0 8)
+  -- so its one item is the magic
+  pub k2-items : itemsOf (runOf smallFormat magicBytes) ≡ magic ∷ []
+  -- K3: magic and 4 bytes: 5 at 8
+  pub k3 : runOf smallFormat (magicBytes ++ replicate 4 0) ≡ passed 0 true (some magic) (ended 5 8)
+  -- K4: magic reversed: 1
+  pub k4 : openReply smallFormat reversed (tableWords smallFormat) ≡ record { answer = End 1 0; state = opening }
+  -- K5: magic, then a zero word: 6 at 8
+  pub k5 : runOf smallFormat (magicBytes ++ replicate 8 0) ≡ passed 0 true (some magic) (ended 6 8)
+  -- K6: string index 511 taken
+  pub k6-taken : recordAt smallFormat (bytesOf 8 0x0000000001FF0012) 0 ≡ record { content = String 511 8 0; next = 8 }
+  -- 512: 8
+  pub k6-refused : recordAt smallFormat (bytesOf 8 0x0000000002000012) 0 ≡ record { content = Refused 8; next = 8 }
+  -- K7: length 256 taken
+  pub k7-taken : recordAt smallFormat (stringOfLength 0x0000010000010212 256) 0 ≡ record { content = String 1 8 256; next = 264 }
+  -- 257: 7
+  pub k7-refused : recordAt smallFormat (stringOfLength 0x0000010100010222 264) 0 ≡ record { content = Refused 7; next = 272 }
+  -- K8: header 000000000001003F: type 15, 4,099 words, not 3
+  pub k8 : recordAt smallFormat (bytesOf 8 0x000000000001003F ++ replicate (8 * 4098) 0) 0 ≡ record { content = Skipped 15 4099; next = 8 * 4099 }
+  -- K9: w 1, k 2: inline (2 against 2)
+  pub k9 : registers 1 2 ≡ false
+  -- K10: w 2, k 2: registered (3 against 4)
+  pub k10 : registers 2 2 ≡ true
+  -- K11: w 1, k 3: registered
+  pub k11 : registers 1 3 ≡ true
+  -- in an archive: eight words, with the registration right before the event
+  pub k11-repacked : rule (magic ∷ elevenEvent ∷ []) ≡ eleven
+  -- that read as the same items
+  pub k11-run : runOf smallFormat eleven ≡ passed 0 true (some magic) (passed 8 true none (passed 24 true (some elevenEvent) (ended 0 64)))
+  -- K12: thread used once inline
+  pub k12-once : (t : Thread) → registers (keyWords (threadKey t)) 1 ≡ false
+  -- twice registered
+  pub k12-twice : (t : Thread) → registers (keyWords (threadKey t)) 2 ≡ true
+  -- K13: signed argument with high half FFFFFFFE reads as -2
+  pub k13 : argumentOf smallFormat (bytesOf 8 0xFFFFFFFE00000011) 0 ≡ ArgumentRead (record { name = Inline 8 0; value = Scalar (Signed32 (negsuc 1)) }) 8
+  -- the nine words: each record with its place, whether it loses nothing, and its item; 0 at 72
+  pub nine-run : runOf smallFormat nine ≡ passed 0 true (some magic) (passed 8 true none (passed 24 true (some nineEvent) (ended 0 72)))
+  -- the items of the listing
+  pub nine-items : itemsOf (runOf smallFormat nine) ≡ magic ∷ nineEvent ∷ []
+  -- repacking takes them
+  pub nine-accepted : refusalOf smallFormat (runOf smallFormat nine) ≡ none
+  -- repacked it is nine words too, with both uses of "charge" inline
+  pub nine-repacked : rule (itemsOf (runOf smallFormat nine)) ≡ repacked
+  -- these are nine words
+  pub nine-length : length repacked ≡ 72
+  -- that read as the same items
+  pub repacked-run : runOf smallFormat repacked ≡ passed 0 true (some magic) (passed 8 true (some nineEvent) (ended 0 72))
+
+-- each by computation
+pub table : Table
+unfolding little wordAt bytesOf magicBytes startsWithMagic recordWords extentOf takeWords takeStream takeText takeThread takePart takeParts paddingZero headerScalar holdsWord argumentBody argumentOf argumentsOf numberedOf valueBytes reservedBits valuePaddingZero argumentKeeps argumentsKeep hasExtra extraBytes eventFields eventExtra eventOf metadataOf stringOf contentOf recordOf wordsKeep streamKeeps eventKeeps recordKeeps belongsTo providerOf highestOf position registrationOf entryAt resolved isBad shownText shownThread shownEvent valueBad argumentBad argumentsFound shownValue doorOf stopping registering eventDecision contentDecision placeDecision decisionOf changed shownArgument askedEvent askedPlace argumentReply partOf argumentItems itemOf registers rule runFrom runOf refusalOf
+table =
+    record {
+      k1 = refl;
+      k2 = refl;
+      k2-items = refl;
+      k3 = refl;
+      k4 = refl;
+      k5 = refl;
+      k6-taken = refl;
+      k6-refused = refl;
+      k7-taken = refl;
+      k7-refused = refl;
+      k8 = refl;
+      k9 = refl;
+      k10 = refl;
+      k11 = refl;
+      k11-repacked = refl;
+      k11-run = refl;
+      k12-once = λ t. refl;
+      k12-twice = λ t. refl;
+      k13 = refl;
+      nine-run = refl;
+      nine-items = refl;
+      nine-accepted = refl;
+      nine-repacked = refl;
+      nine-length = refl;
+      repacked-run = refl;
+    }

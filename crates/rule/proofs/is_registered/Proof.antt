@@ -1,0 +1,22 @@
+-- `rule::is_registered` meets its contract: each answer is what the rule gives for the words and uses that led there. Assumes nothing.
+use native.Mathlib.Omega.{arith}
+use Rattle.rule.proofs.Registers.{registers-empty, registers-few, registers-twice, registers-often}
+use Rattle.rule.proofs.is_registered.Statement.{statement}
+use Rattle.rule.proofs.is_registered.Tie as tie
+
+returns : tie.Need-returns
+returns c = rw (c .if1 .taken, registers-empty (c .before .args .uses))
+
+returns-2 : tie.Need-returns-2
+returns-2 c = rw (registers-few (c .before .before .args .words) (c .before .before .args .uses) (c .if2 .taken))
+
+returns-3 : tie.Need-returns-3
+returns-3 c = rw (c .if3 .taken, registers-twice (c .before .before .before .args .words))
+
+returns-4 : tie.Need-returns-4
+returns-4 c =
+    rw (registers-often (c .before .before .before .args .words) (c .before .before .before .args .uses)
+    (omega (arith, c .before .before .if1 .left)) (omega (arith, c .before .if2 .left, c .if3 .left)))
+
+pub is-registered-spec : {M : Type 1} → statement M
+is-registered-spec = tie.close (tie.spec returns returns-2 returns-3 returns-4)

@@ -1,0 +1,112 @@
+-- The bytes that document 01's repacking rule gives for a list of items.
+use Prim.Native.Nat.{ℕ, _+_, _*_}
+use mathlib.Core.List.{List, [], _∷_, _++_}
+use mathlib.Core.Bool.{Bool, true, false, cond, _&&_}
+use mathlib.Core.Option.{Option, none, some}
+use lib.Dec.{eqb, ltb}
+use Rattle.words.specs.Word.{pick}
+use Rattle.words.specs.Stream.{sameBytes}
+use Rattle.records.specs.Item.{Thread, thread, Item, magic, providerInfo, section, providerEvent, initialization, event, skipped, Key, textKey, threadKey, keyWords, Use, usesOf}
+use Rattle.records.specs.Written.{stringRecord, threadRecord, itemRecord}
+use Rattle.rule.specs.Counting.{count}
+
+-- "A string of w words used k times in a context is registered exactly if 1 + w is below k times w; a thread exactly if 3 is below 2k":
+-- a thread is a key of two words
+unfoldable pub registers : ℕ → ℕ → Bool
+registers w k = ltb (1 + w) (k * w)
+
+-- "strings byte for byte, threads by their two words"
+abbrev pub sameKey : Key → Key → Bool
+sameKey (textKey a) (textKey b) = sameBytes a b
+sameKey (textKey a) (threadKey t) = false
+sameKey (threadKey t) (textKey b) = false
+sameKey (threadKey (thread p t)) (threadKey (thread q u)) = eqb p q && eqb t u
+
+abbrev pub sameProvider : Option ℕ → Option ℕ → Bool
+sameProvider none none = true
+sameProvider none (some b) = false
+sameProvider (some a) none = false
+sameProvider (some a) (some b) = eqb a b
+
+-- two uses are the same where they are of one key in one context; a context is its provider's, or the one with no provider
+abbrev pub sameUse : Use → Use → Bool
+sameUse a b = sameProvider (a .provider) (b .provider) && sameKey (a .key) (b .key)
+
+-- the uses of all items, in order
+abbrev pub usesAll : List Item → List Use
+usesAll [] = []
+usesAll (i ∷ items) = usesOf i ++ usesAll items
+
+-- a registration: a use and the index it was given
+pub record Entry : Type 0 where
+  pub use-of : Use
+  pub index : ℕ
+
+-- the index of a key in a provider's context, 0 where it has none
+abbrev pub indexIn : List Entry → Option ℕ → Key → ℕ
+indexIn [] provider key = 0
+indexIn (e ∷ table) provider key =
+    let rest = indexIn table provider key in
+    cond (sameUse (record { provider = provider; key = key }) (e .use-of)) (e .index) rest
+
+-- strings and threads are numbered apart
+abbrev pub sameKind : Key → Key → Bool
+sameKind (textKey a) (textKey b) = true
+sameKind (textKey a) (threadKey t) = false
+sameKind (threadKey t) (textKey b) = false
+sameKind (threadKey t) (threadKey u) = true
+
+-- "Indexes count up from 1 in each context, for strings and threads apart."
+abbrev pub nextIndex : List Entry → Use → ℕ
+nextIndex [] u = 1
+nextIndex (e ∷ table) u =
+    cond (sameProvider (u .provider) (e .use-of .provider) && sameKind (u .key) (e .use-of .key)) 1 0 + nextIndex table u
+
+-- the record that registers a key
+abbrev pub keyRecord : ℕ → Key → List ℕ
+keyRecord index (textKey bytes) = stringRecord index bytes
+keyRecord index (threadKey t) = threadRecord index t
+
+-- whether a use is the first of a key that is to be registered
+abbrev pub isNew : (Use → Bool) → List Entry → Use → Bool
+isNew chosen table u = chosen u && eqb (indexIn table (u .provider) (u .key)) 0
+
+abbrev pub withUse : (Use → Bool) → List Entry → Use → List Entry
+withUse chosen table u = cond (isNew chosen table u) (record { use-of = u; index = nextIndex table u } ∷ table) table
+
+abbrev pub useBytes : (Use → Bool) → List Entry → Use → List ℕ
+useBytes chosen table u = cond (isNew chosen table u) (keyRecord (nextIndex table u) (u .key)) []
+
+-- the registrations after some uses, and the bytes of their records in order
+abbrev pub tableAfter : (Use → Bool) → List Entry → List Use → List Entry
+tableAfter chosen table [] = table
+tableAfter chosen table (u ∷ us) = tableAfter chosen (withUse chosen table u) us
+
+abbrev pub registrations : (Use → Bool) → List Entry → List Use → List ℕ
+registrations chosen table [] = []
+registrations chosen table (u ∷ us) = useBytes chosen table u ++ registrations chosen (withUse chosen table u) us
+
+-- the context whose indexes an item's record uses
+abbrev pub providerOf : Item → Option ℕ
+providerOf magic = none
+providerOf (providerInfo id name) = none
+providerOf (section id) = none
+providerOf (providerEvent id e) = none
+providerOf (initialization rate) = none
+providerOf (event e) = e .provider
+providerOf (skipped type size) = none
+
+-- "A registration stands right before the first record using it: thread, then strings by first use in that record."
+abbrev pub written : (Use → Bool) → List Entry → List Item → List ℕ
+written chosen table [] = []
+written chosen table (i ∷ items) =
+    registrations chosen table (usesOf i)
+    ++ (itemRecord (indexIn (tableAfter chosen table (usesOf i)) (providerOf i)) i ++ written chosen (tableAfter chosen table (usesOf i)) items)
+
+-- which uses of a list are of registered keys; "Otherwise each use is inline."
+abbrev pub chosenIn : List Use → Use → Bool
+chosenIn uses u = registers (keyWords (u .key)) (count sameUse u uses)
+
+-- the bytes that the repacking rule gives
+unfoldable pub rule : List Item → List ℕ
+rule items = written (chosenIn (usesAll items)) [] items
