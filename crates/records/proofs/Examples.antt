@@ -1,23 +1,21 @@
--- Bench examples of document 01 that speak of one record, computed of the definitions. Assumes nothing.
-use Prim.Native.Nat.{ℕ, _*_}
+-- Document 01's nine words, read record by record: computed of the definitions. Assumes nothing.
+use Prim.Native.Nat.{ℕ}
 use mathlib.Core.Path.{_≡_, refl}
 use mathlib.Core.List.{List, [], _∷_, _++_}
 use mathlib.Core.Bool.{true}
-use lib.IntN.{negsuc}
-use lib.ListN.{replicate, drop}
+use lib.ListN.{drop}
 use Rattle.words.specs.Word.{wordAt, little, bytesOf}
 use Rattle.words.specs.Stream.{magic, startsWithMagic}
 use Rattle.format.specs.declared.Reference.the-variants.{Inline, Index}
 use Rattle.format.specs.Limits.{smallFormat}
 use Rattle.format.specs.Header.{recordWords, extentOf}
 use Rattle.format.specs.Part.{takeWords, takeStream, takeText, takeThread, takePart, takeParts, paddingZero}
-use Rattle.arguments.specs.declared.Scalar.the-variants.{Signed32, Unsigned32}
+use Rattle.arguments.specs.declared.Scalar.the-variants.{Unsigned32}
 use Rattle.arguments.specs.declared.Value.the-variants.{Scalar}
-use Rattle.arguments.specs.declared.Argued.the-variants.{Argument}
 use Rattle.arguments.specs.Argument.{headerScalar, holdsWord, wordScalar, argumentBody, argumentOf, argumentsOf}
 use Rattle.arguments.specs.Loss.{valueBytes, reservedBits, valuePaddingZero, argumentKeeps, argumentsKeep}
 use Rattle.records.specs.declared.Event.{Event}
-use Rattle.records.specs.declared.Content.the-variants.{Refused, Magic, String, Event as EventRead, Skipped}
+use Rattle.records.specs.declared.Content.the-variants.{Magic, String, Event as EventRead}
 use Rattle.records.specs.Record.{hasExtra, extraBytes, eventFields, eventExtra, eventOf, providerInfoOf, metadataOf, initializationOf, stringOf, threadOf, contentOf, recordOf, recordAt, eventArguments}
 use Rattle.records.specs.Loss.{wordsKeep, streamKeeps, eventKeeps, recordKeeps}
 
@@ -35,17 +33,7 @@ abbrev nineEvent : Event
 nineEvent =
     record { kind = 0; timestamp = 100; thread = Inline 40 16; category = Index 1; name = Inline 56 3; count = 1; arguments = 64; extra = 0 }
 
--- a string record with this header, and so many bytes of stream
-abbrev stringOfLength : ℕ → ℕ → List ℕ
-stringOfLength header n = bytesOf 8 header ++ replicate n 0x41
-
 pub record Table : Type 0 where
-  pub k6-taken : recordAt smallFormat (bytesOf 8 0x0000000001FF0012) 0 ≡ record { content = String 511 8 0; next = 8 }
-  pub k6-refused : recordAt smallFormat (bytesOf 8 0x0000000002000012) 0 ≡ record { content = Refused 8; next = 8 }
-  pub k7-taken : recordAt smallFormat (stringOfLength 0x0000010000010212 256) 0 ≡ record { content = String 1 8 256; next = 264 }
-  pub k7-refused : recordAt smallFormat (stringOfLength 0x0000010100010222 264) 0 ≡ record { content = Refused 7; next = 272 }
-  pub k8 : recordAt smallFormat (bytesOf 8 0x000000000001003F ++ replicate (8 * 4098) 0) 0 ≡ record { content = Skipped 15 4099; next = 8 * 4099 }
-  pub k13 : argumentOf smallFormat (bytesOf 8 0xFFFFFFFE00000011) 0 ≡ Argument (record { name = Inline 8 0; value = Scalar (Signed32 (negsuc 1)) }) 8
   pub nine-magic : recordAt smallFormat nine 0 ≡ record { content = Magic; next = 8 }
   pub nine-string : recordAt smallFormat nine 8 ≡ record { content = String 1 16 6; next = 24 }
   pub nine-event : recordAt smallFormat nine 24 ≡ record { content = EventRead nineEvent; next = 72 }
@@ -56,12 +44,6 @@ pub table : Table
 unfolding little wordAt bytesOf magic startsWithMagic recordWords extentOf takeWords takeStream takeText takeThread takePart takeParts paddingZero headerScalar holdsWord wordScalar argumentBody argumentOf argumentsOf valueBytes reservedBits valuePaddingZero argumentKeeps argumentsKeep hasExtra extraBytes eventFields eventExtra eventOf providerInfoOf metadataOf initializationOf stringOf threadOf contentOf recordOf wordsKeep streamKeeps eventKeeps recordKeeps
 table =
     record {
-      k6-taken = refl;
-      k6-refused = refl;
-      k7-taken = refl;
-      k7-refused = refl;
-      k8 = refl;
-      k13 = refl;
       nine-magic = refl;
       nine-string = refl;
       nine-event = refl;
