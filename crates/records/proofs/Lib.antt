@@ -5,3 +5,4 @@ pub mod WrittenRecords
 pub mod WrittenArguments
 pub mod WrittenEvents
 pub mod Contents
+pub mod WrittenKeeps

@@ -1,4 +1,5 @@
 pub mod Accepted
+pub mod Again
 pub mod Best
 pub mod Bounds
 pub mod Entries

@@ -71,7 +71,7 @@ pub record Writable (f : Format) (items : List Item) : Type 0 where
 -- ---- the providers of an item's uses
 
 -- uses of one provider
-abbrev Own : Option ℕ → List Use → Type 0
+abbrev pub Own : Option ℕ → List Use → Type 0
 Own provider [] = Unit {0}
 Own provider (u ∷ us) = (u .provider ≡ provider) × Own provider us
 
@@ -108,7 +108,7 @@ own-event e =
     (own-both p c (n ++ a) (own-text p (e .category)) (own-both p n a (own-text p (e .name)) (own-arguments p (e .arguments))))
 
 -- the uses of an item that suits are of the current provider
-own-item : (c : State) (i : Item) → ItemSuits c i → Own (providerItem (providerOf c)) (usesOf i)
+pub own-item : (c : State) (i : Item) → ItemSuits c i → Own (providerItem (providerOf c)) (usesOf i)
 own-item c magic h = tt
 own-item c (providerInfo id name) h = tt
 own-item c (section id) h = tt
@@ -120,17 +120,17 @@ own-item c (skipped type size) h = tt
 -- ---- bytes that are still to be read
 
 -- behind the first part of what is left stands the second
-behind : (archive : List ℕ) (place : ℕ) (a b : List ℕ) → drop place archive ≡ a ++ b → drop (place + length a) archive ≡ b
+pub behind : (archive : List ℕ) (place : ℕ) (a b : List ℕ) → drop place archive ≡ a ++ b → drop (place + length a) archive ≡ b
 behind archive place a b is = rw (← drop-drop (length a) place archive, is, drop-append-seam a b)
 
 -- ---- a step at a time
 
 -- reader and writer together: the state is sound, and its tables hold what the writer's table says
-record Synced (f : Format) (archive : List ℕ) (s : State) (tables : List ℕ) (table : List Entry) : Type 0 where
-  door : doorOf f archive (length tables) ≡ 0
-  sound : Sound f archive s tables
-  made : Made table
-  stands : Every (Standing f archive s tables) table
+pub record Synced (f : Format) (archive : List ℕ) (s : State) (tables : List ℕ) (table : List Entry) : Type 0 where
+  pub door : doorOf f archive (length tables) ≡ 0
+  pub sound : Sound f archive s tables
+  pub made : Made table
+  pub stands : Every (Standing f archive s tables) table
 
 -- at the end a step replies 0
 end-reads : (f : Format) (archive : List ℕ) (s : State) (tables : List ℕ) (table : List Entry) → Synced f archive s tables table
@@ -161,7 +161,8 @@ module _ (f : Format) (archive : List ℕ) (s : State) (tables : List ℕ) (tabl
   abbrev here : ℕ
   here = position f (s .current) (kindOf (u .key)) n
 
-  decided : decisionOf f archive tables s ≡ registering f s (kindOf (u .key)) n next
+  -- that step is decided as a registration
+  pub decided : decisionOf f archive tables s ≡ registering f s (kindOf (u .key)) n next
   decided =
       decision-is f archive tables s (keyContent n (s .place) (u .key)) next (sync .door) (sync .sound)
       (not-end archive (s .place) (keyRecord n (u .key)) there (key-long n (u .key)))
@@ -196,7 +197,8 @@ module _ (f : Format) (archive : List ℕ) (s : State) (tables : List ℕ) (tabl
         ends = omega arith;
       }
 
-  registered : Synced f archive (moved s next) (set tables here (s .place)) (record { use-of = u; index = n } ∷ table)
+  -- and behind it reader and writer are together again
+  pub registered : Synced f archive (moved s next) (set tables here (s .place)) (record { use-of = u; index = n } ∷ table)
   registered =
       record {
         door = rw (length-set tables here (s .place)) (sync .door);

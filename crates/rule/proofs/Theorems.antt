@@ -1,4 +1,4 @@
--- Repacking whole archives: no archive that reads as the same list is shorter, the list alone decides the bytes, and they read back as the list.
+-- Repacking whole archives: no archive that reads as the same list is shorter, the list alone decides the bytes, they read back as the list, and repacking them again changes nothing.
 -- Assumes nothing.
 use Prim.Native.Nat.{ℕ, _≤_}
 use mathlib.Core.Path.{_≡_, sym, ap, _∙_}
@@ -12,6 +12,7 @@ use Rattle.reader.specs.Reads.{ReadsAs}
 use Rattle.rule.specs.Rule.{rule}
 use Rattle.rule.specs.Refusal.{runOf, itemsOf, Accepted, writtenLength}
 use Rattle.rule.proofs.Accepted.{accepted-writable}
+use Rattle.rule.proofs.Again.{accepted-again}
 use Rattle.rule.proofs.Bounds.{AllBytes}
 use Rattle.rule.proofs.Length.{rule-least-bytes}
 use Rattle.rule.proofs.Lower.{any-run-pays}
@@ -48,5 +49,6 @@ reads-back a l h bytes r =
     (written-reads smallFormat l (accepted-writable a l h bytes r short), sym same)
 
 -- Repacking what was written gives the same bytes again.
-pub again-same : (f : Format) (l : List Item) → ReadsAs f (rule l) l → rule (itemsOf (runOf f (rule l))) ≡ rule l
-again-same f l r = ap rule (run-items f (rule l) l r)
+pub again : (a : List ℕ) (l : List Item) → Accepted smallFormat a → AllBytes a → ReadsAs smallFormat a l
+    → Accepted smallFormat (rule l) × (rule (itemsOf (runOf smallFormat (rule l))) ≡ rule l)
+again a l h bytes r = (accepted-again a l h bytes r, ap rule (run-items smallFormat (rule l) l (reads-back a l h bytes r .0)))
