@@ -1,0 +1,399 @@
+// Compares the proved reader with a plain Rust reader, reply by reply, and times both on the same archives.
+// Arguments: `test N` or `time MIB`, then corpus.bin and probes.bin, if there are any; their expected answers are looked for beside them.
+mod digest;
+mod listing;
+mod make;
+mod ours;
+mod plain;
+mod replies;
+
+use make::Random;
+use plain::{State, TABLE_WORDS};
+use std::hint::black_box;
+
+// What both readers answer for a whole archive, with tables of so many words that are filled at random; how many replies.
+fn compare(archive: &[u8], room: usize, seed: u64) -> Result<u64, String> {
+    let mut random = Random(seed | 1);
+    let mut our_tables: Vec<u32> = (0..room).map(|_| random.next() as u32).collect();
+    let mut plain_tables = our_tables.clone();
+    let expected = replies::replies(archive, &mut plain_tables);
+    let mut got = vec![0; expected.len() + 3 * replies::BLOCK];
+    let n = ours::replies(archive, &mut our_tables, &mut got);
+    got.truncate(n);
+    if got != expected {
+        let at = got.iter().zip(&expected).position(|(a, b)| a != b).unwrap_or(got.len().min(expected.len()));
+        let start = at / replies::BLOCK * replies::BLOCK;
+        let end = |v: &Vec<u64>| (start + replies::BLOCK).min(v.len());
+        return Err(format!(
+            "block {}: ours {:?}, plain {:?}",
+            start / replies::BLOCK,
+            &got[start.min(n)..end(&got)],
+            &expected[start.min(expected.len())..end(&expected)]
+        ));
+    }
+    if our_tables != plain_tables {
+        return Err("the tables differ".into());
+    }
+    if ours::read(archive, &mut our_tables) != digest::read(archive, &mut plain_tables) {
+        return Err("the digests differ".into());
+    }
+    if ours::steps(archive, &mut our_tables) != digest::steps(archive, &mut plain_tables) {
+        return Err("the digests of the steps differ".into());
+    }
+    Ok((n / replies::BLOCK) as u64)
+}
+
+// The number of the last reply of a step: which refusals the cases reach.
+fn outcome(archive: &[u8]) -> u8 {
+    let mut tables = vec![0; TABLE_WORDS];
+    let mut state = match plain::open(archive, &mut tables) {
+        Ok(state) => state,
+        Err(stop) => return stop.number,
+    };
+    loop {
+        if let Err(stop) = plain::step(archive, &mut state, &mut tables) {
+            return stop.number;
+        }
+    }
+}
+
+// A step and questions from one state with any tables.
+fn compare_at(archive: &[u8], tables: &[u32], state: State, event: usize, number: usize) -> Result<(), String> {
+    let given = replies::state_numbers(&state);
+    let mut got = [0; 2 * replies::BLOCK];
+    let mut expected = vec![];
+    replies::put_asked(&mut expected, plain::argument(archive, &state, tables, event, number));
+    let n = ours::argument(archive, tables, &given, event, number, &mut got);
+    if got[..n] != expected[..] {
+        return Err(format!("argument {number} at {event} in {state:?}: ours {:?}, plain {expected:?}", &got[..n]));
+    }
+    let (mut our_tables, mut plain_tables) = (tables.to_vec(), tables.to_vec());
+    let mut next = state;
+    expected.clear();
+    let reply = plain::step(archive, &mut next, &mut plain_tables);
+    replies::put_reply(&mut expected, reply, &next);
+    let n = ours::step(archive, &mut our_tables, &given, &mut got);
+    if got[..n] != expected[..] {
+        return Err(format!("a step in {state:?}: ours {:?}, plain {expected:?}", &got[..n]));
+    }
+    if our_tables != plain_tables {
+        return Err("the tables differ".into());
+    }
+    Ok(())
+}
+
+// Any states and any tables over an archive; the tables are mostly filled with places of its records.
+fn compare_states(random: &mut Random, archive: &[u8]) -> Result<u64, String> {
+    let mut tables = vec![0; TABLE_WORDS];
+    let mut state = State::default();
+    let mut places = vec![];
+    if plain::open(archive, &mut tables).is_ok() {
+        while plain::step(archive, &mut state, &mut tables).is_ok() {
+            places.push(state.place);
+        }
+    }
+    places.push(state.place);
+    let reached = state;
+    let turns = 30;
+    for _ in 0..turns {
+        let mut some = tables.clone();
+        for _ in 0..random.below(60) {
+            let context = random.below(9) * plain::CONTEXT_WORDS;
+            let at = context + if random.chance(70) { random.below(14) } else { 512 + random.below(8) };
+            some[at] = match random.below(4) {
+                0 => random.below(archive.len() + 20) as u32,
+                1 => 8 * random.below(archive.len() / 8 + 2) as u32,
+                2 => places[random.below(places.len())] as u32,
+                _ => random.next() as u32,
+            };
+        }
+        if random.chance(5) {
+            some.truncate(random.below(TABLE_WORDS + 1));
+        }
+        let before = random.below(places.len());
+        let mut state = State { place: places[before], ..reached };
+        let most = if random.chance(5) { 11 } else { 9 };
+        state.count = random.below(most);
+        let past = if random.chance(5) { 3 } else { 1 };
+        state.current = random.below(state.count + past);
+        for id in &mut state.ids {
+            if random.chance(50) {
+                *id = random.below(6) as u32;
+            }
+        }
+        if random.chance(10) {
+            state.place = random.below(archive.len() + 20);
+        }
+        let mut event = if before == 0 { 0 } else { places[before - 1] };
+        if random.chance(10) {
+            event = random.below(archive.len() + 20);
+        }
+        if random.chance(1) {
+            (state.place, event) = (usize::MAX - random.below(40), usize::MAX - random.below(40));
+        }
+        compare_at(archive, &some, state, event, random.below(8))?;
+    }
+    Ok(turns)
+}
+
+// A step at an event whose entries name odd records, and a question for each of its arguments.
+fn compare_planted(random: &mut Random) -> Result<u64, (Vec<u8>, String)> {
+    let planted = make::planted(random);
+    let mut tables = vec![0; TABLE_WORDS];
+    for (position, place) in planted.entries {
+        tables[position] = place;
+    }
+    let state = State { place: planted.event, ..State::default() };
+    let after = State { place: planted.end, ..State::default() };
+    for number in 0..7 {
+        for state in [state, after] {
+            compare_at(&planted.archive, &tables, state, planted.event, number).map_err(|what| (planted.archive.clone(), what))?;
+        }
+    }
+    Ok(14)
+}
+
+fn save(archive: &[u8], what: &str) -> ! {
+    let path = std::env::temp_dir().join("difference.bin");
+    std::fs::write(&path, archive).unwrap();
+    println!("DIFFERENCE: {what}\nthe archive is in {}", path.display());
+    std::process::exit(1);
+}
+
+fn test(many: usize) {
+    let mut random = Random(0x5eed);
+    let (mut blocks, mut calls, mut outcomes) = (0, 0, [0; 10]);
+    for i in 0..many {
+        let records = make::records(&mut random);
+        let archive = match i % 4 {
+            0 => make::bytes_of(&records.concat()),
+            _ => make::damaged(&mut random, records),
+        };
+        let room = match random.below(50) {
+            0 => random.below(TABLE_WORDS),
+            1 => TABLE_WORDS + random.below(9),
+            _ => TABLE_WORDS,
+        };
+        match compare(&archive, room, random.next()) {
+            Ok(n) => blocks += n,
+            Err(what) => save(&archive, &what),
+        }
+        match compare_states(&mut random, &archive) {
+            Ok(n) => calls += n,
+            Err(what) => save(&archive, &what),
+        }
+        match compare_planted(&mut random) {
+            Ok(n) => calls += n,
+            Err((archive, what)) => save(&archive, &what),
+        }
+        outcomes[outcome(&archive) as usize] += 1;
+    }
+    println!("{many} archives, whole, cut and damaged: {blocks} replies and {calls} calls with any state and tables, no difference");
+    println!("they ended by number (0 to 9): {outcomes:?}");
+    // every cut of one archive
+    let archive = make::bytes_of(&make::records(&mut Random(77)).concat());
+    for n in 0..=archive.len() {
+        if let Err(what) = compare(&archive[..n], TABLE_WORDS, n as u64) {
+            save(&archive[..n], &what);
+        }
+    }
+    println!("one archive cut at each of its {} bytes: no difference", archive.len());
+    // the length's limit
+    for n in [16_777_208, 16_777_216, 16_777_217, 16_777_224] {
+        let mut long = make::long(n, 5, 50, 3);
+        long.truncate(n);
+        long.resize(n, 0);
+        if ours::read(&long, &mut [0; TABLE_WORDS]) != digest::read(&long, &mut [0; TABLE_WORDS]) {
+            save(&long, "the digests differ");
+        }
+    }
+    println!("archives about the longest length: no difference");
+}
+
+fn word32(bytes: &[u8], at: usize) -> usize {
+    u32::from_le_bytes(bytes[at..at + 4].try_into().unwrap()) as usize
+}
+
+fn word64(bytes: &[u8], at: usize) -> u64 {
+    u64::from_le_bytes(bytes[at..at + 8].try_into().unwrap())
+}
+
+// The cases of corpus.bin; the plain reader's listing against the expected answers, where they stand beside.
+fn corpus(path: &str) {
+    let bytes = std::fs::read(path).unwrap();
+    let expected = std::fs::read(path.replace(".bin", ".expected")).unwrap_or_default();
+    let mut rest = &expected[..];
+    let (mut at, mut case, mut blocks) = (0, 0, 0);
+    while at < bytes.len() {
+        let n = word32(&bytes, at);
+        let archive = &bytes[at + 4..at + 4 + n];
+        at += 4 + n;
+        match compare(archive, TABLE_WORDS, case) {
+            Ok(n) => blocks += n,
+            Err(what) => save(archive, &format!("case {case}: {what}")),
+        }
+        if !expected.is_empty() {
+            let lines = [format!("case {case} {n}\n").into_bytes(), listing::listing(archive), b"pack ".to_vec()].concat();
+            if !rest.starts_with(&lines) {
+                save(archive, &format!("case {case}: the plain reader's listing is not the expected one"));
+            }
+            let line = &rest[lines.len()..];
+            let skipped = if line.starts_with(b"0 ") { 2 } else { 1 };
+            rest = &rest[lines.len()..];
+            for _ in 0..skipped {
+                let end = rest.iter().position(|&b| b == b'\n').unwrap();
+                rest = &rest[end + 1..];
+            }
+        }
+        case += 1;
+    }
+    let listed = if expected.is_empty() { "" } else { ", and the plain reader's listings are the expected ones" };
+    println!("{case} cases of the corpus, {blocks} replies: no difference{listed}");
+}
+
+// The calls of probes.bin, likewise.
+fn probes(path: &str) {
+    let bytes = std::fs::read(path).unwrap();
+    let expected = std::fs::read(path.replace(".bin", ".expected")).unwrap_or_default();
+    let (mut lines, mut at, mut probe) = (vec![], 0, 0);
+    while at < bytes.len() {
+        let header = &bytes[at..at + 96];
+        let n = word32(header, 4);
+        let entries = word32(header, 92);
+        let mut tables = vec![0u32; word32(header, 88)];
+        for i in 0..entries {
+            tables[word32(&bytes, at + 96 + 8 * i)] = word32(&bytes, at + 100 + 8 * i) as u32;
+        }
+        let start = at + 96 + 8 * entries;
+        let archive = &bytes[start..start + n];
+        at = start + n;
+        let mut state = State {
+            place: word64(header, 8) as usize,
+            rate: word64(header, 16),
+            ids: std::array::from_fn(|i| word32(header, 24 + 4 * i) as u32),
+            count: word64(header, 56) as usize,
+            current: word64(header, 64) as usize,
+        };
+        let (event, number) = (word64(header, 72) as usize, word64(header, 80) as usize);
+        if let Err(what) = compare_at(archive, &tables, state, event, number) {
+            save(archive, &format!("probe {probe}: {what}"));
+        }
+        lines.extend(format!("probe {probe}\n").into_bytes());
+        if word32(header, 0) == 1 {
+            lines.extend(match plain::argument(archive, &state, &tables, event, number) {
+                Ok(argument) => listing::argument_line(archive, &argument),
+                Err(stop) => listing::stop_line(&stop),
+            });
+        } else {
+            let before = tables.clone();
+            lines.extend(match plain::step(archive, &mut state, &mut tables) {
+                Ok(None) => b"-\n".to_vec(),
+                Ok(Some(item)) => listing::item_line(archive, &item),
+                Err(stop) => listing::stop_line(&stop),
+            });
+            lines.extend(listing::state_line(&state));
+            for (i, (old, new)) in before.iter().zip(&tables).enumerate() {
+                if old != new {
+                    lines.extend(format!("t {i} {new}\n").into_bytes());
+                }
+            }
+        }
+        probe += 1;
+    }
+    if !expected.is_empty() && lines != expected {
+        println!("DIFFERENCE: the plain reader's answers to the probes are not the expected ones");
+        std::process::exit(1);
+    }
+    let listed = if expected.is_empty() { "" } else { ", and the plain reader's answers are the expected ones" };
+    println!("{probe} probes: no difference{listed}");
+}
+
+#[repr(C)]
+struct Moment {
+    seconds: i64,
+    nanoseconds: i64,
+}
+
+extern "C" {
+    fn clock_gettime(clock: i32, moment: *mut Moment) -> i32;
+}
+
+// The processor's time that this thread has taken, in nanoseconds: what other programs take meanwhile is not counted.
+fn now() -> f64 {
+    const THREAD: i32 = 3;
+    let mut moment = Moment { seconds: 0, nanoseconds: 0 };
+    assert_eq!(unsafe { clock_gettime(THREAD, &mut moment) }, 0);
+    moment.seconds as f64 * 1e9 + moment.nanoseconds as f64
+}
+
+// The best time of several runs, in nanoseconds; the two readers take turns.
+fn best(runs: usize, mut ours: impl FnMut() -> u64, mut plain: impl FnMut() -> u64) -> (f64, f64) {
+    let (mut a, mut b) = (f64::MAX, f64::MAX);
+    for _ in 0..runs {
+        let start = now();
+        let x = black_box(ours());
+        a = a.min(now() - start);
+        let start = now();
+        let y = black_box(plain());
+        b = b.min(now() - start);
+        assert_eq!(x, y, "the digests differ");
+    }
+    (a, b)
+}
+
+const RUNS: usize = 25;
+
+fn time(mib: usize) {
+    println!("{:<28} {:>8} {:>8} {:>12} {:>12} {:>8}", "archive", "MiB", "events", "ours ns/ev", "Rust ns/ev", "ratio");
+    let kinds = [
+        ("registered, 0 to 6 args", 10, 6),
+        ("inline, 0 to 6 args", 90, 6),
+        ("registered, no args", 10, 0),
+        ("registered, 0 to 15 args", 10, 15),
+    ];
+    for (name, inline, arguments) in kinds {
+        let archive = make::long(mib << 20, 99, inline, arguments);
+        let archive = &archive[..archive.len().min(16_777_216) / 8 * 8];
+        let mut tables = vec![0; TABLE_WORDS];
+        let mut state = plain::open(archive, &mut tables).unwrap();
+        let mut events = 0;
+        while let Ok(item) = plain::step(archive, &mut state, &mut tables) {
+            events += matches!(item, Some(plain::Item::Event(_))) as usize;
+        }
+        let mut other = tables.clone();
+        for (what, a, b) in [
+            ("", best(RUNS, || ours::read(archive, &mut tables), || digest::read(archive, &mut other))),
+            ("  steps alone", best(RUNS, || ours::steps(archive, &mut tables), || digest::steps(archive, &mut other))),
+        ]
+        .map(|(what, (a, b))| (what, a, b))
+        {
+            println!(
+                "{:<28} {:>8.1} {:>8} {:>12.1} {:>12.1} {:>8.2}",
+                if what.is_empty() { name } else { what },
+                archive.len() as f64 / (1 << 20) as f64,
+                events,
+                a / events as f64,
+                b / events as f64,
+                a / b
+            );
+        }
+    }
+}
+
+fn main() {
+    let arguments: Vec<String> = std::env::args().skip(1).collect();
+    let number = |i: usize, otherwise: usize| arguments.get(i).and_then(|n| n.parse().ok()).unwrap_or(otherwise);
+    match arguments.first().map(String::as_str) {
+        Some("time") => time(number(1, 12)),
+        Some("test") => {
+            test(number(1, 20_000));
+            if let Some(path) = arguments.get(2) {
+                corpus(path);
+            }
+            if let Some(path) = arguments.get(3) {
+                probes(path);
+            }
+        }
+        _ => println!("test N [corpus.bin [probes.bin]] or time MIB"),
+    }
+}

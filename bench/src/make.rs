@@ -1,0 +1,348 @@
+// Archives for the timing and for the tests, made from a seed.
+use std::ops::Range;
+
+pub const MAGIC: u64 = 0x0016547846040010;
+
+pub struct Random(pub u64);
+
+impl Random {
+    pub fn next(&mut self) -> u64 {
+        self.0 ^= self.0 << 13;
+        self.0 ^= self.0 >> 7;
+        self.0 ^= self.0 << 17;
+        self.0.wrapping_mul(0x9e3779b97f4a7c15).rotate_left(23)
+    }
+
+    pub fn below(&mut self, n: usize) -> usize {
+        (self.next() % n as u64) as usize
+    }
+
+    pub fn within(&mut self, range: Range<usize>) -> usize {
+        range.start + self.below(range.end - range.start)
+    }
+
+    // true so many times of a hundred
+    pub fn chance(&mut self, percent: usize) -> bool {
+        self.below(100) < percent
+    }
+}
+
+fn stream(bytes: &[u8]) -> Vec<u64> {
+    bytes
+        .chunks(8)
+        .map(|chunk| {
+            let mut word = [0; 8];
+            word[..chunk.len()].copy_from_slice(chunk);
+            u64::from_le_bytes(word)
+        })
+        .collect()
+}
+
+pub fn bytes_of(words: &[u64]) -> Vec<u8> {
+    words.iter().flat_map(|word| word.to_le_bytes()).collect()
+}
+
+fn name(random: &mut Random, lengths: Range<usize>) -> Vec<u8> {
+    let length = random.within(lengths);
+    (0..length).map(|_| b'a' + random.below(26) as u8).collect()
+}
+
+fn string_record(index: usize, text: &[u8]) -> Vec<u64> {
+    let body = stream(text);
+    let header = 2 | (1 + body.len() as u64) << 4 | (index as u64) << 16 | (text.len() as u64) << 32;
+    [vec![header], body].concat()
+}
+
+fn thread_record(index: usize, words: [u64; 2]) -> Vec<u64> {
+    vec![3 | 3 << 4 | (index as u64) << 16, words[0], words[1]]
+}
+
+fn provider_record(id: u32, text: &[u8]) -> Vec<u64> {
+    let body = stream(text);
+    [vec![(1 + body.len() as u64) << 4 | 1 << 16 | (id as u64) << 20 | (text.len() as u64) << 52], body].concat()
+}
+
+fn section_record(id: u32) -> Vec<u64> {
+    vec![1 << 4 | 2 << 16 | (id as u64) << 20]
+}
+
+// What the events of an archive are drawn from.
+pub struct Style {
+    pub texts: Vec<Vec<u8>>,
+    pub threads: Vec<[u64; 2]>,
+    // of a hundred, how many references spell what they mean
+    pub inline: usize,
+    pub arguments: usize,
+}
+
+impl Style {
+    // A reference to a text, with its stream.
+    fn text(&self, random: &mut Random) -> (u64, Vec<u64>) {
+        let i = random.below(self.texts.len());
+        if random.chance(self.inline) {
+            return (0x8000 | self.texts[i].len() as u64, stream(&self.texts[i]));
+        }
+        (1 + i as u64, vec![])
+    }
+
+    fn argument(&self, random: &mut Random) -> Vec<u64> {
+        let (reference, mut body) = self.text(random);
+        let kind = random.below(10) as u64;
+        let mut high = 0;
+        match kind {
+            1 | 2 => high = random.next() >> 32,
+            3 | 4 | 5 | 7 | 8 => body.push(random.next() >> random.below(64)),
+            6 => {
+                let (value, stream) = self.text(random);
+                high = value;
+                body.extend(stream);
+            }
+            9 => high = random.next() & 1,
+            _ => {}
+        }
+        let header = kind | (1 + body.len() as u64) << 4 | reference << 16 | high << 32;
+        [vec![header], body].concat()
+    }
+
+    pub fn event(&self, random: &mut Random, time: u64) -> Vec<u64> {
+        let kind = random.below(11) as u64;
+        let count = random.below(self.arguments + 1) as u64;
+        let thread = random.below(self.threads.len());
+        let mut body = vec![time];
+        let mut reference = 1 + thread as u64;
+        if random.chance(self.inline) {
+            reference = 0;
+            body.extend(self.threads[thread]);
+        }
+        let (category, category_stream) = self.text(random);
+        let (name, name_stream) = self.text(random);
+        body.extend(category_stream);
+        body.extend(name_stream);
+        for _ in 0..count {
+            body.extend(self.argument(random));
+        }
+        if kind == 1 || kind > 3 {
+            body.push(random.next());
+        }
+        let header = 4 | (1 + body.len() as u64) << 4 | kind << 16 | count << 20 | reference << 24 | category << 32 | name << 48;
+        [vec![header], body].concat()
+    }
+}
+
+// A long archive: five providers, each with a hundred texts and twenty threads registered, and events in turns of a few hundred.
+pub fn long(bytes: usize, seed: u64, inline: usize, arguments: usize) -> Vec<u8> {
+    let mut random = Random(seed);
+    let ids = [7, 11, 900, 12_345, u32::MAX];
+    let mut words = vec![MAGIC, 1 | 2 << 4, 24_000_000];
+    let mut styles = vec![];
+    for id in ids {
+        let texts: Vec<Vec<u8>> = (0..100).map(|_| name(&mut random, 3..33)).collect();
+        let threads: Vec<[u64; 2]> = (0..20).map(|i| [1000 + i, 2000 + i]).collect();
+        words.extend(provider_record(id, &name(&mut random, 3..20)));
+        for (i, text) in texts.iter().enumerate() {
+            words.extend(string_record(i + 1, text));
+        }
+        for (i, thread) in threads.iter().enumerate() {
+            words.extend(thread_record(i + 1, *thread));
+        }
+        styles.push(Style { texts, threads, inline, arguments });
+    }
+    let mut time = 1_000_000;
+    while words.len() * 8 < bytes {
+        let provider = random.below(ids.len());
+        words.extend(section_record(ids[provider]));
+        for _ in 0..random.within(100..400) {
+            time += random.below(1000) as u64;
+            words.extend(styles[provider].event(&mut random, time));
+        }
+    }
+    bytes_of(&words)
+}
+
+// The records of a short archive of every kind, right ones and odd ones.
+pub fn records(random: &mut Random) -> Vec<Vec<u64>> {
+    let many = random.within(1..12);
+    let style = Style {
+        texts: (0..many).map(|_| name(random, 0..20)).collect(),
+        threads: (0..random.within(1..5)).map(|i| [i as u64, random.next() % 10]).collect(),
+        inline: random.below(101),
+        arguments: random.below(16),
+    };
+    let long_names = random.chance(10);
+    let ids = if random.chance(25) { 40 } else { 5 };
+    let mut records = vec![vec![MAGIC]];
+    for _ in 0..random.within(1..40) {
+        let index = random.within(1..many + 2);
+        let id = random.below(ids) as u32;
+        records.push(match random.below(40) {
+            0 => vec![1 | 2 << 4, random.next() % 5_000_000_000],
+            1 | 2 => provider_record(id, &name(random, 0..12)),
+            3..=5 => section_record(id),
+            6 => vec![1 << 4 | 3 << 16 | (id as u64) << 20 | (random.next() & 15) << 52],
+            7..=16 => string_record(index, &style.texts[index.min(many) - 1]),
+            17 if long_names => string_record(index, &name(random, 250..260)),
+            18..=21 => thread_record(random.within(1..6), [random.next() % 9, random.next() % 9]),
+            22 => string_record(0, b"ignored"),
+            23 => thread_record(0, [1, 2]),
+            24 => {
+                // a type, metadata kind or event type that is skipped
+                let size = random.within(1..5);
+                let mut words = vec![random.next() % 100; size];
+                words[0] = random.within(5..16) as u64 | (size as u64) << 4;
+                if random.chance(30) {
+                    words[0] = (size as u64) << 4 | (random.within(4..16) as u64) << 16 | (random.within(1..16) as u64) << 20;
+                } else if random.chance(30) {
+                    words[0] = 4 | (size as u64) << 4 | (random.within(11..16) as u64) << 16 | random.next() << 20;
+                }
+                words
+            }
+            25 => vec![MAGIC],
+            _ => {
+                let mut words = style.event(random, records.len() as u64);
+                if random.chance(5) {
+                    // words beyond those listed
+                    words.push(random.next());
+                    words[0] += 1 << 4;
+                }
+                words
+            }
+        });
+    }
+    if random.chance(5) {
+        records.push(string_record(random.within(505..520), &name(random, 0..9)));
+    }
+    records
+}
+
+// One damage to an archive: a cut, bytes, words, fields, sizes, records that change places.
+pub fn damaged(random: &mut Random, mut records: Vec<Vec<u64>>) -> Vec<u8> {
+    match random.below(6) {
+        0 => {
+            let mut bytes = bytes_of(&records.concat());
+            bytes.truncate(random.below(bytes.len() + 1));
+            bytes
+        }
+        1 => {
+            let mut bytes = bytes_of(&records.concat());
+            for _ in 0..random.within(1..5) {
+                let at = random.below(bytes.len());
+                bytes[at] = random.next() as u8;
+            }
+            bytes
+        }
+        2 => {
+            let mut words = records.concat();
+            for _ in 0..random.within(1..4) {
+                let at = random.below(words.len());
+                words[at] = match random.below(4) {
+                    0 => random.next(),
+                    1 => 0,
+                    2 => words[at] ^ 1 << random.below(64),
+                    _ => words[random.below(words.len())],
+                };
+            }
+            bytes_of(&words)
+        }
+        3 => {
+            for _ in 0..random.within(1..5) {
+                let (a, b) = (random.within(0..records.len()), random.within(0..records.len()));
+                records.swap(a, b);
+            }
+            if random.chance(80) {
+                records.insert(0, vec![MAGIC]);
+            }
+            bytes_of(&records.concat())
+        }
+        4 => {
+            // a size that is wrong, by a little or by much
+            let at = random.below(records.len());
+            let header = records[at][0];
+            let size = header >> 4 & 0xfff;
+            let wrong = match random.below(4) {
+                0 => random.next() & 0xfff,
+                1 => size + 1 + random.next() % 4,
+                2 => size.saturating_sub(1 + random.next() % 3),
+                _ => 0xfff,
+            } & 0xfff;
+            records[at][0] = header & !0xfff0 | wrong << 4;
+            bytes_of(&records.concat())
+        }
+        _ => {
+            // a header's field, or an argument's
+            let at = random.below(records.len());
+            let word = random.below(records[at].len().min(9));
+            let low = [0, 4, 16, 20, 24, 32, 48][random.below(7)];
+            let mask = 0xffff << low;
+            records[at][word] = records[at][word] & !mask | (random.next() & mask) & random.next();
+            if random.chance(30) {
+                records[at][0] = records[at][0] & !15 | random.next() & 15;
+            }
+            bytes_of(&records.concat())
+        }
+    }
+}
+
+// An archive with an event, and entries of the first context that name records where no reading would have left them:
+// in the body of a skipped record, aligned or not, or in the words behind the event's own.
+pub struct Planted {
+    pub archive: Vec<u8>,
+    pub entries: Vec<(usize, u32)>,
+    pub event: usize,
+    pub end: usize,
+}
+
+pub fn planted(random: &mut Random) -> Planted {
+    let many = random.within(1..5);
+    let style = Style {
+        texts: vec![b"text".to_vec(); many],
+        threads: vec![[1, 2]; many],
+        inline: random.below(50),
+        arguments: random.below(6),
+    };
+    let mut entries = vec![];
+    let mut body = vec![];
+    let mut event = style.event(random, 5);
+    let listed = event.len();
+    let base = if random.chance(20) { random.within(1..8) } else { 0 };
+    for i in 1..=many {
+        let (mut record, position) = if random.chance(70) {
+            let length = if random.chance(40) { random.within(250..264) } else { random.within(0..20) };
+            (string_record(i, &name(random, length..length + 1)), i)
+        } else {
+            (thread_record(i, [3, 4]), 512 + i)
+        };
+        match random.below(12) {
+            0 => record[0] += 1 << 16,
+            1 => record[0] ^= 1,
+            2 => record[0] -= 1 << 4,
+            3 => record[0] += (random.next() % 200) << 4,
+            4 => record[0] &= !0xfff0,
+            _ => {}
+        }
+        if random.chance(25) {
+            entries.push((position, false, event.len() * 8));
+            event.extend(record);
+        } else {
+            entries.push((position, true, body.len()));
+            body.extend(bytes_of(&record));
+        }
+    }
+    event[0] += ((event.len() - listed) as u64) << 4;
+    let mut inside = vec![0; base];
+    inside.extend(body);
+    let skipped = [vec![5], stream(&inside)].concat();
+    let mut words = vec![MAGIC];
+    words.extend(&skipped);
+    words[1] |= (skipped.len() as u64) << 4;
+    let place = words.len() * 8;
+    words.extend(&event);
+    Planted {
+        end: words.len() * 8,
+        archive: bytes_of(&words),
+        entries: entries
+            .into_iter()
+            .map(|(position, skipped, at)| (position, if skipped { 16 + base + at } else { place + at } as u32))
+            .collect(),
+        event: place,
+    }
+}
