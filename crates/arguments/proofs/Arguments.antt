@@ -1,17 +1,19 @@
 -- Laws of arguments: the name and then the value, where they stand, and what they cost. Assumes nothing.
 use Prim.Native.Nat.{ℕ, zero, suc, _+_, _-_, _%_, _≤_, _<_}
-use mathlib.Core.Path.{_≡_, refl, subst, ap}
+use mathlib.Core.Path.{_≡_, refl, subst, ap, _∙_}
 use mathlib.Core.List.{List, [], _∷_}
 use mathlib.Core.Bool.{Bool, true, false, _&&_}
 use native.Mathlib.Omega.{arith}
 use borrow.Author.Tests.{ltb-false, eqb-false}
 use lib.Dec.{eqb, ltb}
 use lib.ListN.{length, drop, length-drop}
-use Rattle.words.specs.Word.{wordAt, field}
+use Rattle.words.specs.Word.{pick, wordAt, field}
 use Rattle.format.specs.declared.Format.{Format}
 use Rattle.format.specs.declared.Reference.{Reference}
+use Rattle.format.specs.declared.Reference.the-variants.{Inline}
 use Rattle.format.specs.declared.Taken.{Taken}
 use Rattle.format.specs.declared.Taken.the-variants.{Refused as TextRefused, Part as TextRead}
+use Rattle.format.specs.Limits.{malformed}
 use Rattle.format.specs.Part.{words, takePart, takeText, takeWords, Body, refused as bodyRefused, body, prepend as prependPart, onTaken, onBody, takeParts, part, placeOf}
 use Rattle.format.proofs.Parts.{on-pick, inside-wider, Moves, text-moves}
 use Rattle.arguments.specs.declared.Value.{Value}
@@ -21,8 +23,12 @@ use Rattle.arguments.specs.declared.Valued.{Valued}
 use Rattle.arguments.specs.declared.Valued.the-variants.{Refused as ValueRefused, Value as ValueRead}
 use Rattle.arguments.specs.declared.Argued.{Argued}
 use Rattle.arguments.specs.declared.Argued.the-variants.{Refused, Argument as Read}
+use Rattle.arguments.specs.declared.ValueTaken.{ValueTaken}
+use Rattle.arguments.specs.declared.ValueTaken.the-variants.{Refused as ValueTextRefused, Text as ValueText}
+use Rattle.arguments.specs.declared.Texts.{Texts}
+use Rattle.arguments.specs.declared.Texts.the-variants.{Refused as TextsRefused, Texts as TextsRead}
 use Rattle.arguments.specs.declared.Walked.the-variants.{Refused as WalkRefused}
-use Rattle.arguments.specs.Argument.{argumentType, argumentSize, scalarWords, headerScalar, holdsWord, wordScalar, valueParts, valueOf, takeValue, argumentBody, argumentOf, Arguments, refused, arguments, prepend, onArgued, argumentsOf, walked, numberedOf}
+use Rattle.arguments.specs.Argument.{argumentType, argumentSize, scalarWords, headerScalar, holdsWord, wordScalar, valueParts, valueOf, takeValue, argumentBody, argumentOf, Arguments, refused, arguments, prepend, onArgued, textIn, textsOf, valueText, argumentsOf, walked, numberedOf}
 use Rattle.arguments.specs.Loss.{valueBytes, argumentBytes, ValueInside, Fits, argumentKeeps, argumentsKeep}
 
 -- a test and its two outcomes
@@ -65,6 +71,78 @@ name-then-value f rest place = go (takeText f (field 16 31 h) (place + 8) (place
         (onBody (takeParts f (valueParts h) next (place + argumentSize h)) ValueRefused (λ rs last. ValueRead (valueOf h rest place (part 0 rs)))))
     go (TextRefused number) = refl
     go (TextRead x next) = value-behind h rest place (argumentSize h) x (takeParts f (valueParts h) next (place + argumentSize h))
+
+-- ---- the texts alone
+
+-- an argument's texts whose name is read, by what its value's text is
+abbrev pub textsNamed : Reference → ℕ → ValueTaken → Texts
+textsNamed name size (ValueTextRefused number) = TextsRefused number
+textsNamed name size (ValueText value) = TextsRead name value size
+
+abbrev pub onNameTexts : Taken → (Reference → ℕ → Texts) → Texts
+onNameTexts (TextRefused number) then = TextsRefused number
+onNameTexts (TextRead name next) then = then name next
+
+-- the texts of an argument that is read, or its refusal
+abbrev pub textsIn : Argued → Texts
+textsIn r = onArgued r TextsRefused (λ a size. TextsRead (a .name) (textIn (a .value)) size)
+
+text-of-value : (header : ℕ) (rest : List ℕ) (place : ℕ) (r : Reference)
+    → textIn (valueOf header rest place r) ≡ pick (eqb (argumentType header) 6) r (Inline 0 0)
+text-of-value header rest place r =
+    cases (eqb (argumentType header) 6) (λ e. rw e) (λ e. cases (holdsWord (argumentType header)) (λ e′. rw (e, e′)) (λ e′. rw (e, e′)))
+
+-- the same texts, by the name and then the value's text
+pub name-then-text : (f : Format) (rest : List ℕ) (place : ℕ)
+    → textsOf f rest place
+    ≡ pick (ltb (length rest) 8) (TextsRefused malformed)
+    (pick (eqb (argumentSize (wordAt rest 0)) 0) (TextsRefused malformed)
+    (pick (ltb (length rest) (argumentSize (wordAt rest 0))) (TextsRefused malformed)
+    (onNameTexts (takeText f (field 16 31 (wordAt rest 0)) (place + 8) (place + argumentSize (wordAt rest 0)))
+    (λ name next. textsNamed name (argumentSize (wordAt rest 0)) (valueText f (wordAt rest 0) next (place + argumentSize (wordAt rest 0)))))))
+unfolding textsOf argumentOf takeValue valueText
+name-then-text f rest place =
+    cases (ltb (length rest) 8) (λ e. rw e)
+    (λ e₁. cases (eqb size 0) (λ e. rw (e₁, e))
+    (λ e₂. cases (ltb (length rest) size) (λ e. rw (e₁, e₂, e))
+    (λ e₃. rw (e₁, e₂, e₃, name-then-value f rest place) (of-name (takeText f (field 16 31 hd) (place + 8) (place + size))))))
+  where
+    hd : ℕ
+    hd = wordAt rest 0
+
+    size : ℕ
+    size = argumentSize hd
+
+    of-body : (name : Reference) (b : Body)
+        → textsIn (named name size (onBody b ValueRefused (λ rs next. ValueRead (valueOf hd rest place (part 0 rs)))))
+        ≡ textsNamed name size (onBody b ValueTextRefused (λ rs next. ValueText (pick (eqb (argumentType hd) 6) (part 0 rs) (Inline 0 0))))
+    of-body name (bodyRefused number) = refl
+    of-body name (body rs next) = ap (λ r. TextsRead name r size) (text-of-value hd rest place (part 0 rs))
+
+    of-name : (t : Taken)
+        → textsIn (onName t (λ name next. named name size (takeValue f rest place next (place + size))))
+        ≡ onNameTexts t (λ name next. textsNamed name size (valueText f hd next (place + size)))
+    of-name (TextRefused number) = refl
+    of-name (TextRead name next) = of-body name (takeParts f (valueParts hd) next (place + size))
+
+-- the argument behind its texts, and behind their refusal
+pub texts-read : (f : Format) (rest : List ℕ) (place : ℕ) (name value : Reference) (size : ℕ) → textsOf f rest place ≡ TextsRead name value size
+    → (a : Argument) × (argumentOf f rest place ≡ Read a size) × (a .name ≡ name) × (textIn (a .value) ≡ value)
+unfolding textsOf
+texts-read f rest place name value size e = go (argumentOf f rest place) refl e
+  where
+    go : (r : Argued) → argumentOf f rest place ≡ r → textsIn r ≡ TextsRead name value size
+        → (a : Argument) × (argumentOf f rest place ≡ Read a size) × (a .name ≡ name) × (textIn (a .value) ≡ value)
+    go (Refused number) q e = let z : _≡_ {A = ℕ} 0 1 = cc in absurd (omega arith)
+    go (Read a size′) q e = let z : size′ ≡ size = cc in (a, q ∙ ap (Read a) z, cc, cc)
+
+pub texts-refused : (f : Format) (rest : List ℕ) (place number : ℕ) → textsOf f rest place ≡ TextsRefused number → argumentOf f rest place ≡ Refused number
+unfolding textsOf
+texts-refused f rest place number e = go (argumentOf f rest place) refl e
+  where
+    go : (r : Argued) → argumentOf f rest place ≡ r → textsIn r ≡ TextsRefused number → argumentOf f rest place ≡ Refused number
+    go (Refused number′) q e = let z : number′ ≡ number = cc in q ∙ ap Refused z
+    go (Read a size) q e = cc
 
 -- ---- where they stand, and what they cost
 
@@ -161,6 +239,11 @@ argument-fits f rest place =
 -- the same of an argument that is known to be read
 pub argument-read : (f : Format) (rest : List ℕ) (place : ℕ) (a : Argument) (size : ℕ) → argumentOf f rest place ≡ Read a size → Fits rest place a size
 argument-read f rest place a size e = subst (ArgumentFits rest place) e (argument-fits f rest place)
+
+-- and by its texts alone
+pub texts-inside : (f : Format) (rest : List ℕ) (place : ℕ) (name value : Reference) (size : ℕ) → textsOf f rest place ≡ TextsRead name value size
+    → size ≤ length rest
+texts-inside f rest place name value size e = let q = texts-read f rest place name value size e in argument-read f rest place (q .0) size (q .1) .inside
 
 -- ---- all arguments of an event
 

@@ -8,6 +8,7 @@ use lib.Dec.{eqb, ltb}
 use Rattle.words.specs.Word.{pick, wordAt, field, signed}
 use Rattle.format.specs.declared.Format.{Format}
 use Rattle.format.specs.declared.Reference.{Reference}
+use Rattle.format.specs.declared.Reference.the-variants.{Inline}
 use Rattle.format.specs.Limits.{malformed}
 use Rattle.format.specs.Part.{Part, words, text, takeParts, onBody, part, placeOf}
 use Rattle.arguments.specs.declared.Scalar.{Scalar}
@@ -19,6 +20,10 @@ use Rattle.arguments.specs.declared.Valued.{Valued}
 use Rattle.arguments.specs.declared.Valued.the-variants.{Refused as ValueRefused, Value as ValueRead}
 use Rattle.arguments.specs.declared.Argued.{Argued}
 use Rattle.arguments.specs.declared.Argued.the-variants.{Refused, Argument as Read}
+use Rattle.arguments.specs.declared.ValueTaken.{ValueTaken}
+use Rattle.arguments.specs.declared.ValueTaken.the-variants.{Refused as ValueTextRefused, Text as ValueText}
+use Rattle.arguments.specs.declared.Texts.{Texts}
+use Rattle.arguments.specs.declared.Texts.the-variants.{Refused as TextsRefused, Texts as TextsRead}
 use Rattle.arguments.specs.declared.Walked.{Walked}
 use Rattle.arguments.specs.declared.Walked.the-variants.{Refused as WalkRefused, End}
 
@@ -111,6 +116,21 @@ prepend a (arguments l next) = arguments (a ∷ l) next
 abbrev pub onArgued : {A : Type 0} → Argued → (ℕ → A) → (Argument → ℕ → A) → A
 onArgued (Refused number) refuse then = refuse number
 onArgued (Read a size) refuse then = then a size
+
+-- the text of a value; an inline text of no bytes stands for none
+abbrev pub textIn : Value → Reference
+textIn (ScalarValue s) = Inline 0 0
+textIn (Text reference) = reference
+
+-- the texts of an argument alone, with its size
+unfoldable pub textsOf : Format → List ℕ → ℕ → Texts
+textsOf f rest place = onArgued (argumentOf f rest place) TextsRefused (λ a size. TextsRead (a .name) (textIn (a .value)) size)
+
+-- the text of the value alone, whose parts start at `at`
+unfoldable pub valueText : Format → ℕ → ℕ → ℕ → ValueTaken
+valueText f header at end =
+    onBody (takeParts f (valueParts header) at end) ValueTextRefused
+    (λ references next. ValueText (pick (eqb (argumentType header) 6) (part 0 references) (Inline 0 0)))
 
 unfoldable pub argumentsOf : Format → ℕ → List ℕ → ℕ → Arguments
 argumentsOf f zero rest place = arguments [] place

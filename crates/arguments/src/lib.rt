@@ -2,7 +2,7 @@
 ghost use mathlib.Core.Path.{_≡_};
 ghost use Prim.Native.Nat.{ℕ, _+_, _-_, _*_, _^_, _<_, _≤_};
 ghost use lib.ListN.{length};
-ghost use Rattle.arguments.specs.Argument.{scalarWords, headerScalar, wordScalar, holdsWord, takeValue, argumentOf, argumentsOf, walked, numberedOf};
+ghost use Rattle.arguments.specs.Argument.{scalarWords, headerScalar, wordScalar, holdsWord, takeValue, argumentOf, valueText, textsOf, argumentsOf, walked, numberedOf};
 ghost use Rattle.arguments.specs.Loss.{valueBytes, reservedBits, ValueInside, valuePaddingZero, Fits, argumentKeeps, argumentsKeep};
 use format::Format;
 use format::MALFORMED;
@@ -42,6 +42,22 @@ pub enum Valued {
 pub enum Argued {
     Refused(u8),
     Argument { argument: Argument, size: usize },
+}
+
+// The text of a value, or an inline reference of no bytes where it has none.
+pub enum ValueTaken {
+    Refused(u8),
+    Text(Reference),
+}
+
+// The texts of an argument, its name and that of its value, with its size in bytes.
+pub enum Texts {
+    Refused(u8),
+    Texts {
+        name: Reference,
+        value: Reference,
+        size: usize,
+    },
 }
 
 // Where an event's arguments end.
@@ -163,6 +179,72 @@ pub fn argument_of(f: Format, rest: &[u8], place: usize) -> Argued
     }
 }
 
+// The text of the value behind an argument's header, whose name ends at the place `at` and which ends at `end`. No scalar is made.
+fn value_text(f: Format, header: u64, at: usize, end: usize) -> ValueTaken
+    requires { ⌜ (at ≤ end) × (end < 2 ^ 63) ⌝ }
+    ensures { λ r. ⌜ r ≡ valueText f header at end ⌝ }
+{
+    let kind = words::field(header, 0, 3);
+    if kind == 6 {
+        let text = format::take_text(f, words::field(header, 32, 47), at, end);
+        match text {
+            Taken::Refused(number) => {
+                return ValueTaken::Refused(number);
+            }
+            Taken::Part { reference, next: _ } => {
+                return ValueTaken::Text(reference);
+            }
+        }
+    }
+    if holds_word(kind) {
+        if end < at + 8 {
+            return ValueTaken::Refused(MALFORMED);
+        }
+        return ValueTaken::Text(Reference::Inline {
+            place: 0,
+            length: 0,
+        });
+    }
+    ValueTaken::Text(Reference::Inline {
+        place: 0,
+        length: 0,
+    })
+}
+
+// The texts and the size of the argument at the start of what is left of an event, which stands at `place`.
+pub fn texts_of(f: Format, rest: &[u8], place: usize) -> Texts
+    requires { ⌜ place + length (now rest) < 2 ^ 63 ⌝ }
+    ensures { λ r. ⌜ r ≡ textsOf f (now (rest .entry)) place ⌝ }
+{
+    let room = rest.len();
+    if room < 8 {
+        return Texts::Refused(MALFORMED);
+    }
+    let header = words::word(rest, 0);
+    let size = 8 * words::field(header, 4, 15) as usize;
+    if size == 0 {
+        return Texts::Refused(MALFORMED);
+    }
+    if room < size {
+        return Texts::Refused(MALFORMED);
+    }
+    let end = place + size;
+    let named = format::take_text(f, words::field(header, 16, 31), place + 8, end);
+    match named {
+        Taken::Refused(number) => Texts::Refused(number),
+        Taken::Part {
+            reference: name,
+            next,
+        } => {
+            let valued = value_text(f, header, next, end);
+            match valued {
+                ValueTaken::Refused(number) => Texts::Refused(number),
+                ValueTaken::Text(value) => Texts::Texts { name, value, size },
+            }
+        }
+    }
+}
+
 // Where so many arguments end. Each is taken from the part that starts at it.
 pub fn walk(f: Format, part: &[u8], place: usize, count: usize) -> Walked
     requires { ⌜ place + length (now part) < 2 ^ 63 ⌝ }
@@ -172,12 +254,16 @@ pub fn walk(f: Format, part: &[u8], place: usize, count: usize) -> Walked
     let mut at = place;
     let mut left = count;
     while 0 < left {
-        let argued = argument_of(f, rest, at);
-        match argued {
-            Argued::Refused(number) => {
+        let texts = texts_of(f, rest, at);
+        match texts {
+            Texts::Refused(number) => {
                 return Walked::Refused(number);
             }
-            Argued::Argument { argument: _, size } => {
+            Texts::Texts {
+                name: _,
+                value: _,
+                size,
+            } => {
                 rest = &rest[size..];
                 at += size;
                 left -= 1;
@@ -196,12 +282,16 @@ pub fn numbered(f: Format, part: &[u8], place: usize, number: usize) -> Argued
     let mut at = place;
     let mut left = number;
     while 0 < left {
-        let argued = argument_of(f, rest, at);
-        match argued {
-            Argued::Refused(number) => {
+        let texts = texts_of(f, rest, at);
+        match texts {
+            Texts::Refused(number) => {
                 return Argued::Refused(number);
             }
-            Argued::Argument { argument: _, size } => {
+            Texts::Texts {
+                name: _,
+                value: _,
+                size,
+            } => {
                 rest = &rest[size..];
                 at += size;
                 left -= 1;

@@ -7,12 +7,13 @@ ghost use Rattle.format.specs.Limits.{smallFormat};
 ghost use Rattle.tables.specs.Table.{FormatFits, tableWords, highestOf};
 ghost use Rattle.contexts.specs.Context.{belongsTo};
 ghost use Rattle.records.specs.Record.{recordAt};
-ghost use Rattle.reader.specs.Shown.{isBad, shownText, shownThread, ThreadInside, shownEvent, valueBad, shownValue, argumentBad, argumentsFound};
+ghost use Rattle.reader.specs.Shown.{isBad, shownText, shownThread, ThreadInside, shownEvent, argumentsFound};
 ghost use Rattle.reader.specs.Step.{doorOf, stopping, enteringAs, registering, eventDecision, contentDecision, placeDecision, decisionOf, changed, openReply, openTables, stepReply, stepTables};
 ghost use Rattle.reader.specs.Ask.{shownArgument, askedEvent, askedPlace, argumentReply, partOf};
 use arguments::Argued;
 use arguments::Argument;
 use arguments::Scalar;
+use arguments::Texts;
 use arguments::Value;
 use contexts::Entered;
 use contexts::Provider;
@@ -165,46 +166,6 @@ fn shown_thread(archive: &[u8], r: Resolved) -> ShownThread
     }
 }
 
-// Whether an entry that an argument's value is looked up in does not belong.
-fn value_bad(
-    f: Format,
-    archive: &[u8],
-    tables: &[u32],
-    context: usize,
-    limit: usize,
-    value: Value,
-) -> bool
-    requires { ⌜ FormatFits f × (length (now archive) < 2 ^ 62) × (tableWords f ≤ length (now tables)) × (context ≤ 8) ⌝ }
-    ensures { λ r. ⌜ r ≡ valueBad f (now (archive .entry)) (now (tables .entry)) context limit value ⌝ }
-{
-    match value {
-        Value::Scalar(_) => false,
-        Value::Text(reference) => {
-            is_bad(tables::resolve(f, archive, tables, context, 2, reference, limit))
-        }
-    }
-}
-
-// Whether an entry that an argument is looked up in does not belong.
-fn argument_bad(
-    f: Format,
-    archive: &[u8],
-    tables: &[u32],
-    context: usize,
-    limit: usize,
-    argument: Argument,
-) -> bool
-    requires { ⌜ FormatFits f × (length (now archive) < 2 ^ 62) × (tableWords f ≤ length (now tables)) × (context ≤ 8) ⌝ }
-    ensures { λ r. ⌜ r ≡ argumentBad f (now (archive .entry)) (now (tables .entry)) context limit argument ⌝ }
-{
-    let name = argument.name;
-    let value = argument.value;
-    if is_bad(tables::resolve(f, archive, tables, context, 2, name, limit)) {
-        return true;
-    }
-    value_bad(f, archive, tables, context, limit, value)
-}
-
 // Whether every entry that so many arguments are looked up in belongs.
 fn arguments_found(
     f: Format,
@@ -223,13 +184,16 @@ fn arguments_found(
     let mut at = place;
     let mut left = count;
     while 0 < left {
-        let argued = arguments::argument_of(f, rest, at);
-        match argued {
-            Argued::Refused(_) => {
+        let texts = arguments::texts_of(f, rest, at);
+        match texts {
+            Texts::Refused(_) => {
                 return false;
             }
-            Argued::Argument { argument, size } => {
-                if argument_bad(f, archive, tables, context, limit, argument) {
+            Texts::Texts { name, value, size } => {
+                if is_bad(tables::resolve(f, archive, tables, context, 2, name, limit)) {
+                    return false;
+                }
+                if is_bad(tables::resolve(f, archive, tables, context, 2, value, limit)) {
                     return false;
                 }
                 rest = &rest[size..];
@@ -505,27 +469,25 @@ fn show_argument(f: Format, archive: &[u8], tables: &[u32], s: State, argument: 
     let context = s.current;
     let name = argument.name;
     let value = argument.value;
-    if argument_bad(f, archive, tables, context, place, argument) {
+    let named = tables::resolve(f, archive, tables, context, 2, name, place);
+    if is_bad(named) {
         return Asked::Refused { number: 4, place };
     }
-    let shown = shown_text(tables::resolve(f, archive, tables, context, 2, name, place));
     match value {
         Value::Scalar(scalar) => Asked::Argument(ShownArgument {
-            name: shown,
+            name: shown_text(named),
             value: ShownValue::Scalar(scalar),
         }),
-        Value::Text(reference) => Asked::Argument(ShownArgument {
-            name: shown,
-            value: ShownValue::Text(shown_text(tables::resolve(
-                f,
-                archive,
-                tables,
-                context,
-                2,
-                reference,
-                place,
-            ))),
-        }),
+        Value::Text(reference) => {
+            let held = tables::resolve(f, archive, tables, context, 2, reference, place);
+            if is_bad(held) {
+                return Asked::Refused { number: 4, place };
+            }
+            Asked::Argument(ShownArgument {
+                name: shown_text(named),
+                value: ShownValue::Text(shown_text(held)),
+            })
+        }
     }
 }
 

@@ -261,7 +261,7 @@ fn initialization_of(f: Format, source: &[u8], place: usize) -> Content
 }
 
 // A string record.
-fn string_of(f: Format, header: u64, place: usize, end: usize) -> Content
+pub fn string_of(f: Format, header: u64, place: usize, end: usize) -> Content
     requires { ⌜ place < 2 ^ 62 ⌝ }
     ensures { λ r. ⌜ r ≡ stringOf f header place end ⌝ }
 {
@@ -288,7 +288,7 @@ fn string_of(f: Format, header: u64, place: usize, end: usize) -> Content
 }
 
 // A thread record.
-fn thread_of(f: Format, header: u64, place: usize, end: usize) -> Content
+pub fn thread_of(f: Format, header: u64, place: usize, end: usize) -> Content
     requires { ⌜ place < 2 ^ 62 ⌝ }
     ensures { λ r. ⌜ r ≡ threadOf f header place end ⌝ }
 {

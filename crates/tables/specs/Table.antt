@@ -4,14 +4,14 @@ use mathlib.Core.List.{List, _++_}
 use mathlib.Core.Bool.{Bool, true, false, _&&_}
 use lib.ListN.{drop, getD, replicate}
 use lib.Dec.{eqb, leb, ltb}
-use Rattle.words.specs.Word.{pick}
+use Rattle.words.specs.Word.{pick, field}
 use Rattle.format.specs.declared.Format.{Format}
 use Rattle.format.specs.declared.Reference.{Reference}
 use Rattle.format.specs.declared.Reference.the-variants.{Inline, Index}
 use Rattle.records.specs.declared.Content.{Content}
 use Rattle.records.specs.declared.Content.the-variants.{Refused, Magic, ProviderInfo, Section, ProviderEvent, Initialization, String, Thread, Event, Ignored, Skipped}
 use Rattle.records.specs.declared.Record.{Record}
-use Rattle.records.specs.Record.{recordAt}
+use Rattle.records.specs.Record.{stringOf, threadOf, recordAt}
 use Rattle.tables.specs.declared.Registration.{Registration}
 use Rattle.tables.specs.declared.Registration.the-variants.{Nothing, Entry}
 use Rattle.tables.specs.declared.Resolved.{Resolved}
@@ -58,6 +58,17 @@ registrationOf (Skipped type size) = Nothing
 abbrev pub onRegistration : {A : Type 0} → Registration → A → (ℕ → ℕ → ℕ → ℕ → A) → A
 onRegistration Nothing none some = none
 onRegistration (Entry kind index place length) none some = some kind index place length
+
+-- what the record of this header registers, from `place` to `end`: only string and thread records do
+unfoldable pub registrationAt : Format → ℕ → ℕ → ℕ → Registration
+registrationAt f header place end =
+    pick (eqb (field 0 3 header) 2) (registrationOf (stringOf f header place end))
+    (pick (eqb (field 0 3 header) 3) (registrationOf (threadOf f header place end)) Nothing)
+
+-- what a registration stands for where one of this kind and index is wanted
+unfoldable pub belonging : ℕ → ℕ → Registration → Resolved
+belonging kind index r =
+    onRegistration r Bad (λ k i place length. pick (eqb k kind) (pick (eqb i index) (Known place length) Bad) Bad)
 
 -- number 4 for an entry: "set but is not the place, a multiple of 8, of a record of that kind and index that passes 7 and 6
 -- and ends at or before the state's place"

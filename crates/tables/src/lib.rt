@@ -3,7 +3,8 @@
 ghost use mathlib.Core.Path.{_≡_};
 ghost use Prim.Native.Nat.{ℕ, _+_, _*_, _^_, _<_, _≤_};
 ghost use lib.ListN.{length};
-ghost use Rattle.tables.specs.Table.{FormatFits, tableWords, highestOf, position, cleared, registrationOf, entryAt, resolved};
+ghost use Rattle.tables.specs.Table.{FormatFits, tableWords, highestOf, position, cleared, registrationOf, registrationAt, belonging, entryAt, resolved};
+use format::Extent;
 use format::Format;
 use format::Reference;
 use records::Content;
@@ -105,27 +106,25 @@ pub fn registration_of(content: Content) -> Registration
     }
 }
 
-// What a set entry stands for: the registration of this kind and index at its place, which ends at or before `limit`.
-fn entry_at(
-    f: Format,
-    archive: &[u8],
-    kind: u64,
-    index: usize,
-    entry: usize,
-    limit: usize,
-) -> Resolved
-    requires { ⌜ length (now archive) < 2 ^ 62 ⌝ }
-    ensures { λ r. ⌜ r ≡ entryAt f (now (archive .entry)) kind index entry limit ⌝ }
+// What the record of this header registers, from `place` to `end`.
+fn registration_at(f: Format, header: u64, place: usize, end: usize) -> Registration
+    requires { ⌜ place < 2 ^ 62 ⌝ }
+    ensures { λ r. ⌜ r ≡ registrationAt f header place end ⌝ }
 {
-    if entry % 8 != 0 {
-        return Resolved::Bad;
+    let kind = words::field(header, 0, 3);
+    if kind == 2 {
+        return registration_of(records::string_of(f, header, place, end));
     }
-    let record = records::record_at(f, archive, entry);
-    if limit < record.next {
-        return Resolved::Bad;
+    if kind == 3 {
+        return registration_of(records::thread_of(f, header, place, end));
     }
-    let content = record.content;
-    let registration = registration_of(content);
+    Registration::Nothing
+}
+
+// What a registration stands for where one of this kind and index is wanted.
+fn belonging(registration: Registration, kind: u64, index: usize) -> Resolved
+    ensures { λ r. ⌜ r ≡ belonging kind index registration ⌝ }
+{
     match registration {
         Registration::Nothing => Resolved::Bad,
         Registration::Entry {
@@ -141,6 +140,40 @@ fn entry_at(
                 return Resolved::Bad;
             }
             Resolved::Known { place, length }
+        }
+    }
+}
+
+// What a set entry stands for: the registration of this kind and index at its place, which ends at or before `limit`.
+// Only string and thread records register, so nothing but the extent of another record is read.
+fn entry_at(
+    f: Format,
+    archive: &[u8],
+    kind: u64,
+    index: usize,
+    entry: usize,
+    limit: usize,
+) -> Resolved
+    requires { ⌜ length (now archive) < 2 ^ 62 ⌝ }
+    ensures { λ r. ⌜ r ≡ entryAt f (now (archive .entry)) kind index entry limit ⌝ }
+{
+    if entry % 8 != 0 {
+        return Resolved::Bad;
+    }
+    if archive.len() < entry {
+        return Resolved::Bad;
+    }
+    let rest = &archive[entry..];
+    let extent = format::extent_of(rest);
+    match extent {
+        Extent::Refused(_) => Resolved::Bad,
+        Extent::Bytes(size) => {
+            let end = entry + size;
+            if limit < end {
+                return Resolved::Bad;
+            }
+            let registration = registration_at(f, words::word(rest, 0), entry, end);
+            belonging(registration, kind, index)
         }
     }
 }

@@ -5,7 +5,7 @@ use lib.ListN.{length, length-drop}
 use native.Mathlib.Omega.{arith}
 use Rattle.format.proofs.Headers.{part-from}
 use Rattle.arguments.specs.Argument.{numberedOf}
-use Rattle.arguments.proofs.Arguments.{number-turn, argument-read}
+use Rattle.arguments.proofs.Arguments.{number-turn, argument-read, texts-read, texts-refused, texts-inside}
 use borrow.Author.Needs.{needs}
 use Rattle.arguments.proofs.numbered.Statement.{statement}
 use Rattle.arguments.proofs.numbered.Tie as tie
@@ -20,23 +20,23 @@ loop-holds : tie.Need-loop-holds Inv-loop μ-loop
 loop-holds c = (refl, refl)
 
 returns : tie.Need-returns Inv-loop μ-loop
-returns c = sym (c .before .before .before .before .before .loop .inv .0 ∙ number-turn (c .before .before .before .before .before .before .before .args .f) (c .before .before .before .before .before .loop .left) (c .before .before .before .before .before .loop .rest .now) (c .before .before .before .before .before .loop .at) (c .before .before .before .before .loop-test .taken) ∙ simp (← c .before .before .before .argument-of .ensures, c .before .argued .given .1))
+returns c = sym (c .before .before .before .before .before .loop .inv .0 ∙ number-turn (c .before .before .before .before .before .before .before .args .f) (c .before .before .before .before .before .loop .left) (c .before .before .before .before .before .loop .rest .now) (c .before .before .before .before .before .loop .at) (c .before .before .before .before .loop-test .taken) ∙ simp (texts-refused (c .before .before .before .before .before .before .before .args .f) (c .before .before .before .before .before .loop .rest .now) (c .before .before .before .before .before .loop .at) (c .before .texts .given .0 .0) (sym (c .before .before .before .texts-of .ensures) ∙ c .before .texts .given .1)))
 
 sub-rest : tie.Need-sub-rest Inv-loop μ-loop
-sub-rest c = argument-read (c .before .before .before .before .before .before .before .args .f) (c .before .before .before .before .before .loop .rest .now) (c .before .before .before .before .before .loop .at) (c .before .argued2 .given .0 .0) (c .before .argued2 .given .0 .1 .0) (sym (c .before .before .before .argument-of .ensures) ∙ c .before .argued2 .given .1) .inside
+sub-rest c = texts-inside (c .before .before .before .before .before .before .before .args .f) (c .before .before .before .before .before .loop .rest .now) (c .before .before .before .before .before .loop .at) (c .before .texts2 .given .0 .0) (c .before .texts2 .given .0 .1 .0) (c .before .texts2 .given .0 .1 .1 .0) (sym (c .before .before .before .texts-of .ensures) ∙ c .before .texts2 .given .1)
 
 part-rest-start : tie.Need-part-rest-start Inv-loop μ-loop
-part-rest-start c = argument-read (c .before .before .before .before .before .before .before .args .f) (c .before .before .before .before .before .loop .rest .now) (c .before .before .before .before .before .loop .at) (c .before .argued2 .given .0 .0) (c .before .argued2 .given .0 .1 .0) (sym (c .before .before .before .argument-of .ensures) ∙ c .before .argued2 .given .1) .inside
+part-rest-start c = texts-inside (c .before .before .before .before .before .before .before .args .f) (c .before .before .before .before .before .loop .rest .now) (c .before .before .before .before .before .loop .at) (c .before .texts2 .given .0 .0) (c .before .texts2 .given .0 .1 .0) (c .before .texts2 .given .0 .1 .1 .0) (sym (c .before .before .before .texts-of .ensures) ∙ c .before .texts2 .given .1)
 
 add-at : tie.Need-add-at Inv-loop μ-loop
-add-at c = let s = argument-read (c .before .before .before .before .before .before .before .before .args .f) (c .before .before .before .before .before .before .loop .rest .now) (c .before .before .before .before .before .before .loop .at) (c .before .before .argued2 .given .0 .0) (c .before .before .argued2 .given .0 .1 .0) (sym (c .before .before .before .before .argument-of .ensures) ∙ c .before .before .argued2 .given .1) in omega (arith, s .inside, c .before .before .before .before .before .before .loop .inv .1)
+add-at c = let s = texts-inside (c .before .before .before .before .before .before .before .before .args .f) (c .before .before .before .before .before .before .loop .rest .now) (c .before .before .before .before .before .before .loop .at) (c .before .before .texts2 .given .0 .0) (c .before .before .texts2 .given .0 .1 .0) (c .before .before .texts2 .given .0 .1 .1 .0) (sym (c .before .before .before .before .texts-of .ensures) ∙ c .before .before .texts2 .given .1) in omega (arith, s, c .before .before .before .before .before .before .loop .inv .1)
 
 loop-again : tie.Need-loop-again Inv-loop μ-loop
-loop-again c = let s = argument-read (c .before .before .before .before .before .before .before .before .args .f) (c .before .before .before .before .before .before .loop .rest .now) (c .before .before .before .before .before .before .loop .at) (c .before .before .argued2 .given .0 .0) (c .before .before .argued2 .given .0 .1 .0) (sym (c .before .before .before .before .argument-of .ensures) ∙ c .before .before .argued2 .given .1) in (c .before .before .before .before .before .before .loop .inv .0 ∙ number-turn (c .before .before .before .before .before .before .before .before .args .f) (c .before .before .before .before .before .before .loop .left) (c .before .before .before .before .before .before .loop .rest .now) (c .before .before .before .before .before .before .loop .at) (c .before .before .before .before .before .loop-test .taken) ∙ simp (← c .before .before .before .before .argument-of .ensures, c .before .before .argued2 .given .1, part-from), simp part-from (omega (arith, s .inside, c .before .before .before .before .before .before .loop .inv .1, length-drop (c .before .before .argued2 .given .0 .1 .0) (c .before .before .before .before .before .before .loop .rest .now))))
+loop-again c = let q = texts-read (c .before .before .before .before .before .before .before .before .args .f) (c .before .before .before .before .before .before .loop .rest .now) (c .before .before .before .before .before .before .loop .at) (c .before .before .texts2 .given .0 .0) (c .before .before .texts2 .given .0 .1 .0) (c .before .before .texts2 .given .0 .1 .1 .0) (sym (c .before .before .before .before .texts-of .ensures) ∙ c .before .before .texts2 .given .1) in let s = argument-read (c .before .before .before .before .before .before .before .before .args .f) (c .before .before .before .before .before .before .loop .rest .now) (c .before .before .before .before .before .before .loop .at) (q .0) (c .before .before .texts2 .given .0 .1 .1 .0) (q .1) in (c .before .before .before .before .before .before .loop .inv .0 ∙ number-turn (c .before .before .before .before .before .before .before .before .args .f) (c .before .before .before .before .before .before .loop .left) (c .before .before .before .before .before .before .loop .rest .now) (c .before .before .before .before .before .before .loop .at) (c .before .before .before .before .before .loop-test .taken) ∙ simp (q .1, part-from), simp part-from (omega (arith, s .inside, c .before .before .before .before .before .before .loop .inv .1, length-drop (c .before .before .texts2 .given .0 .1 .1 .0) (c .before .before .before .before .before .before .loop .rest .now))))
 
 returns-2 : tie.Need-returns-2 Inv-loop μ-loop
 unfolding numberedOf
-returns-2 c = let z : c .before .before .loop .left ≡ 0 = omega arith in c .argument-of2 .ensures ∙ sym (c .before .before .loop .inv .0 ∙ rw z)
+returns-2 c = let z : c .before .before .loop .left ≡ 0 = omega arith in c .argument-of .ensures ∙ sym (c .before .before .loop .inv .0 ∙ rw z)
 
 pub numbered-spec : {M : Type 1} → statement M
 numbered-spec =

@@ -4,7 +4,7 @@ use mathlib.Core.Path.{_≡_, refl, sym, _∙_}
 use lib.ListN.{length, length-drop}
 use native.Mathlib.Omega.{arith}
 use Rattle.format.proofs.Headers.{part-from}
-use Rattle.arguments.proofs.Arguments.{argument-read}
+use Rattle.arguments.proofs.Arguments.{texts-inside}
 use Rattle.reader.specs.Shown.{argumentsFound}
 use Rattle.reader.proofs.Steps.{found-turn}
 use borrow.Author.Needs.{needs}
@@ -21,28 +21,32 @@ loop-holds : tie.Need-loop-holds Inv-loop μ-loop
 loop-holds c = (refl, refl)
 
 returns : tie.Need-returns Inv-loop μ-loop
-returns c = sym (c .before .before .before .before .loop .inv .0 ∙ found-turn (c .before .before .before .before .before .before .before .before .args .f) (c .before .before .before .before .before .before .before .before .args .archive .now) (c .before .before .before .before .before .before .before .before .args .tables .now) (c .before .before .before .before .before .before .before .before .args .context) (c .before .before .before .before .before .before .before .before .args .limit) (c .before .before .before .before .loop .left) (c .before .before .before .before .loop .rest .now) (c .before .before .before .before .loop .at) (c .before .before .before .loop-test .taken) ∙ simp (← c .before .before .argument-of .ensures, c .enum-told .given .1))
+returns c = sym (c .before .before .before .before .loop .inv .0 ∙ found-turn (c .before .before .before .before .before .before .before .before .args .f) (c .before .before .before .before .before .before .before .before .args .archive .now) (c .before .before .before .before .before .before .before .before .args .tables .now) (c .before .before .before .before .before .before .before .before .args .context) (c .before .before .before .before .before .before .before .before .args .limit) (c .before .before .before .before .loop .left) (c .before .before .before .before .loop .rest .now) (c .before .before .before .before .loop .at) (c .before .before .before .loop-test .taken) ∙ simp (← c .before .before .texts-of .ensures, c .enum-told .given .1))
 
 returns-2 : tie.Need-returns-2 Inv-loop μ-loop
-returns-2 c = sym (c .before .before .before .before .before .before .before .loop .inv .0 ∙ found-turn (c .before .before .before .before .before .before .before .before .before .before .before .args .f) (c .before .before .before .before .before .before .before .before .before .before .before .args .archive .now) (c .before .before .before .before .before .before .before .before .before .before .before .args .tables .now) (c .before .before .before .before .before .before .before .before .before .before .before .args .context) (c .before .before .before .before .before .before .before .before .before .before .before .args .limit) (c .before .before .before .before .before .before .before .loop .left) (c .before .before .before .before .before .before .before .loop .rest .now) (c .before .before .before .before .before .before .before .loop .at) (c .before .before .before .before .before .before .loop-test .taken) ∙ simp (← c .before .before .before .before .before .argument-of .ensures, c .before .before .before .argued .given .1, ← c .before .argument-bad .ensures, c .if1 .taken))
-
-sub-rest : tie.Need-sub-rest Inv-loop μ-loop
-sub-rest c = argument-read (c .before .before .before .before .before .before .before .before .before .before .before .args .f) (c .before .before .before .before .before .before .before .loop .rest .now) (c .before .before .before .before .before .before .before .loop .at) (c .before .before .before .argued .given .0 .0) (c .before .before .before .argued .given .0 .1 .0) (sym (c .before .before .before .before .before .argument-of .ensures) ∙ c .before .before .before .argued .given .1) .inside
-
-part-rest-start : tie.Need-part-rest-start Inv-loop μ-loop
-part-rest-start c = argument-read (c .before .before .before .before .before .before .before .before .before .before .before .args .f) (c .before .before .before .before .before .before .before .loop .rest .now) (c .before .before .before .before .before .before .before .loop .at) (c .before .before .before .argued .given .0 .0) (c .before .before .before .argued .given .0 .1 .0) (sym (c .before .before .before .before .before .argument-of .ensures) ∙ c .before .before .before .argued .given .1) .inside
-
-add-at : tie.Need-add-at Inv-loop μ-loop
-add-at c = let s = argument-read (c .before .before .before .before .before .before .before .before .before .before .before .before .args .f) (c .before .before .before .before .before .before .before .before .loop .rest .now) (c .before .before .before .before .before .before .before .before .loop .at) (c .before .before .before .before .argued .given .0 .0) (c .before .before .before .before .argued .given .0 .1 .0) (sym (c .before .before .before .before .before .before .argument-of .ensures) ∙ c .before .before .before .before .argued .given .1) in omega (arith, s .inside, c .before .before .before .before .before .before .before .before .loop .inv .1)
-
-loop-again : tie.Need-loop-again Inv-loop μ-loop
-loop-again c = let s = argument-read (c .before .before .before .before .before .before .before .before .before .before .before .before .args .f) (c .before .before .before .before .before .before .before .before .loop .rest .now) (c .before .before .before .before .before .before .before .before .loop .at) (c .before .before .before .before .argued .given .0 .0) (c .before .before .before .before .argued .given .0 .1 .0) (sym (c .before .before .before .before .before .before .argument-of .ensures) ∙ c .before .before .before .before .argued .given .1) in (c .before .before .before .before .before .before .before .before .loop .inv .0 ∙ found-turn (c .before .before .before .before .before .before .before .before .before .before .before .before .args .f) (c .before .before .before .before .before .before .before .before .before .before .before .before .args .archive .now) (c .before .before .before .before .before .before .before .before .before .before .before .before .args .tables .now) (c .before .before .before .before .before .before .before .before .before .before .before .before .args .context) (c .before .before .before .before .before .before .before .before .before .before .before .before .args .limit) (c .before .before .before .before .before .before .before .before .loop .left) (c .before .before .before .before .before .before .before .before .loop .rest .now) (c .before .before .before .before .before .before .before .before .loop .at) (c .before .before .before .before .before .before .before .loop-test .taken) ∙ simp (← c .before .before .before .before .before .before .argument-of .ensures, c .before .before .before .before .argued .given .1, ← c .before .before .argument-bad .ensures, c .before .if1 .left, part-from), simp part-from (omega (arith, s .inside, c .before .before .before .before .before .before .before .before .loop .inv .1, length-drop (c .before .before .before .before .argued .given .0 .1 .0) (c .before .before .before .before .before .before .before .before .loop .rest .now))))
+returns-2 c = sym (c .before .before .before .before .before .before .before .before .loop .inv .0 ∙ found-turn (c .before .before .before .before .before .before .before .before .before .before .before .before .args .f) (c .before .before .before .before .before .before .before .before .before .before .before .before .args .archive .now) (c .before .before .before .before .before .before .before .before .before .before .before .before .args .tables .now) (c .before .before .before .before .before .before .before .before .before .before .before .before .args .context) (c .before .before .before .before .before .before .before .before .before .before .before .before .args .limit) (c .before .before .before .before .before .before .before .before .loop .left) (c .before .before .before .before .before .before .before .before .loop .rest .now) (c .before .before .before .before .before .before .before .before .loop .at) (c .before .before .before .before .before .before .before .loop-test .taken) ∙ simp (← c .before .before .before .before .before .before .texts-of .ensures, c .before .before .before .before .texts .given .1, ← c .before .before .resolve .ensures, ← c .before .is-bad .ensures, c .if1 .taken))
 
 returns-3 : tie.Need-returns-3 Inv-loop μ-loop
+returns-3 c = sym (c .before .before .before .before .before .before .before .before .before .before .before .loop .inv .0 ∙ found-turn (c .before .before .before .before .before .before .before .before .before .before .before .before .before .before .before .args .f) (c .before .before .before .before .before .before .before .before .before .before .before .before .before .before .before .args .archive .now) (c .before .before .before .before .before .before .before .before .before .before .before .before .before .before .before .args .tables .now) (c .before .before .before .before .before .before .before .before .before .before .before .before .before .before .before .args .context) (c .before .before .before .before .before .before .before .before .before .before .before .before .before .before .before .args .limit) (c .before .before .before .before .before .before .before .before .before .before .before .loop .left) (c .before .before .before .before .before .before .before .before .before .before .before .loop .rest .now) (c .before .before .before .before .before .before .before .before .before .before .before .loop .at) (c .before .before .before .before .before .before .before .before .before .before .loop-test .taken) ∙ simp (← c .before .before .before .before .before .before .before .before .before .texts-of .ensures, c .before .before .before .before .before .before .before .texts .given .1, ← c .before .before .before .before .before .resolve .ensures, ← c .before .before .before .before .is-bad .ensures, c .before .before .before .if1 .left, ← c .before .before .resolve2 .ensures, ← c .before .is-bad2 .ensures, c .if2 .taken))
+
+sub-rest : tie.Need-sub-rest Inv-loop μ-loop
+sub-rest c = texts-inside (c .before .before .before .before .before .before .before .before .before .before .before .before .before .before .before .args .f) (c .before .before .before .before .before .before .before .before .before .before .before .loop .rest .now) (c .before .before .before .before .before .before .before .before .before .before .before .loop .at) (c .before .before .before .before .before .before .before .texts .given .0 .0) (c .before .before .before .before .before .before .before .texts .given .0 .1 .0) (c .before .before .before .before .before .before .before .texts .given .0 .1 .1 .0) (sym (c .before .before .before .before .before .before .before .before .before .texts-of .ensures) ∙ c .before .before .before .before .before .before .before .texts .given .1)
+
+part-rest-start : tie.Need-part-rest-start Inv-loop μ-loop
+part-rest-start c = texts-inside (c .before .before .before .before .before .before .before .before .before .before .before .before .before .before .before .args .f) (c .before .before .before .before .before .before .before .before .before .before .before .loop .rest .now) (c .before .before .before .before .before .before .before .before .before .before .before .loop .at) (c .before .before .before .before .before .before .before .texts .given .0 .0) (c .before .before .before .before .before .before .before .texts .given .0 .1 .0) (c .before .before .before .before .before .before .before .texts .given .0 .1 .1 .0) (sym (c .before .before .before .before .before .before .before .before .before .texts-of .ensures) ∙ c .before .before .before .before .before .before .before .texts .given .1)
+
+add-at : tie.Need-add-at Inv-loop μ-loop
+add-at c = let s = texts-inside (c .before .before .before .before .before .before .before .before .before .before .before .before .before .before .before .before .args .f) (c .before .before .before .before .before .before .before .before .before .before .before .before .loop .rest .now) (c .before .before .before .before .before .before .before .before .before .before .before .before .loop .at) (c .before .before .before .before .before .before .before .before .texts .given .0 .0) (c .before .before .before .before .before .before .before .before .texts .given .0 .1 .0) (c .before .before .before .before .before .before .before .before .texts .given .0 .1 .1 .0) (sym (c .before .before .before .before .before .before .before .before .before .before .texts-of .ensures) ∙ c .before .before .before .before .before .before .before .before .texts .given .1) in omega (arith, s, c .before .before .before .before .before .before .before .before .before .before .before .before .loop .inv .1)
+
+loop-again : tie.Need-loop-again Inv-loop μ-loop
+loop-again c = let s = texts-inside (c .before .before .before .before .before .before .before .before .before .before .before .before .before .before .before .before .args .f) (c .before .before .before .before .before .before .before .before .before .before .before .before .loop .rest .now) (c .before .before .before .before .before .before .before .before .before .before .before .before .loop .at) (c .before .before .before .before .before .before .before .before .texts .given .0 .0) (c .before .before .before .before .before .before .before .before .texts .given .0 .1 .0) (c .before .before .before .before .before .before .before .before .texts .given .0 .1 .1 .0) (sym (c .before .before .before .before .before .before .before .before .before .before .texts-of .ensures) ∙ c .before .before .before .before .before .before .before .before .texts .given .1) in (c .before .before .before .before .before .before .before .before .before .before .before .before .loop .inv .0 ∙ found-turn (c .before .before .before .before .before .before .before .before .before .before .before .before .before .before .before .before .args .f) (c .before .before .before .before .before .before .before .before .before .before .before .before .before .before .before .before .args .archive .now) (c .before .before .before .before .before .before .before .before .before .before .before .before .before .before .before .before .args .tables .now) (c .before .before .before .before .before .before .before .before .before .before .before .before .before .before .before .before .args .context) (c .before .before .before .before .before .before .before .before .before .before .before .before .before .before .before .before .args .limit) (c .before .before .before .before .before .before .before .before .before .before .before .before .loop .left) (c .before .before .before .before .before .before .before .before .before .before .before .before .loop .rest .now) (c .before .before .before .before .before .before .before .before .before .before .before .before .loop .at) (c .before .before .before .before .before .before .before .before .before .before .before .loop-test .taken) ∙ simp (← c .before .before .before .before .before .before .before .before .before .before .texts-of .ensures, c .before .before .before .before .before .before .before .before .texts .given .1, ← c .before .before .before .before .before .before .resolve .ensures, ← c .before .before .before .before .before .is-bad .ensures, c .before .before .before .before .if1 .left, ← c .before .before .before .resolve2 .ensures, ← c .before .before .is-bad2 .ensures, c .before .if2 .left, part-from), simp part-from (omega (arith, s, c .before .before .before .before .before .before .before .before .before .before .before .before .loop .inv .1, length-drop (c .before .before .before .before .before .before .before .before .texts .given .0 .1 .1 .0) (c .before .before .before .before .before .before .before .before .before .before .before .before .loop .rest .now))))
+
+returns-4 : tie.Need-returns-4 Inv-loop μ-loop
 unfolding argumentsFound
-returns-3 c = let z : c .before .loop .left ≡ 0 = omega arith in sym (c .before .loop .inv .0 ∙ rw z)
+returns-4 c = let z : c .before .loop .left ≡ 0 = omega arith in sym (c .before .loop .inv .0 ∙ rw z)
 
 pub arguments-found-spec : {M : Type 1} → statement M
 arguments-found-spec =
-    tie.close (tie.spec Inv-loop μ-loop loop-holds (λ c κs. search needs) (λ c. search needs) returns (λ c. search needs) (λ c κs. search needs) returns-2
-    sub-rest part-rest-start (λ c. search needs) add-at (λ c. search needs) (λ c. search needs) loop-again returns-3)
+    tie.close (tie.spec Inv-loop μ-loop loop-holds (λ c κs. search needs) (λ c. search needs) returns (λ c. search needs) (λ c κs. search needs)
+    (λ c κs. search needs) returns-2 (λ c κs. search needs) (λ c κs. search needs) returns-3 sub-rest part-rest-start (λ c. search needs)
+    add-at (λ c. search needs) (λ c. search needs) loop-again returns-4)

@@ -1,0 +1,37 @@
+-- `arguments::texts_of` meets its contract: each answer is what the definition gives under the tests that led there. Assumes nothing.
+use borrow.Author.Tests.{eq-eqb, ne-eqb, lt-ltb, le-ltb}
+use native.Mathlib.Omega.{arith}
+use mathlib.Core.Path.{sym, _∙_}
+use Prim.Native.Nat.{_+_, _*_}
+use Rattle.format.proofs.Parts.{text-taken}
+use Rattle.arguments.proofs.Arguments.{name-then-text}
+use borrow.Author.Needs.{needs}
+use Rattle.arguments.proofs.texts_of.Statement.{statement}
+use Rattle.arguments.proofs.texts_of.Tie as tie
+
+returns : tie.Need-returns
+returns c = simp (lt-ltb _ _ (c .if1 .taken), name-then-text)
+
+returns-2 : tie.Need-returns-2
+returns-2 c = simp (eq-eqb _ _ (c .if2 .taken), ← c .before .field .ensures, ← c .before .before .word .ensures, le-ltb _ _ (c .before .before .before .if1 .left), name-then-text)
+
+returns-3 : tie.Need-returns-3
+returns-3 c = simp (lt-ltb _ _ (c .if3 .taken), ne-eqb _ _ (c .before .if2 .left), ← c .before .before .field .ensures, ← c .before .before .before .word .ensures, le-ltb _ _ (c .before .before .before .before .if1 .left), name-then-text)
+
+value-text-requires : tie.Need-value-text-requires
+value-text-requires c κs = let m = text-taken (c .before .before .before .before .before .before .before .before .before .before .before .args .f) (c .before .before .before .before .field2 .result) (c .before .before .before .before .before .before .before .before .before .before .before .args .place + 8) (c .before .before .before .before .before .before .before .before .before .before .before .args .place + 8 * c .before .before .before .before .before .before .before .field .result) (c .before .named2 .given .0 .0) (c .before .named2 .given .0 .1 .0) (omega arith) (sym (c .before .before .before .take-text .ensures) ∙ c .before .named2 .given .1) in omega (arith, m .0, m .1)
+
+returns-4 : tie.Need-returns-4
+returns-4 c = simp (c .before .named .given .1, ← c .before .before .before .take-text .ensures, ← c .before .before .before .before .field2 .ensures, le-ltb _ _ (c .before .before .before .before .before .if3 .left), ne-eqb _ _ (c .before .before .before .before .before .before .if2 .left), ← c .before .before .before .before .before .before .before .field .ensures, ← c .before .before .before .before .before .before .before .before .word .ensures, le-ltb _ _ (c .before .before .before .before .before .before .before .before .before .if1 .left), name-then-text)
+
+returns-5 : tie.Need-returns-5
+returns-5 c = simp (c .before .valued .given .1, ← c .before .before .before .value-text .ensures, c .before .before .before .before .before .named2 .given .1, ← c .before .before .before .before .before .before .before .take-text .ensures, ← c .before .before .before .before .before .before .before .before .field2 .ensures, le-ltb _ _ (c .before .before .before .before .before .before .before .before .before .if3 .left), ne-eqb _ _ (c .before .before .before .before .before .before .before .before .before .before .if2 .left), ← c .before .before .before .before .before .before .before .before .before .before .before .field .ensures, ← c .before .before .before .before .before .before .before .before .before .before .before .before .word .ensures, le-ltb _ _ (c .before .before .before .before .before .before .before .before .before .before .before .before .before .if1 .left), name-then-text)
+
+returns-6 : tie.Need-returns-6
+returns-6 c = simp (c .before .valued2 .given .1, ← c .before .before .before .value-text .ensures, c .before .before .before .before .before .named2 .given .1, ← c .before .before .before .before .before .before .before .take-text .ensures, ← c .before .before .before .before .before .before .before .before .field2 .ensures, le-ltb _ _ (c .before .before .before .before .before .before .before .before .before .if3 .left), ne-eqb _ _ (c .before .before .before .before .before .before .before .before .before .before .if2 .left), ← c .before .before .before .before .before .before .before .before .before .before .before .field .ensures, ← c .before .before .before .before .before .before .before .before .before .before .before .before .word .ensures, le-ltb _ _ (c .before .before .before .before .before .before .before .before .before .before .before .before .before .if1 .left), name-then-text)
+
+pub texts-of-spec : {M : Type 1} → statement M
+texts-of-spec =
+    tie.close (tie.spec returns (λ c κs. search needs) (λ c κs. search needs) (λ c. search needs) returns-2 returns-3 (λ c. search needs) (λ c κs. search needs)
+    (λ c. search needs) (λ c κs. search needs) (λ c. search needs) (λ c. search needs) value-text-requires (λ c. search needs)
+    (λ c. search needs) returns-4 returns-5 returns-6)
