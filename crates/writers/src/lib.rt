@@ -1,0 +1,265 @@
+// Records, written into lent bytes at a place. Each function answers the place right behind what it wrote.
+ghost use mathlib.Core.Path.{_≡_};
+ghost use Prim.Native.Nat.{_+_, _*_, _^_, _<_, _≤_};
+ghost use mathlib.Core.List.{[], _∷_};
+ghost use lib.ListN.{length};
+ghost use Rattle.words.specs.Stream.{streamWords, written};
+ghost use Rattle.records.specs.Item.{thread as threadOf, magic, providerInfo, section, providerEvent, initialization};
+ghost use Rattle.records.specs.Written.{word as wordPart, referenceOf, partBytes, writtenArgument, stringRecord, threadRecord};
+ghost use Rattle.writers.specs.Part.{plainRecord, textPart, threadPart, eventHeader, argumentStart, textArgument};
+
+// The lowest 16 bits of a header: a type and a size in words.
+fn header(kind: u64, words: usize) -> u64
+    requires { ⌜ (kind < 2 ^ 4) × (words < 2 ^ 12) ⌝ }
+    ensures { λ r. ⌜ r ≡ kind + words * 2 ^ 4 ⌝ }
+{
+    words::with_field(kind, 4, 15, words as u64)
+}
+
+// The registration of a text.
+pub fn put_string_record(out: &mut [u8], place: usize, index: usize, bytes: &[u8]) -> usize
+    requires { ⌜ (index < 2 ^ 15) × (1 + streamWords (length (now bytes)) < 2 ^ 12) × (place + length (stringRecord index (now bytes)) ≤ length (now out)) ⌝ }
+    ensures { λ _. ⌜ now (out .exit) ≡ written (now (out .entry)) place (stringRecord index (now (bytes .entry))) ⌝ }
+    ensures { λ r. ⌜ r ≡ place + length (stringRecord index (now (bytes .entry))) ⌝ }
+{
+    let size = words::stream_words(bytes.len());
+    let indexed = words::with_field(header(2, 1 + size), 16, 30, index as u64);
+    let word = words::with_field(indexed, 32, 46, bytes.len() as u64);
+    words::put_word(out, place, word);
+    words::put_stream(out, place + 8, bytes);
+    place + 8 + size * 8
+}
+
+// The registration of a thread.
+pub fn put_thread_record(
+    out: &mut [u8],
+    place: usize,
+    index: usize,
+    process: u64,
+    thread: u64,
+) -> usize
+    requires { ⌜ (index < 2 ^ 8) × (place + length (threadRecord index (threadOf process thread)) ≤ length (now out)) ⌝ }
+    ensures { λ _. ⌜ now (out .exit) ≡ written (now (out .entry)) place (threadRecord index (threadOf process thread)) ⌝ }
+    ensures { λ r. ⌜ r ≡ place + length (threadRecord index (threadOf process thread)) ⌝ }
+{
+    words::put_word(
+        out,
+        place,
+        words::with_field(header(3, 3), 16, 23, index as u64),
+    );
+    words::put_word(out, place + 8, process);
+    words::put_word(out, place + 16, thread);
+    place + 24
+}
+
+// The magic.
+pub fn put_magic(out: &mut [u8], place: usize) -> usize
+    requires { ⌜ place + length (plainRecord magic) ≤ length (now out) ⌝ }
+    ensures { λ _. ⌜ now (out .exit) ≡ written (now (out .entry)) place (plainRecord magic) ⌝ }
+    ensures { λ r. ⌜ r ≡ place + length (plainRecord magic) ⌝ }
+{
+    words::put_stream(out, place, b"\x10\x00\x04\x46\x78\x54\x16\x00");
+    place + 8
+}
+
+// A provider's id and name.
+pub fn put_provider_info(out: &mut [u8], place: usize, id: u32, name: &[u8]) -> usize
+    requires { ⌜ (length (now name) < 2 ^ 8) × (place + length (plainRecord (providerInfo id (now name))) ≤ length (now out)) ⌝ }
+    ensures { λ _. ⌜ now (out .exit) ≡ written (now (out .entry)) place (plainRecord (providerInfo id (now (name .entry)))) ⌝ }
+    ensures { λ r. ⌜ r ≡ place + length (plainRecord (providerInfo id (now (name .entry)))) ⌝ }
+{
+    let size = words::stream_words(name.len());
+    let kind = words::with_field(header(0, 1 + size), 16, 19, 1);
+    let named = words::with_field(kind, 20, 51, id as u64);
+    let word = words::with_field(named, 52, 59, name.len() as u64);
+    words::put_word(out, place, word);
+    words::put_stream(out, place + 8, name);
+    place + 8 + size * 8
+}
+
+// The start of a provider's section.
+pub fn put_section(out: &mut [u8], place: usize, id: u32) -> usize
+    requires { ⌜ place + length (plainRecord (section id)) ≤ length (now out) ⌝ }
+    ensures { λ _. ⌜ now (out .exit) ≡ written (now (out .entry)) place (plainRecord (section id)) ⌝ }
+    ensures { λ r. ⌜ r ≡ place + length (plainRecord (section id)) ⌝ }
+{
+    let kind = words::with_field(header(0, 1), 16, 19, 2);
+    words::put_word(out, place, words::with_field(kind, 20, 51, id as u64));
+    place + 8
+}
+
+// What a provider reports of itself.
+pub fn put_provider_event(out: &mut [u8], place: usize, id: u32, event: u8) -> usize
+    requires { ⌜ (event < 2 ^ 4) × (place + length (plainRecord (providerEvent id event)) ≤ length (now out)) ⌝ }
+    ensures { λ _. ⌜ now (out .exit) ≡ written (now (out .entry)) place (plainRecord (providerEvent id event)) ⌝ }
+    ensures { λ r. ⌜ r ≡ place + length (plainRecord (providerEvent id event)) ⌝ }
+{
+    let kind = words::with_field(header(0, 1), 16, 19, 3);
+    let named = words::with_field(kind, 20, 51, id as u64);
+    words::put_word(out, place, words::with_field(named, 52, 55, event as u64));
+    place + 8
+}
+
+// The rate from here on.
+pub fn put_initialization(out: &mut [u8], place: usize, rate: u64) -> usize
+    requires { ⌜ place + length (plainRecord (initialization rate)) ≤ length (now out) ⌝ }
+    ensures { λ _. ⌜ now (out .exit) ≡ written (now (out .entry)) place (plainRecord (initialization rate)) ⌝ }
+    ensures { λ r. ⌜ r ≡ place + length (plainRecord (initialization rate)) ⌝ }
+{
+    words::put_word(out, place, header(1, 2));
+    words::put_word(out, place + 8, rate);
+    place + 16
+}
+
+// The reference of a text that is written by its index, or inline where that is 0.
+pub fn text_reference(index: usize, bytes: &[u8]) -> u64
+    ensures { λ r. ⌜ r ≡ referenceOf (textPart index (now (bytes .entry))) ⌝ }
+{
+    if index != 0 {
+        return index as u64;
+    }
+    if bytes.len() == 0 {
+        return 0;
+    }
+    0x8000 + bytes.len() as u64
+}
+
+// The words that such a text takes in a body.
+pub fn text_words(index: usize, bytes: &[u8]) -> usize
+    ensures { λ r. ⌜ r * 8 ≡ length (partBytes (textPart index (now (bytes .entry)))) ⌝ }
+{
+    if index != 0 {
+        return 0;
+    }
+    words::stream_words(bytes.len())
+}
+
+// Such a text, written in a body.
+pub fn put_text(out: &mut [u8], place: usize, index: usize, bytes: &[u8]) -> usize
+    requires { ⌜ place + length (partBytes (textPart index (now bytes))) ≤ length (now out) ⌝ }
+    ensures { λ _. ⌜ now (out .exit) ≡ written (now (out .entry)) place (partBytes (textPart index (now (bytes .entry)))) ⌝ }
+    ensures { λ r. ⌜ r ≡ place + length (partBytes (textPart index (now (bytes .entry)))) ⌝ }
+{
+    if index != 0 {
+        return place;
+    }
+    words::put_stream(out, place, bytes);
+    place + words::stream_words(bytes.len()) * 8
+}
+
+// A thread that is written by its index, or inline where that is 0; its reference is the index.
+pub fn put_thread(out: &mut [u8], place: usize, index: usize, process: u64, thread: u64) -> usize
+    requires { ⌜ place + length (partBytes (threadPart index (threadOf process thread))) ≤ length (now out) ⌝ }
+    ensures { λ _. ⌜ now (out .exit) ≡ written (now (out .entry)) place (partBytes (threadPart index (threadOf process thread))) ⌝ }
+    ensures { λ r. ⌜ r ≡ place + length (partBytes (threadPart index (threadOf process thread))) ⌝ }
+{
+    if index != 0 {
+        return place;
+    }
+    words::put_word(out, place, process);
+    words::put_word(out, place + 8, thread);
+    place + 16
+}
+
+// An event's header of this size in words, with its count of arguments and its references.
+pub fn put_event_header(
+    out: &mut [u8],
+    place: usize,
+    size: usize,
+    kind: u8,
+    count: usize,
+    thread: usize,
+    category: u64,
+    name: u64,
+) -> usize
+    requires { ⌜ (size < 2 ^ 12) × (kind < 2 ^ 4) × (count < 2 ^ 4) × (thread < 2 ^ 8) × (category < 2 ^ 16) × (name < 2 ^ 16) × (place + 8 ≤ length (now out)) ⌝ }
+    ensures { λ _. ⌜ now (out .exit) ≡ written (now (out .entry)) place (eventHeader size kind count thread category name) ⌝ }
+    ensures { λ r. ⌜ r ≡ place + 8 ⌝ }
+{
+    let kinded = words::with_field(header(4, size), 16, 19, kind as u64);
+    let counted = words::with_field(kinded, 20, 23, count as u64);
+    let threaded = words::with_field(counted, 24, 31, thread as u64);
+    let sorted = words::with_field(threaded, 32, 47, category);
+    words::put_word(out, place, words::with_field(sorted, 48, 63, name));
+    place + 8
+}
+
+// An argument's header and name, where so many words follow them.
+fn put_argument_start(
+    out: &mut [u8],
+    place: usize,
+    kind: u64,
+    more: usize,
+    half: u64,
+    index: usize,
+    name: &[u8],
+) -> usize
+    requires { ⌜ (kind < 2 ^ 4) × (half < 2 ^ 32) × (index < 2 ^ 15) × (length (now name) < 2 ^ 15) ⌝ }
+    requires { ⌜ (length (argumentStart kind more half (textPart index (now name))) + more * 8 < 2 ^ 15) × (place + length (argumentStart kind more half (textPart index (now name))) ≤ length (now out)) ⌝ }
+    ensures { λ _. ⌜ now (out .exit) ≡ written (now (out .entry)) place (argumentStart kind more half (textPart index (now (name .entry)))) ⌝ }
+    ensures { λ r. ⌜ r ≡ place + length (argumentStart kind more half (textPart index (now (name .entry)))) ⌝ }
+{
+    let named = words::with_field(
+        header(kind, 1 + text_words(index, name) + more),
+        16,
+        31,
+        text_reference(index, name),
+    );
+    words::put_word(out, place, words::with_field(named, 32, 63, half));
+    put_text(out, place + 8, index, name)
+}
+
+// An argument whose value stands in its header.
+pub fn put_short_argument(
+    out: &mut [u8],
+    place: usize,
+    kind: u64,
+    half: u64,
+    index: usize,
+    name: &[u8],
+) -> usize
+    requires { ⌜ (kind < 2 ^ 4) × (half < 2 ^ 32) × (index < 2 ^ 15) × (length (now name) < 2 ^ 15) ⌝ }
+    requires { ⌜ (length (writtenArgument kind half (textPart index (now name)) []) < 2 ^ 15) × (place + length (writtenArgument kind half (textPart index (now name)) []) ≤ length (now out)) ⌝ }
+    ensures { λ _. ⌜ now (out .exit) ≡ written (now (out .entry)) place (writtenArgument kind half (textPart index (now (name .entry))) []) ⌝ }
+    ensures { λ r. ⌜ r ≡ place + length (writtenArgument kind half (textPart index (now (name .entry))) []) ⌝ }
+{
+    put_argument_start(out, place, kind, 0, half, index, name)
+}
+
+// An argument whose value is a word behind its name.
+pub fn put_word_argument(
+    out: &mut [u8],
+    place: usize,
+    kind: u64,
+    word: u64,
+    index: usize,
+    name: &[u8],
+) -> usize
+    requires { ⌜ (kind < 2 ^ 4) × (index < 2 ^ 15) × (length (now name) < 2 ^ 15) ⌝ }
+    requires { ⌜ (length (writtenArgument kind 0 (textPart index (now name)) (wordPart word ∷ [])) < 2 ^ 15) × (place + length (writtenArgument kind 0 (textPart index (now name)) (wordPart word ∷ [])) ≤ length (now out)) ⌝ }
+    ensures { λ _. ⌜ now (out .exit) ≡ written (now (out .entry)) place (writtenArgument kind 0 (textPart index (now (name .entry))) (wordPart word ∷ [])) ⌝ }
+    ensures { λ r. ⌜ r ≡ place + length (writtenArgument kind 0 (textPart index (now (name .entry))) (wordPart word ∷ [])) ⌝ }
+{
+    let behind = put_argument_start(out, place, kind, 1, 0, index, name);
+    words::put_word(out, behind, word);
+    behind + 8
+}
+
+// An argument whose value is a text.
+pub fn put_text_argument(
+    out: &mut [u8],
+    place: usize,
+    index: usize,
+    name: &[u8],
+    key: usize,
+    text: &[u8],
+) -> usize
+    requires { ⌜ (index < 2 ^ 15) × (length (now name) < 2 ^ 15) × (key < 2 ^ 15) × (length (now text) < 2 ^ 15) ⌝ }
+    requires { ⌜ (length (textArgument (textPart index (now name)) (textPart key (now text))) < 2 ^ 15) × (place + length (textArgument (textPart index (now name)) (textPart key (now text))) ≤ length (now out)) ⌝ }
+    ensures { λ _. ⌜ now (out .exit) ≡ written (now (out .entry)) place (textArgument (textPart index (now (name .entry))) (textPart key (now (text .entry)))) ⌝ }
+    ensures { λ r. ⌜ r ≡ place + length (textArgument (textPart index (now (name .entry))) (textPart key (now (text .entry)))) ⌝ }
+{
+    let more = text_words(key, text);
+    let behind = put_argument_start(out, place, 6, more, text_reference(key, text), index, name);
+    put_text(out, behind, key, text)
+}
