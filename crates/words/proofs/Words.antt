@@ -39,11 +39,19 @@ pub word-bytes : (bytes : List ℕ) (place : ℕ)
 unfolding wordAt little
 word-bytes bytes place = simp (getD-drop, add-zero) (omega arith)
 
+-- every number of a list is a byte
+abbrev pub AllBytes : List ℕ → Type 0
+AllBytes bytes = (i : ℕ) → getD bytes i 0 < 256
+
+-- what is left of bytes is bytes
+pub bytes-left : (n : ℕ) (bytes : List ℕ) → AllBytes bytes → AllBytes (drop n bytes)
+bytes-left n bytes h i = rw (getD-drop n bytes i 0) (h (n + i))
+
 -- bytes spell a number of as many bytes
-pub little-lt : (k : ℕ) (bytes : List ℕ) → ((i : ℕ) → getD bytes i 0 < 256) → little k bytes < 256 ^ k
+pub little-lt : (k : ℕ) (bytes : List ℕ) → AllBytes bytes → little k bytes < 256 ^ k
 unfolding little
 little-lt zero bytes h = omega arith
-little-lt (suc k) bytes h = omega (arith, h 0, little-lt k (drop 1 bytes) (λ i. rw (getD-drop 1 bytes i 0) (h (1 + i))))
+little-lt (suc k) bytes h = omega (arith, h 0, little-lt k (drop 1 bytes) (bytes-left 1 bytes h))
 
 -- k bytes spell the same number wherever those k bytes are the same
 pub little-same : (k : ℕ) (a b : List ℕ) → ((i : ℕ) → i < k → getD a i 0 ≡ getD b i 0) → little k a ≡ little k b
@@ -56,9 +64,9 @@ little-same (suc k) a b h =
     )
 
 -- a word of bytes has 64 bits
-pub wordAt-lt : (bytes : List ℕ) (place : ℕ) → ((i : ℕ) → getD bytes i 0 < 256) → wordAt bytes place < 2 ^ 64
+pub wordAt-lt : (bytes : List ℕ) (place : ℕ) → AllBytes bytes → wordAt bytes place < 2 ^ 64
 unfolding wordAt
-wordAt-lt bytes place h = little-lt 8 (drop place bytes) (λ i. rw (getD-drop place bytes i 0) (h (place + i)))
+wordAt-lt bytes place h = little-lt 8 (drop place bytes) (bytes-left place bytes h)
 
 -- a word of what is left behind a place
 pub wordAt-drop : (bytes : List ℕ) (a b : ℕ) → wordAt (drop a bytes) b ≡ wordAt bytes (a + b)

@@ -13,19 +13,28 @@ fn byte(bytes: &[u8], place: usize) -> u64
     bytes[place] as u64
 }
 
-// The word at a byte place. Every word of an archive is read here, so the byte order is decided here alone.
+// The word of the first eight bytes. Every word of an archive is read here, so the byte order is decided here alone.
+// Its indexes are literals, so that the eight bytes become one load wherever they stand.
+fn first_word(bytes: &[u8]) -> u64
+    requires { ⌜ 8 ≤ length (now bytes) ⌝ }
+    ensures { λ r. ⌜ r ≡ wordAt (now (bytes .entry)) 0 ⌝ }
+{
+    byte(bytes, 0)
+        | (byte(bytes, 1) << 8)
+        | (byte(bytes, 2) << 16)
+        | (byte(bytes, 3) << 24)
+        | (byte(bytes, 4) << 32)
+        | (byte(bytes, 5) << 40)
+        | (byte(bytes, 6) << 48)
+        | (byte(bytes, 7) << 56)
+}
+
+// The word at a byte place.
 pub fn word(bytes: &[u8], place: usize) -> u64
     requires { ⌜ place + 8 ≤ length (now bytes) ⌝ }
     ensures { λ r. ⌜ r ≡ wordAt (now (bytes .entry)) place ⌝ }
 {
-    byte(bytes, place)
-        | (byte(bytes, place + 1) << 8)
-        | (byte(bytes, place + 2) << 16)
-        | (byte(bytes, place + 3) << 24)
-        | (byte(bytes, place + 4) << 32)
-        | (byte(bytes, place + 5) << 40)
-        | (byte(bytes, place + 6) << 48)
-        | (byte(bytes, place + 7) << 56)
+    first_word(&bytes[place..place + 8])
 }
 
 fn byte_of(word: u64, low: u32) -> u8
@@ -128,13 +137,11 @@ pub fn put_stream(out: &mut [u8], place: usize, bytes: &[u8])
     fill_zero(out, place + n, stream_words(n) * 8 - n);
 }
 
-// Whether two byte slices are the same.
-pub fn same_bytes(a: &[u8], b: &[u8]) -> bool
+// Whether two byte slices of one length are the same, byte by byte.
+fn same_each(a: &[u8], b: &[u8]) -> bool
+    requires { ⌜ length (now a) ≡ length (now b) ⌝ }
     ensures { λ r. ⌜ r ≡ sameBytes (now (a .entry)) (now (b .entry)) ⌝ }
 {
-    if a.len() != b.len() {
-        return false;
-    }
     let mut i = 0;
     while i < a.len() {
         if a[i] != b[i] {
@@ -143,6 +150,27 @@ pub fn same_bytes(a: &[u8], b: &[u8]) -> bool
         i += 1;
     }
     true
+}
+
+// Whether two byte slices are the same: word by word, where the last word may overlap the one before it.
+pub fn same_bytes(a: &[u8], b: &[u8]) -> bool
+    ensures { λ r. ⌜ r ≡ sameBytes (now (a .entry)) (now (b .entry)) ⌝ }
+{
+    if a.len() != b.len() {
+        return false;
+    }
+    if a.len() < 8 {
+        return same_each(a, b);
+    }
+    let last = a.len() - 8;
+    let mut i = 0;
+    while i < last {
+        if word(a, i) != word(b, i) {
+            return false;
+        }
+        i += 8;
+    }
+    word(a, last) == word(b, last)
 }
 
 // Whether all bytes are zero.
