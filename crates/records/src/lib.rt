@@ -86,7 +86,7 @@ pub enum Extra {
 }
 
 // Whether events of this type have one more word.
-fn has_extra(kind: u64) -> bool
+pub fn has_extra(kind: u64) -> bool
     ensures { λ r. ⌜ r ≡ hasExtra kind ⌝ }
 {
     if kind == 1 {
@@ -369,7 +369,7 @@ pub fn record_at(f: Format, archive: &[u8], place: usize) -> Record
 }
 
 // The bytes of the extra word of events of this type.
-fn extra_bytes(kind: u64) -> usize
+pub fn extra_bytes(kind: u64) -> usize
     ensures { λ r. ⌜ r ≡ extraBytes kind ⌝ }
 {
     if has_extra(kind) {

@@ -36,7 +36,7 @@ pub fn table_words(f: Format) -> usize
 }
 
 // The highest index of a table.
-fn highest_of(f: Format, kind: u64) -> usize
+pub fn highest_of(f: Format, kind: u64) -> usize
     ensures { λ r. ⌜ r ≡ highestOf f kind ⌝ }
 {
     if kind == 3 {
