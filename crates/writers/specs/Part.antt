@@ -5,8 +5,9 @@ use mathlib.Core.List.{List, [], _∷_, _++_}
 use lib.ListN.{length}
 use lib.Dec.{eqb}
 use Rattle.words.specs.Word.{pick, bytesOf, _of_, pack}
+use Rattle.arguments.specs.declared.Scalar.{Scalar}
 use Rattle.records.specs.Item.{Thread, Item}
-use Rattle.records.specs.Written.{Written, textIndex, threadIndex, textInline, threadInline, referenceOf, partBytes, writtenArgument, itemRecord}
+use Rattle.records.specs.Written.{Written, textIndex, threadIndex, textInline, threadInline, referenceOf, partBytes, scalarType, scalarHalf, scalarParts, writtenArgument, itemRecord}
 
 -- the record of an item that uses no text and no thread, so that no key's index matters
 abbrev pub plainRecord : Item → List ℕ
@@ -34,3 +35,7 @@ argumentStart type more half name =
 -- an argument whose value is a text
 abbrev pub textArgument : (name text : Written) → List ℕ
 textArgument name text = writtenArgument 6 (referenceOf text) name (text ∷ [])
+
+-- an argument whose value is no text
+abbrev pub scalarArgument : (name : Written) → Scalar → List ℕ
+scalarArgument name s = writtenArgument (scalarType s) (scalarHalf s) name (scalarParts s)

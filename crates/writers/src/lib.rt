@@ -5,8 +5,9 @@ ghost use mathlib.Core.List.{[], _∷_};
 ghost use lib.ListN.{length};
 ghost use Rattle.words.specs.Stream.{streamWords, written};
 ghost use Rattle.records.specs.Item.{thread as threadOf, magic, providerInfo, section, providerEvent, initialization};
-ghost use Rattle.records.specs.Written.{word as wordPart, referenceOf, partBytes, writtenArgument, stringRecord, threadRecord};
-ghost use Rattle.writers.specs.Part.{plainRecord, textPart, threadPart, eventHeader, argumentStart, textArgument};
+ghost use Rattle.records.specs.Written.{word as wordPart, referenceOf, partBytes, unsigned, bit, scalarType, writtenArgument, stringRecord, threadRecord};
+ghost use Rattle.writers.specs.Part.{plainRecord, textPart, threadPart, eventHeader, argumentStart, textArgument, scalarArgument};
+use arguments::Scalar;
 
 // The lowest 16 bits of a header: a type and a size in words.
 fn header(kind: u64, words: usize) -> u64
@@ -262,4 +263,61 @@ pub fn put_text_argument(
     let more = text_words(key, text);
     let behind = put_argument_start(out, place, 6, more, text_reference(key, text), index, name);
     put_text(out, behind, key, text)
+}
+
+// The bits of a signed number, as the high half of a header holds them.
+fn unsigned_half(n: i32) -> u64
+    ensures { λ r. ⌜ (r ≡ unsigned 32 n) × (r < 2 ^ 32) ⌝ }
+{
+    if n < 0 {
+        return 0xffff_ffff - (-1 - n) as u64;
+    }
+    n as u64
+}
+
+// The bits of a signed number, as a word holds them.
+fn unsigned_word(n: i64) -> u64
+    ensures { λ r. ⌜ r ≡ unsigned 64 n ⌝ }
+{
+    if n < 0 {
+        return 0xffff_ffff_ffff_ffff - (-1 - n) as u64;
+    }
+    n as u64
+}
+
+// A truth value, as the high half of a header holds it.
+fn boolean_half(b: bool) -> u64
+    ensures { λ r. ⌜ (r ≡ bit b) × (r < 2) ⌝ }
+{
+    if b {
+        return 1;
+    }
+    0
+}
+
+// An argument whose value is no text.
+pub fn put_scalar_argument(
+    out: &mut [u8],
+    place: usize,
+    scalar: Scalar,
+    index: usize,
+    name: &[u8],
+) -> usize
+    requires { ⌜ (scalarType scalar < 2 ^ 4) × (index < 2 ^ 15) × (length (now name) < 2 ^ 15) ⌝ }
+    requires { ⌜ (length (scalarArgument (textPart index (now name)) scalar) < 2 ^ 15) × (place + length (scalarArgument (textPart index (now name)) scalar) ≤ length (now out)) ⌝ }
+    ensures { λ _. ⌜ now (out .exit) ≡ written (now (out .entry)) place (scalarArgument (textPart index (now (name .entry))) scalar) ⌝ }
+    ensures { λ r. ⌜ r ≡ place + length (scalarArgument (textPart index (now (name .entry))) scalar) ⌝ }
+{
+    match scalar {
+        Scalar::Null => put_short_argument(out, place, 0, 0, index, name),
+        Scalar::Signed32(n) => put_short_argument(out, place, 1, unsigned_half(n), index, name),
+        Scalar::Unsigned32(n) => put_short_argument(out, place, 2, n as u64, index, name),
+        Scalar::Signed64(n) => put_word_argument(out, place, 3, unsigned_word(n), index, name),
+        Scalar::Unsigned64(n) => put_word_argument(out, place, 4, n, index, name),
+        Scalar::Double(n) => put_word_argument(out, place, 5, n, index, name),
+        Scalar::Pointer(n) => put_word_argument(out, place, 7, n, index, name),
+        Scalar::KernelObject(n) => put_word_argument(out, place, 8, n, index, name),
+        Scalar::Boolean(b) => put_short_argument(out, place, 9, boolean_half(b), index, name),
+        Scalar::Unknown(kind) => put_short_argument(out, place, kind as u64, 0, index, name),
+    }
 }
