@@ -1,0 +1,198 @@
+-- Laws of a search for a key in the slots of a table: what it finds is so, and it goes on to find it when other words change. Assumes nothing.
+use Prim.Native.Nat.{ℕ, zero, suc, _+_, _-_, _*_, _/_, _^_, _<_}
+use mathlib.Core.Path.{_≡_, refl, ap, subst, _∙_}
+use mathlib.Core.List.{List}
+use mathlib.Core.Bool.{Bool, true, false}
+use mathlib.Core.Logic.{_⊎_, inl, inr, ⊎-elim}
+use native.Mathlib.Omega.{arith}
+use native.Mathlib.Nat.{mod-lt, mul-lt-mul-of-pos-right, div-lt-iff-lt-mul}
+use lib.Dec.{ltb}
+use lib.Pow.{pow-pos}
+use borrow.Author.Tests.{ltb-true, ltb-false}
+use Rattle.words.specs.Stream.{sameBytes}
+use Rattle.words.proofs.Same.{same-true, same-refl}
+use Rattle.arguments.proofs.Arguments.{cases}
+use Rattle.tally.specs.declared.Slot.{Slot}
+use Rattle.tally.specs.declared.Slot.the-variants.{Here, Free, Full}
+use Rattle.tally.specs.Slots.{placeAt, labelAt, isFree, keyAt, startOf, nextOf, probe, seek, findOf}
+
+-- ---- searches by two tests
+
+-- the slot after a slot is a slot
+next-low : (slots s : ℕ) → s < slots → nextOf slots s < slots
+unfolding nextOf
+next-low slots s h = cases (ltb (s + 1) slots) (λ e. rw e (ltb-true (s + 1) slots e)) (λ e. rw e (omega arith))
+
+-- what it means that a slot is found
+abbrev Right : (ℕ → Bool) → (ℕ → Bool) → ℕ → Slot → Type 0
+Right free mine slots (Here s) = (s < slots) × (free s ≡ false) × (mine s ≡ true)
+Right free mine slots (Free s) = (s < slots) × (free s ≡ true)
+Right free mine slots Full = Unit {0}
+
+module _ (free mine : ℕ → Bool) (slots : ℕ) where
+  -- what is found is so
+  probe-right : (left s : ℕ) → s < slots → Right free mine slots (probe free mine slots left s)
+  unfolding probe
+  probe-right zero s h = tt
+  probe-right (suc left) s h =
+      cases (free s)
+      (λ e. rw e (h, e))
+      (λ e. rw e (cases (mine s) (λ q. rw q (h, e, q)) (λ q. rw q (probe-right left (nextOf slots s) (next-low slots s h)))))
+
+  -- d slots after a stands s, around the end
+  abbrev After : ℕ → ℕ → ℕ → Type 0
+  After a d s = (a + d ≡ s) ⊎ (a + d ≡ s + slots)
+
+  -- one slot on, the distance is one less
+  next-after : (a d s : ℕ) → a < slots → s < slots → After a (suc d) s → After (nextOf slots a) d s
+  unfolding nextOf
+  next-after a d s h g w =
+      cases (ltb (a + 1) slots)
+      (λ e. rw e (⊎-elim (λ q. inl (omega arith)) (λ q. inr (omega arith)) w))
+      (λ e. let l = ltb-false (a + 1) slots e in rw e (⊎-elim (λ q. absurd (omega arith)) (λ q. inl (omega arith)) w))
+
+  -- where a search ends without a slot, no slot that it passed is free
+  passed-taken : (left a : ℕ) → a < slots → probe free mine slots left a ≡ Full → (d s : ℕ) → d < left → s < slots → After a d s → free s ≡ false
+  unfolding probe
+  passed-taken zero a h e d s l g w = absurd (omega arith)
+  passed-taken (suc left) a h e zero s l g w =
+      let i : a ≡ s = ⊎-elim (λ q. omega arith) (λ q. omega arith) w in
+      cases (free a) (λ p. cc (rw p at e)) (λ p. rw (← i) p)
+  passed-taken (suc left) a h e (suc d) s l g w =
+      cases (free a)
+      (λ p. cc (rw p at e))
+      (λ p. cases (mine a)
+      (λ q. cc (rw (p, q) at e))
+      (λ q. passed-taken left (nextOf slots a) (next-low slots a h) (rw (p, q) at e) d s (omega arith) g (next-after a d s h g w)))
+
+  -- where a search of all slots ends without one, no slot is free
+  all-taken : (a : ℕ) → a < slots → probe free mine slots slots a ≡ Full → (s : ℕ) → s < slots → free s ≡ false
+  all-taken a h e s g =
+      cases (ltb s a)
+      (λ p. let l = ltb-true s a p in passed-taken slots a h e (s + slots - a) s (omega arith) g (inr (omega arith)))
+      (λ p. let l = ltb-false s a p in passed-taken slots a h e (s - a) s (omega arith) g (inl (omega arith)))
+
+-- slots of which each that was taken holds what it held
+module _ (free mine free′ mine′ : ℕ → Bool) (slots : ℕ)
+    (stay : (s : ℕ) → s < slots → free s ≡ false → (free′ s ≡ false) × (mine′ s ≡ mine s)) where
+  -- what was found is found
+  probe-still : (left a s : ℕ) → a < slots → probe free mine slots left a ≡ Here s → probe free′ mine′ slots left a ≡ Here s
+  unfolding probe
+  probe-still zero a s h e = e
+  probe-still (suc left) a s h e =
+      cases (free a)
+      (λ p. cc (rw p at e))
+      (λ p. cases (mine a)
+      (λ q. rw (stay a h p .0, stay a h p .1, q) (rw (p, q) at e))
+      (λ q. rw (stay a h p .0, stay a h p .1, q) (probe-still left (nextOf slots a) s (next-low slots a h) (rw (p, q) at e))))
+
+  -- the free slot that was found is found, once it is mine
+  probe-taken : (left a s : ℕ) → a < slots → free′ s ≡ false → mine′ s ≡ true → probe free mine slots left a ≡ Free s
+      → probe free′ mine′ slots left a ≡ Here s
+  unfolding probe
+  probe-taken zero a s h f m e = cc
+  probe-taken (suc left) a s h f m e =
+      cases (free a)
+      (λ p. let q : a ≡ s = cc (rw p at e) in rw (q, f, m))
+      (λ p. cases (mine a)
+      (λ q. cc (rw (p, q) at e))
+      (λ q. rw (stay a h p .0, stay a h p .1, q) (probe-taken left (nextOf slots a) s (next-low slots a h) f m (rw (p, q) at e))))
+
+-- slots that are alike are searched alike
+probe-alike : (free mine free′ mine′ : ℕ → Bool) (slots : ℕ) → ((s : ℕ) → s < slots → (free′ s ≡ free s) × (mine′ s ≡ mine s))
+    → (left a : ℕ) → a < slots → probe free′ mine′ slots left a ≡ probe free mine slots left a
+unfolding probe
+probe-alike free mine free′ mine′ slots alike zero a h = refl
+probe-alike free mine free′ mine′ slots alike (suc left) a h =
+    rw (alike a h .0, alike a h .1, probe-alike free mine free′ mine′ slots alike left (nextOf slots a) (next-low slots a h))
+
+-- ---- the search for a key in a table
+
+-- a number below 2 ^ 32, scaled down to the slots, is a slot
+scaled-low : (mixed slots : ℕ) → mixed < 2 ^ 32 → 0 < slots → mixed * slots / 2 ^ 32 < slots
+scaled-low mixed slots h some = div-lt-iff-lt-mul (pow-pos 32) .1 (omega (arith, mul-lt-mul-of-pos-right h some))
+
+-- a key's first slot is a slot
+pub start-low : (slots : ℕ) (key : List ℕ) → 0 < slots → startOf slots key < slots
+unfolding startOf
+start-low slots key h = scaled-low _ slots (mod-lt _ (pow-pos 32)) h
+
+-- a slot that stands before the last 18 words of a stretch
+abbrev pub Low : ℕ → Slot → Type 0
+Low stretch (Here s) = s < stretch - 18
+Low stretch (Free s) = s < stretch - 18
+Low stretch Full = Unit {0}
+
+module _ (archive : List ℕ) (stretch : ℕ) (table key : List ℕ) (some : 18 < stretch) where
+  -- what the search for a key finds is so
+  find-right : (slot : Slot) → findOf archive stretch table key ≡ slot
+      → Right (isFree table) (λ s. sameBytes (keyAt archive stretch table s) key) (stretch - 18) slot
+  unfolding findOf seek
+  find-right slot e =
+      subst (Right (isFree table) (λ s. sameBytes (keyAt archive stretch table s) key) (stretch - 18)) e
+      (probe-right (isFree table) (λ s. sameBytes (keyAt archive stretch table s) key) (stretch - 18) (stretch - 18)
+      (startOf (stretch - 18) key) (start-low (stretch - 18) key (omega arith)))
+
+  -- a slot that is found stands before the last 18 words of a stretch
+  pub found-low : (slot : Slot) → findOf archive stretch table key ≡ slot → Low stretch slot
+  found-low (Here s) e = find-right (Here s) e .0
+  found-low (Free s) e = find-right (Free s) e .0
+  found-low Full e = tt
+
+  -- the slot found for a key is taken, and holds the key
+  pub here-key : (s : ℕ) → findOf archive stretch table key ≡ Here s → (isFree table s ≡ false) × (keyAt archive stretch table s ≡ key)
+  here-key s e = let r = find-right (Here s) e in (r .1, same-true (keyAt archive stretch table s) key (r .2))
+
+  -- the free slot found for a key is free
+  pub free-slot : (s : ℕ) → findOf archive stretch table key ≡ Free s → isFree table s ≡ true
+  free-slot s e = find-right (Free s) e .1
+
+  -- where there is no slot for a key, none is free
+  pub full-slots : findOf archive stretch table key ≡ Full → (s : ℕ) → s < stretch - 18 → isFree table s ≡ false
+  unfolding findOf seek
+  full-slots e s l =
+      all-taken (isFree table) (λ x. sameBytes (keyAt archive stretch table x) key) (stretch - 18) (startOf (stretch - 18) key)
+      (start-low (stretch - 18) key (omega arith)) e s l
+
+-- a table of which each slot that was taken holds what it held
+module _ (archive : List ℕ) (stretch : ℕ) (table table′ : List ℕ) (some : 18 < stretch)
+    (stay : (s : ℕ) → s < stretch - 18 → isFree table s ≡ false
+    → (isFree table′ s ≡ false) × (keyAt archive stretch table′ s ≡ keyAt archive stretch table s)) where
+  -- a slot that was taken is still taken, and by the same key
+  stay-same : (key : List ℕ) (s : ℕ) → s < stretch - 18 → isFree table s ≡ false
+      → (isFree table′ s ≡ false) × (sameBytes (keyAt archive stretch table′ s) key ≡ sameBytes (keyAt archive stretch table s) key)
+  stay-same key s l f = (stay s l f .0, ap (λ (k : List ℕ). sameBytes k key) (stay s l f .1))
+
+  -- a key that was found is found at its slot
+  pub find-still : (key : List ℕ) (s : ℕ) → findOf archive stretch table key ≡ Here s → findOf archive stretch table′ key ≡ Here s
+  unfolding findOf seek
+  find-still key s e =
+      probe-still (isFree table) (λ x. sameBytes (keyAt archive stretch table x) key)
+      (isFree table′) (λ x. sameBytes (keyAt archive stretch table′ x) key)
+      (stretch - 18) (stay-same key) (stretch - 18) (startOf (stretch - 18) key) s (start-low (stretch - 18) key (omega arith)) e
+
+  -- a key that was not found is found at the free slot that it was given
+  pub find-taken : (key : List ℕ) (s : ℕ) → isFree table′ s ≡ false → keyAt archive stretch table′ s ≡ key
+      → findOf archive stretch table key ≡ Free s → findOf archive stretch table′ key ≡ Here s
+  unfolding findOf seek
+  find-taken key s f k e =
+      probe-taken (isFree table) (λ x. sameBytes (keyAt archive stretch table x) key)
+      (isFree table′) (λ x. sameBytes (keyAt archive stretch table′ x) key)
+      (stretch - 18) (stay-same key) (stretch - 18) (startOf (stretch - 18) key) s (start-low (stretch - 18) key (omega arith))
+      f (ap (λ (x : List ℕ). sameBytes x key) k ∙ same-refl key) e
+
+-- a slot with the same place and label holds the same key
+pub key-alike : (archive : List ℕ) (stretch : ℕ) (table table′ : List ℕ) (s : ℕ) → placeAt table′ s ≡ placeAt table s
+    → labelAt stretch table′ s ≡ labelAt stretch table s → keyAt archive stretch table′ s ≡ keyAt archive stretch table s
+key-alike archive stretch table table′ s p l = rw (p, l)
+
+-- a search reads only the places and the labels
+pub find-alike : (archive : List ℕ) (stretch : ℕ) (table table′ : List ℕ) → 18 < stretch
+    → ((s : ℕ) → s < stretch - 18 → (placeAt table′ s ≡ placeAt table s) × (labelAt stretch table′ s ≡ labelAt stretch table s))
+    → (key : List ℕ) → findOf archive stretch table′ key ≡ findOf archive stretch table key
+unfolding findOf seek
+find-alike archive stretch table table′ some alike key =
+    probe-alike (isFree table) (λ x. sameBytes (keyAt archive stretch table x) key)
+    (isFree table′) (λ x. sameBytes (keyAt archive stretch table′ x) key) (stretch - 18)
+    (λ s l. (rw (alike s l .0), ap (λ (k : List ℕ). sameBytes k key) (key-alike archive stretch table table′ s (alike s l .0) (alike s l .1))))
+    (stretch - 18) (startOf (stretch - 18) key) (start-low (stretch - 18) key (omega arith))

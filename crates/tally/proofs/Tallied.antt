@@ -1,0 +1,378 @@
+-- A table that tells of some uses: an empty one, one use more, what is found, the limits of each mark, and the words that all keys take.
+-- Assumes nothing.
+use Prim.Native.Nat.{ℕ, _+_, _-_, _*_, _/_, _^_, _<_, _≤_, min}
+use mathlib.Core.Path.{_≡_, refl, sym, ap, _∙_}
+use mathlib.Core.List.{List, [], _∷_}
+use mathlib.Core.Bool.{true, false, true≢false}
+use native.Mathlib.Omega.{arith}
+use lib.Dec.{eqb}
+use lib.ListN.{length, getD, set, length-set}
+use lib.Seq.{getD-set-same, getD-set-other}
+use borrow.Author.Tests.{eqb-true, eqb-false, ne-eqb, ltb-true, ltb-false}
+use Rattle.words.specs.Word.{pick}
+use Rattle.words.specs.Stream.{sameBytes}
+use Rattle.words.proofs.Same.{same-true, same-refl}
+use Rattle.arguments.proofs.Arguments.{cases}
+use Rattle.rule.specs.Counting.{sumBy, count, keys}
+use Rattle.rule.specs.Rule.{registers}
+use Rattle.tally.specs.declared.Slot.{Slot}
+use Rattle.tally.specs.declared.Slot.the-variants.{Here, Free, Full}
+use Rattle.tally.specs.Slots.{keyOf, keyMark, keyWords, placeAt, usesAt, counterAt, isFree, keyAt, findOf, raised, isAdded, added, costOf, sumTo, measureOf}
+use Rattle.tally.specs.Tally.{distinct, Wide, Tallies}
+use Rattle.tally.proofs.Probing.{found-low, here-key, free-slot, full-slots, find-still, find-taken, key-alike}
+use Rattle.tally.proofs.Frames.{raised-more, filled, filled-other, filled-place, filled-label, filled-uses, filled-counter}
+use Rattle.tally.proofs.Sums.{sum-alike, sum-ones, at-limits, held, held-none, held-once, held-keys, count-low, distinct-low, distinct-old, distinct-own, distinct-other, distinct-alike, distinct-sum}
+
+-- a table of zeros tells of no uses
+pub empty-tally : (archive : List ℕ) (stretch : ℕ) (table : List ℕ) → Wide stretch table → ((i : ℕ) → i < 3 * stretch → getD table i 0 ≡ 0)
+    → Tallies archive stretch table []
+empty-tally archive stretch table wide zeros = record {
+  wide = wide;
+  counted = λ s l f. absurd (eqb-false (placeAt table s) 0 f (zeros s (omega arith)));
+  used = λ s l f. absurd (eqb-false (placeAt table s) 0 f (zeros s (omega arith)));
+  own = λ s l f. absurd (eqb-false (placeAt table s) 0 f (zeros s (omega arith)));
+  kept = λ key h. absurd (omega arith);
+  spare = λ s g l. zeros s (omega arith);
+  marks = λ mark l. zeros (counterAt stretch mark) (omega arith);
+}
+
+-- a table tells the same of uses in another order
+pub tally-alike : {archive : List ℕ} {stretch : ℕ} {table : List ℕ} (us vs : List (List ℕ)) → Tallies archive stretch table us
+    → ((key : List ℕ) → count sameBytes key us ≡ count sameBytes key vs) → Tallies archive stretch table vs
+tally-alike {archive} {stretch} {table} us vs T h = record {
+  wide = T .wide;
+  counted = λ s l f. T .counted s l f ∙ h (keyAt archive stretch table s);
+  used = T .used;
+  own = T .own;
+  kept = λ key p. T .kept key (omega (arith, h key));
+  spare = T .spare;
+  marks = λ mark l. T .marks mark l ∙ distinct-alike mark us vs h;
+}
+
+module _ {archive : List ℕ} {stretch : ℕ} {table : List ℕ} {us : List (List ℕ)} (T : Tallies archive stretch table us) where
+  -- ---- what a search finds
+
+  -- a key that is found was used as often as its slot says
+  pub here-used : (key : List ℕ) (s : ℕ) → findOf archive stretch table key ≡ Here s
+      → (usesAt stretch table s ≡ count sameBytes key us) × (0 < count sameBytes key us)
+  here-used key s e =
+      let l = found-low archive stretch table key (T .wide .some) (Here s) e in
+      let h = here-key archive stretch table key (T .wide .some) s e in
+      let same : usesAt stretch table s ≡ count sameBytes key us =
+      T .counted s l (h .0) ∙ ap (λ (k : List ℕ). count sameBytes k us) (h .1) in
+      (same, omega (arith, T .used s l (h .0)))
+
+  -- a key that is not found was not used
+  not-here : (key : List ℕ) → ((s : ℕ) → findOf archive stretch table key ≡ Here s → ⊥) → count sameBytes key us ≡ 0
+  not-here key h =
+      cases (eqb (count sameBytes key us) 0)
+      (λ e. eqb-true (count sameBytes key us) 0 e)
+      (λ e. let n = eqb-false (count sameBytes key us) 0 e in
+      let p : 0 < count sameBytes key us = omega arith in
+      absurd (h (T .kept key p .0) (T .kept key p .1)))
+
+  -- a key for which a free slot is found was not used
+  free-new : (key : List ℕ) (s : ℕ) → findOf archive stretch table key ≡ Free s → count sameBytes key us ≡ 0
+  free-new key s e = not-here key (λ x p. let z : _≡_ {A = ℕ} 0 1 = cc in omega arith)
+
+  -- nor was one for which no slot is left
+  full-new : (key : List ℕ) → findOf archive stretch table key ≡ Full → count sameBytes key us ≡ 0
+  full-new key e = not-here key (λ x p. let z : _≡_ {A = ℕ} 0 1 = cc in omega arith)
+
+  -- a slot that holds a key is the one found for it
+  own-slot : (key : List ℕ) (s : ℕ) → s < stretch - 18 → isFree table s ≡ false → sameBytes (keyAt archive stretch table s) key ≡ true
+      → findOf archive stretch table key ≡ Here s
+  own-slot key s l f q = rw (← same-true (keyAt archive stretch table s) key q) (T .own s l f)
+
+  -- ---- sums over the slots
+
+  -- each key that was used is held once
+  held-count : (key : List ℕ)
+      → count sameBytes key (held (isFree table) (keyAt archive stretch table) (stretch - 18)) ≡ min 1 (count sameBytes key us)
+  held-count key =
+      cases (eqb (count sameBytes key us) 0)
+      (λ e. let z = eqb-true (count sameBytes key us) 0 e in
+      omega (
+        arith,
+        held-none (isFree table) (keyAt archive stretch table) key (stretch - 18)
+            (λ s l f. cases (sameBytes (keyAt archive stretch table s) key) (λ q. absurd (omega (arith, here-used key s (own-slot key s l f q)))) (λ q. q)),
+      ))
+      (λ e. let n = eqb-false (count sameBytes key us) 0 e in
+      let p : 0 < count sameBytes key us = omega arith in
+      let s = T .kept key p .0 in
+      let found = T .kept key p .1 in
+      let h = here-key archive stretch table key (T .wide .some) s found in
+      omega (
+        arith,
+        held-once (isFree table) (keyAt archive stretch table) key s (stretch - 18) (found-low archive stretch table key (T .wide .some) (Here s) found)
+            (h .0) (ap (λ (k : List ℕ). sameBytes k key) (h .1) ∙ same-refl key)
+            (λ x l i f. cases (sameBytes (keyAt archive stretch table x) key)
+            (λ q. let same = own-slot key x l f q in let j : x ≡ s = cc in absurd (i j)) (λ q. q)),
+      ))
+
+  -- a sum over the slots is a sum over the distinct keys
+  slots-sum : (f : List ℕ → ℕ) → sumTo (stretch - 18) (λ s. pick (isFree table s) 0 (f (keyAt archive stretch table s))) ≡ sumBy f (keys sameBytes [] us)
+  slots-sum f = held-keys (isFree table) (keyAt archive stretch table) (stretch - 18) us held-count f
+
+  -- the words that the table measures are those of the distinct keys, each registered where that is shorter
+  pub measure-best : measureOf stretch table
+      ≡ sumBy (λ key. pick (registers (keyWords key) (count sameBytes key us)) (1 + keyWords key) (count sameBytes key us * keyWords key)) (keys sameBytes [] us)
+  unfolding measureOf costOf
+  measure-best =
+      sum-alike (stretch - 18) _
+      (λ s. pick (isFree table s) 0
+      (pick (registers (keyWords (keyAt archive stretch table s)) (count sameBytes (keyAt archive stretch table s) us))
+      (1 + keyWords (keyAt archive stretch table s)) (count sameBytes (keyAt archive stretch table s) us * keyWords (keyAt archive stretch table s))))
+      (λ s l. cases (isFree table s) (λ e. rw e) (λ e. rw (e, T .counted s l e)))
+      ∙ slots-sum (λ key. pick (registers (keyWords key) (count sameBytes key us)) (1 + keyWords key) (count sameBytes key us * keyWords key))
+
+  -- where no slot is left, there are as many distinct keys as slots
+  full-keys : (key : List ℕ) → findOf archive stretch table key ≡ Full → sumBy (λ k. 1) (keys sameBytes [] us) ≡ stretch - 18
+  full-keys key e =
+      sym (slots-sum (λ k. 1))
+      ∙ sum-alike (stretch - 18) _ (λ s. 1) (λ s l. rw (full-slots archive stretch table key (T .wide .some) e s l)) ∙ sum-ones (stretch - 18)
+
+  -- ---- one use more
+
+  -- a table in which each slot but one says what it said, and that one says one use more of its key
+  module _ (table′ : List ℕ) (key : List ℕ) (s : ℕ)
+      (stay : (x : ℕ) → x < stretch - 18 → isFree table x ≡ false
+      → (isFree table′ x ≡ false) × (keyAt archive stretch table′ x ≡ keyAt archive stretch table x))
+      (other : (x : ℕ) → x < stretch - 18 → (x ≡ s → ⊥) → (isFree table′ x ≡ isFree table x) × (usesAt stretch table′ x ≡ usesAt stretch table x))
+      (holds : keyAt archive stretch table′ s ≡ key) (more : usesAt stretch table′ s ≡ 1 + count sameBytes key us)
+      (found : findOf archive stretch table′ key ≡ Here s) where
+    -- any other slot that is taken was taken
+    was-taken : (x : ℕ) → x < stretch - 18 → (x ≡ s → ⊥) → isFree table′ x ≡ false → isFree table x ≡ false
+    was-taken x l n f = sym (other x l n .0) ∙ f
+
+    -- each slot that is taken is found by its key
+    own-more : (x : ℕ) → x < stretch - 18 → isFree table′ x ≡ false → findOf archive stretch table′ (keyAt archive stretch table′ x) ≡ Here x
+    own-more x l f =
+        cases (eqb x s)
+        (λ e. let i = eqb-true x s e in
+        ap (findOf archive stretch table′) (ap (keyAt archive stretch table′) i ∙ holds) ∙ found ∙ ap Here (sym i))
+        (λ e. let g = was-taken x l (eqb-false x s e) f in
+        ap (findOf archive stretch table′) (stay x l g .1)
+        ∙ find-still archive stretch table table′ (T .wide .some) stay (keyAt archive stretch table x) x (T .own x l g))
+
+    -- each slot that is taken has the number of uses of its key
+    counted-more : (x : ℕ) → x < stretch - 18 → isFree table′ x ≡ false
+        → usesAt stretch table′ x ≡ count sameBytes (keyAt archive stretch table′ x) (key ∷ us)
+    counted-more x l f =
+        cases (eqb x s)
+        (λ e. let i = eqb-true x s e in
+        let same : keyAt archive stretch table′ x ≡ key = ap (keyAt archive stretch table′) i ∙ holds in
+        let one : count sameBytes key (key ∷ us) ≡ 1 + count sameBytes key us = rw (same-refl key) in
+        ap (usesAt stretch table′) i ∙ more ∙ sym (ap (λ (k : List ℕ). count sameBytes k (key ∷ us)) same ∙ one))
+        (λ e. let n = eqb-false x s e in
+        let g = was-taken x l n f in
+        cases (sameBytes key (keyAt archive stretch table′ x))
+        (λ q. let same = same-true key (keyAt archive stretch table′ x) q in
+        let own = own-more x l f in
+        let i : x ≡ s = cc in absurd (n i))
+        (λ q. rw q (omega (arith, other x l n .1, T .counted x l g, ap (λ (k : List ℕ). count sameBytes k us) (stay x l g .1)))))
+
+    -- which is not 0
+    used-more : (x : ℕ) → x < stretch - 18 → isFree table′ x ≡ false → 0 < usesAt stretch table′ x
+    used-more x l f =
+        cases (eqb x s)
+        (λ e. rw (eqb-true x s e) (omega arith))
+        (λ e. let n = eqb-false x s e in omega (arith, other x l n .1, T .used x l (was-taken x l n f)))
+
+    -- each key that was used is found
+    kept-more : (k : List ℕ) → 0 < count sameBytes k (key ∷ us) → (x : ℕ) × (findOf archive stretch table′ k ≡ Here x)
+    kept-more k h =
+        cases (sameBytes key k)
+        (λ q. (s, rw (same-true key k q) at found))
+        (λ q. let g = rw q at h in
+        let r = T .kept k (omega arith) in
+        (r .0, find-still archive stretch table table′ (T .wide .some) stay k (r .0) (r .1)))
+
+    -- so the table tells of one use more
+    tally-more : Wide stretch table′ → ((x : ℕ) → stretch - 18 ≤ x → x < stretch → placeAt table′ x ≡ 0)
+        → ((mark : ℕ) → mark < 18 → getD table′ (counterAt stretch mark) 0 ≡ distinct mark (key ∷ us)) → Tallies archive stretch table′ (key ∷ us)
+    tally-more wide spare marks = record {
+      wide = wide;
+      counted = counted-more;
+      used = used-more;
+      own = own-more;
+      kept = kept-more;
+      spare = spare;
+      marks = marks;
+    }
+
+  -- a table of the same length is long enough
+  wide-more : (table′ : List ℕ) → length table′ ≡ length table → Wide stretch table′
+  wide-more table′ e = record { some = T .wide .some; low = T .wide .low; long = rw e (T .wide .long) }
+
+  -- one use more of a key that has a slot
+  raised-tally : (key : List ℕ) (s : ℕ) → length us < 2 ^ 32 - 1 → findOf archive stretch table key ≡ Here s
+      → Tallies archive stretch (set table (2 * stretch + s) (raised (usesAt stretch table s))) (key ∷ us)
+  raised-tally key s short e =
+      tally-more table′ key s stay other
+      (stay s l (h .0) .1 ∙ h .1)
+      (getD-set-same table (2 * stretch + s) (raised (usesAt stretch table s)) 0 (omega (arith, l))
+      ∙ raised-more (usesAt stretch table s) (omega (arith, u .0, count-low key us)) ∙ omega (arith, u .0))
+      (find-still archive stretch table table′ (T .wide .some) stay key s e)
+      (wide-more table′ (length-set table (2 * stretch + s) (raised (usesAt stretch table s))))
+      (λ x g k. place-same x k ∙ T .spare x g k)
+      (λ m g. left (counterAt stretch m) (λ q. omega (arith, l)) ∙ T .marks m g ∙ sym (distinct-old m key us (u .1)))
+    where
+      table′ : List ℕ
+      table′ = set table (2 * stretch + s) (raised (usesAt stretch table s))
+
+      l : s < stretch - 18
+      l = found-low archive stretch table key (T .wide .some) (Here s) e
+
+      h : (isFree table s ≡ false) × (keyAt archive stretch table s ≡ key)
+      h = here-key archive stretch table key (T .wide .some) s e
+
+      u : (usesAt stretch table s ≡ count sameBytes key us) × (0 < count sameBytes key us)
+      u = here-used key s e
+
+      left : (i : ℕ) → (i ≡ 2 * stretch + s → ⊥) → getD table′ i 0 ≡ getD table i 0
+      left i n = getD-set-other table (2 * stretch + s) i (raised (usesAt stretch table s)) 0 n
+
+      place-same : (x : ℕ) → x < stretch → placeAt table′ x ≡ placeAt table x
+      place-same x g = left x (λ q. omega arith)
+
+      stay : (x : ℕ) → x < stretch - 18 → isFree table x ≡ false
+          → (isFree table′ x ≡ false) × (keyAt archive stretch table′ x ≡ keyAt archive stretch table x)
+      stay x g f = (
+        ap (λ (p : ℕ). eqb p 0) (place-same x (omega arith)) ∙ f,
+        key-alike archive stretch table table′ x (place-same x (omega arith)) (left (stretch + x) (λ q. omega arith)),
+      )
+
+      other : (x : ℕ) → x < stretch - 18 → (x ≡ s → ⊥) → (isFree table′ x ≡ isFree table x) × (usesAt stretch table′ x ≡ usesAt stretch table x)
+      other x g n = (ap (λ (p : ℕ). eqb p 0) (place-same x (omega arith)), left (2 * stretch + x) (λ q. n (omega arith)))
+
+  -- the first use of a key, in a free slot
+  filled-tally : (place label s : ℕ) → 0 < place → label / 65536 < 18 → length us < 2 ^ 32 - 1
+      → findOf archive stretch table (keyOf archive place label) ≡ Free s
+      → Tallies archive stretch (filled stretch table place label s) (keyOf archive place label ∷ us)
+  filled-tally place label s some mark short e =
+      tally-more table′ (keyOf archive place label) s stay other own-key
+      (filled-uses stretch table place label s l mark (T .wide) ∙ omega (arith, new))
+      (find-taken archive stretch table table′ (T .wide .some) stay (keyOf archive place label) s taken own-key e)
+      (wide-more table′ long)
+      (λ x g k. left x (λ q. omega (arith, l)) (λ q. omega arith) (λ q. omega arith) (λ q. omega arith) ∙ T .spare x g k)
+      marks
+    where
+      table′ : List ℕ
+      table′ = filled stretch table place label s
+
+      l : s < stretch - 18
+      l = found-low archive stretch table (keyOf archive place label) (T .wide .some) (Free s) e
+
+      new : count sameBytes (keyOf archive place label) us ≡ 0
+      new = free-new (keyOf archive place label) s e
+
+      long : length table′ ≡ length table
+      long = simp length-set
+
+      left : (i : ℕ) → (i ≡ s → ⊥) → (i ≡ stretch + s → ⊥) → (i ≡ 2 * stretch + s → ⊥) → (i ≡ counterAt stretch (label / 65536) → ⊥)
+          → getD table′ i 0 ≡ getD table i 0
+      left = filled-other stretch table place label s l mark
+
+      taken : isFree table′ s ≡ false
+      taken = rw (filled-place stretch table place label s l mark (T .wide)) (ne-eqb place 0 (λ z. omega arith))
+
+      own-key : keyAt archive stretch table′ s ≡ keyOf archive place label
+      own-key = rw (filled-place stretch table place label s l mark (T .wide), filled-label stretch table place label s l mark (T .wide))
+
+      place-same : (x : ℕ) → x < stretch - 18 → (x ≡ s → ⊥) → placeAt table′ x ≡ placeAt table x
+      place-same x g n = left x n (λ q. omega arith) (λ q. omega arith) (λ q. omega arith)
+
+      stay : (x : ℕ) → x < stretch - 18 → isFree table x ≡ false
+          → (isFree table′ x ≡ false) × (keyAt archive stretch table′ x ≡ keyAt archive stretch table x)
+      stay x g f =
+          let n : x ≡ s → ⊥ =
+          λ i. true≢false (sym (free-slot archive stretch table (keyOf archive place label) (T .wide .some) s e) ∙ ap (isFree table) (sym i) ∙ f) in (
+            ap (λ (p : ℕ). eqb p 0) (place-same x g n) ∙ f,
+            key-alike archive stretch table table′ x (place-same x g n)
+                (left (stretch + x) (λ q. omega (arith, l)) (λ q. n (omega arith)) (λ q. omega arith) (λ q. omega arith)),
+          )
+
+      other : (x : ℕ) → x < stretch - 18 → (x ≡ s → ⊥) → (isFree table′ x ≡ isFree table x) × (usesAt stretch table′ x ≡ usesAt stretch table x)
+      other x g n = (
+        ap (λ (p : ℕ). eqb p 0) (place-same x g n),
+        left (2 * stretch + x) (λ q. omega (arith, l)) (λ q. omega (arith, l)) (λ q. n (omega arith)) (λ q. omega arith),
+      )
+
+      marks : (m : ℕ) → m < 18 → getD table′ (counterAt stretch m) 0 ≡ distinct m (keyOf archive place label ∷ us)
+      marks m g =
+          cases (eqb (label / 65536) m)
+          (λ q. let i = eqb-true (label / 65536) m q in
+          let same = ap (λ (x : ℕ). getD table (counterAt stretch x) 0) i in
+          let before = T .marks m g in
+          let more = distinct-own m (keyOf archive place label) us new i in
+          ap (λ (x : ℕ). getD table′ (counterAt stretch x) 0) (sym i)
+          ∙ filled-counter stretch table place label s l mark (T .wide)
+          ∙ raised-more (getD table (counterAt stretch (label / 65536)) 0) (omega (arith, distinct-low m us))
+          ∙ omega arith)
+          (λ q. let i = eqb-false (label / 65536) m q in
+          left (counterAt stretch m) (λ z. omega (arith, l)) (λ z. omega (arith, l)) (λ z. omega (arith, l)) (λ z. i (omega arith))
+          ∙ T .marks m g ∙ sym (distinct-other m (keyOf archive place label) us new i))
+
+  -- a use that is counted keeps the tally
+  pub add-tally : (place label limit : ℕ) → 0 < place → label / 65536 < 18 → length us < 2 ^ 32 - 1
+      → isAdded stretch table label limit (findOf archive stretch table (keyOf archive place label)) ≡ true
+      → Tallies archive stretch (added stretch table place label limit (findOf archive stretch table (keyOf archive place label)))
+      (keyOf archive place label ∷ us)
+  add-tally place label limit some mark short = go (findOf archive stretch table (keyOf archive place label)) refl
+    where
+      go : (slot : Slot) → findOf archive stretch table (keyOf archive place label) ≡ slot → isAdded stretch table label limit slot ≡ true
+          → Tallies archive stretch (added stretch table place label limit slot) (keyOf archive place label ∷ us)
+      go (Here s) e a = raised-tally (keyOf archive place label) s short e
+      go (Free s) e a = rw a (filled-tally place label s some mark short e)
+      go Full e a = absurd (true≢false (sym a))
+
+  -- ---- the limits of the marks
+
+  -- a use that is counted keeps each mark within its limit
+  pub added-limits : (limits : ℕ → ℕ) (place label : ℕ) → ((mark : ℕ) → mark < 18 → distinct mark us ≤ limits mark) → label / 65536 < 18
+      → isAdded stretch table label (limits (label / 65536)) (findOf archive stretch table (keyOf archive place label)) ≡ true
+      → (mark : ℕ) → mark < 18 → distinct mark (keyOf archive place label ∷ us) ≤ limits mark
+  added-limits limits place label within low = go (findOf archive stretch table (keyOf archive place label)) refl
+    where
+      go : (slot : Slot) → findOf archive stretch table (keyOf archive place label) ≡ slot
+          → isAdded stretch table label (limits (label / 65536)) slot ≡ true
+          → (mark : ℕ) → mark < 18 → distinct mark (keyOf archive place label ∷ us) ≤ limits mark
+      go (Here s) e a mark l =
+          rw (distinct-old mark (keyOf archive place label) us (here-used (keyOf archive place label) s e .1)) (within mark l)
+      go (Free s) e a mark l =
+          let new = free-new (keyOf archive place label) s e in
+          cases (eqb (label / 65536) mark)
+          (λ q. let i = eqb-true (label / 65536) mark q in
+          let below = ltb-true (getD table (counterAt stretch (label / 65536)) 0) (limits (label / 65536)) a in
+          let here = rw i at below in
+          omega (arith, distinct-own mark (keyOf archive place label) us new i, T .marks mark l))
+          (λ q. rw (distinct-other mark (keyOf archive place label) us new (eqb-false (label / 65536) mark q)) (within mark l))
+      go Full e a mark l = absurd (true≢false (sym a))
+
+  -- a use is not counted only where it would take its mark above its limit
+  pub not-added : (limits : ℕ → ℕ) (place label : ℕ) → ((mark : ℕ) → mark < 18 → distinct mark us ≤ limits mark)
+      → sumTo 18 limits ≤ stretch - 18 → ((key : List ℕ) → 0 < count sameBytes key us → keyMark key < 18) → label / 65536 < 18
+      → isAdded stretch table label (limits (label / 65536)) (findOf archive stretch table (keyOf archive place label)) ≡ false
+      → limits (label / 65536) < distinct (label / 65536) (keyOf archive place label ∷ us)
+  not-added limits place label within room marked low = go (findOf archive stretch table (keyOf archive place label)) refl
+    where
+      go : (slot : Slot) → findOf archive stretch table (keyOf archive place label) ≡ slot
+          → isAdded stretch table label (limits (label / 65536)) slot ≡ false
+          → limits (label / 65536) < distinct (label / 65536) (keyOf archive place label ∷ us)
+      go (Here s) e a = absurd (true≢false a)
+      go (Free s) e a =
+          omega (
+            arith,
+            ltb-false (getD table (counterAt stretch (label / 65536)) 0) (limits (label / 65536)) a,
+            T .marks (label / 65536) low,
+            distinct-own (label / 65536) (keyOf archive place label) us (free-new (keyOf archive place label) s e) refl,
+          )
+      go Full e a =
+          let all : sumTo 18 limits ≤ sumTo 18 (λ mark. distinct mark us) =
+          rw (distinct-sum 18 us marked, full-keys (keyOf archive place label) e) room in
+          omega (
+            arith,
+            at-limits 18 (λ mark. distinct mark us) limits within all (label / 65536) low,
+            distinct-own (label / 65536) (keyOf archive place label) us (full-new (keyOf archive place label) e) refl,
+          )

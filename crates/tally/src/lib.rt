@@ -1,0 +1,306 @@
+// The uses of texts and threads, counted in one hashed table for all contexts in lent words. The words are three stretches of one length:
+// of slot s, the byte place of its key, the key's label and its uses stand at word s of each. A place of 0 is a free slot. The last 18
+// words of each stretch are no slots; those of the third count the distinct keys of each mark.
+ghost use mathlib.Core.Path.{_≡_};
+ghost use Prim.Native.Nat.{ℕ, _+_, _-_, _*_, _/_, _%_, _^_, _<_, _≤_};
+ghost use lib.ListN.{length, getD};
+ghost use Rattle.words.specs.Stream.{sameBytes};
+ghost use Rattle.tally.specs.Slots.{labelOf, keyOf, spreadOf, mixOf, hashOf, startOf, nextOf, findOf, raised, isAdded, added, costOf, measureOf, choiceOf, chosenTo, indexOf, newIndex, indexed};
+ghost use Rattle.tally.specs.Tally.{Wide, Settled, Waiting};
+
+// Where a key stands, where it would go, or that no slot is left.
+pub enum Slot {
+    Here(usize),
+    Free(usize),
+    Full,
+}
+
+// The label of a key: the length of its bytes and, above 16 bits, its mark, which is of its context and its kind, 2 for a text and 3 for a thread.
+pub fn label_of(context: usize, kind: u64, long: usize) -> usize
+    requires { ⌜ (context ≤ 8) × (2 ≤ kind) × (kind ≤ 3) × (long < 65536) ⌝ }
+    ensures { λ r. ⌜ r ≡ labelOf context kind long ⌝ }
+{
+    (2 * context + (kind as usize - 2)) * 65536 + long
+}
+
+// Two halves of a word, spread.
+fn spread(word: u64) -> u64
+    ensures { λ r. ⌜ (r ≡ spreadOf word) × (r < 2 ^ 41) ⌝ }
+{
+    ((words::field(word, 0, 31) * 0x9e3779b1) >> 24)
+        + ((words::field(word, 32, 63) * 0x85ebca77) >> 24)
+}
+
+fn mix(first: u64, last: u64, middle: u64) -> usize
+    ensures { λ r. ⌜ (r ≡ mixOf first last middle) × (r < 2 ^ 46) ⌝ }
+{
+    (spread(first) + 5 * spread(last) + 11 * spread(middle)) as usize
+}
+
+fn byte(bytes: &[u8], place: usize) -> u64
+    requires { ⌜ place < length (now bytes) ⌝ }
+    ensures { λ r. ⌜ (r ≡ getD (now (bytes .entry)) place 0) × (r < 256) ⌝ }
+{
+    bytes[place] as u64
+}
+
+// A number of some bytes: of the first, the last and the middle word, or of three bytes where they are fewer than eight.
+fn hash(bytes: &[u8]) -> usize
+    ensures { λ r. ⌜ (r ≡ hashOf (now (bytes .entry))) × (r < 2 ^ 46) ⌝ }
+{
+    let n = bytes.len();
+    if n == 0 {
+        return 0;
+    }
+    if n < 8 {
+        return mix(
+            byte(bytes, 0) + 256 * byte(bytes, n / 2) + 65536 * byte(bytes, n - 1),
+            0,
+            0,
+        );
+    }
+    mix(
+        words::word(bytes, 0),
+        words::word(bytes, n - 8),
+        words::word(bytes, (n - 8) / 2),
+    )
+}
+
+// The first slot of a key.
+fn first_slot(archive: &[u8], slots: usize, place: usize, label: usize) -> usize
+    requires { ⌜ (0 < slots) × (slots < 2 ^ 32) × (label < 2 ^ 32) ⌝ }
+    ensures { λ r. ⌜ r ≡ startOf slots (keyOf (now (archive .entry)) place label) ⌝ }
+{
+    let sum = hash(reader::text(archive, place, label % 65536))
+        + label / 65536 * 7919
+        + label % 65536;
+    let mixed = words::field(words::field(sum as u64, 0, 31) * 0x9e3779b1, 0, 31) as usize;
+    (mixed * slots) >> 32
+}
+
+// The slot after s, around the end.
+fn next_slot(slots: usize, s: usize) -> usize
+    requires { ⌜ s < slots ⌝ }
+    ensures { λ r. ⌜ r ≡ nextOf slots s ⌝ }
+{
+    if s + 1 < slots {
+        return s + 1;
+    }
+    0
+}
+
+// Whether the keys at p and q, with these labels, are the same.
+fn same_key(archive: &[u8], p: usize, a: usize, q: usize, b: usize) -> bool
+    ensures { λ r. ⌜ r ≡ sameBytes (keyOf (now (archive .entry)) p a) (keyOf (now (archive .entry)) q b) ⌝ }
+{
+    if a != b {
+        return false;
+    }
+    if p == q {
+        return true;
+    }
+    words::same_bytes(
+        reader::text(archive, p, a % 65536),
+        reader::text(archive, q, b % 65536),
+    )
+}
+
+// The slot of a key: its own, or the free one where it would go.
+fn find(archive: &[u8], table: &[u32], stretch: usize, place: usize, label: usize) -> Slot
+    requires { ⌜ Wide stretch (now table) × (label < 2 ^ 32) ⌝ }
+    ensures { λ r. ⌜ r ≡ findOf (now (archive .entry)) stretch (now (table .entry)) (keyOf (now (archive .entry)) place label) ⌝ }
+{
+    let slots = stretch - 18;
+    let mut s = first_slot(archive, slots, place, label);
+    let mut left = slots;
+    while 0 < left {
+        let p = table[s] as usize;
+        if p == 0 {
+            return Slot::Free(s);
+        }
+        if same_key(archive, p, table[stretch + s] as usize, place, label) {
+            return Slot::Here(s);
+        }
+        s = next_slot(slots, s);
+        left -= 1;
+    }
+    Slot::Full
+}
+
+// One more, up to the highest number of a word.
+fn raise(n: u32) -> u32
+    ensures { λ r. ⌜ r ≡ raised n ⌝ }
+{
+    if n < 4294967295 {
+        return n + 1;
+    }
+    n
+}
+
+// One use more of a key. A key that is new is taken only where fewer than `limit` of its mark were.
+pub fn add_use(
+    archive: &[u8],
+    table: &mut [u32],
+    stretch: usize,
+    place: usize,
+    label: usize,
+    limit: usize,
+) -> bool
+    requires { ⌜ Wide stretch (now table) × (place < 2 ^ 32) × (label < 18 * 65536) ⌝ }
+    ensures { λ r. ⌜ r ≡ isAdded stretch (now (table .entry)) label limit (findOf (now (archive .entry)) stretch (now (table .entry)) (keyOf (now (archive .entry)) place label)) ⌝ }
+    ensures { λ _. ⌜ now (table .exit) ≡ added stretch (now (table .entry)) place label limit (findOf (now (archive .entry)) stretch (now (table .entry)) (keyOf (now (archive .entry)) place label)) ⌝ }
+{
+    let counter = 3 * stretch - 18 + label / 65536;
+    let slot = find(archive, table, stretch, place, label);
+    match slot {
+        Slot::Here(s) => {
+            let uses = 2 * stretch + s;
+            table[uses] = raise(table[uses]);
+            true
+        }
+        Slot::Free(s) => {
+            let keys = table[counter];
+            if (keys as usize) < limit {
+                table[s] = place as u32;
+                table[stretch + s] = label as u32;
+                table[2 * stretch + s] = 1;
+                table[counter] = raise(keys);
+                return true;
+            }
+            false
+        }
+        Slot::Full => false,
+    }
+}
+
+// The words that a slot's key takes in all its uses, registered or not; none where the slot is free.
+fn cost(place: u32, label: u32, uses: u32) -> usize
+    ensures { λ r. ⌜ (r ≡ costOf place label uses) × (r < 2 ^ 14) ⌝ }
+{
+    if place == 0 {
+        return 0;
+    }
+    let words = words::stream_words(label as usize % 65536);
+    if rule::is_registered(words as u64, uses as u64) {
+        return 1 + words;
+    }
+    uses as usize * words
+}
+
+// The words that all keys take.
+pub fn measure(table: &[u32], stretch: usize) -> usize
+    requires { ⌜ Wide stretch (now table) ⌝ }
+    ensures { λ r. ⌜ (r ≡ measureOf stretch (now (table .entry))) × (r < 2 ^ 45) ⌝ }
+{
+    let mut sum = 0;
+    let mut s = 0;
+    while s < stretch - 18 {
+        sum += cost(table[s], table[stretch + s], table[2 * stretch + s]);
+        s += 1;
+    }
+    sum
+}
+
+// What stands for a key's uses once they are counted: 0 where it is spelled inline, 1 where it is registered and has no index yet.
+fn choice(place: u32, label: u32, uses: u32) -> u32
+    ensures { λ r. ⌜ r ≡ choiceOf place label uses ⌝ }
+{
+    if place == 0 {
+        return 0;
+    }
+    let words = words::stream_words(label as usize % 65536);
+    if rule::is_registered(words as u64, uses as u64) {
+        return 1;
+    }
+    0
+}
+
+// The uses of each key become its choice; no slot stands at the counters, so they become 0.
+pub fn choose(table: &mut [u32], stretch: usize)
+    requires { ⌜ Wide stretch (now table) ⌝ }
+    ensures { λ _. ⌜ now (table .exit) ≡ chosenTo stretch stretch (now (table .entry)) ⌝ }
+{
+    let mut s = 0;
+    while s < stretch {
+        table[2 * stretch + s] = choice(table[s], table[stretch + s], table[2 * stretch + s]);
+        s += 1;
+    }
+}
+
+// The index that a key was given, or 0 where it has none.
+pub fn index_of(archive: &[u8], table: &[u32], stretch: usize, place: usize, label: usize) -> usize
+    requires { ⌜ Wide stretch (now table) × (label < 2 ^ 32) ⌝ }
+    ensures { λ r. ⌜ r ≡ indexOf (now (archive .entry)) stretch (now (table .entry)) (keyOf (now (archive .entry)) place label) ⌝ }
+{
+    let slot = find(archive, table, stretch, place, label);
+    match slot {
+        Slot::Here(s) => {
+            let word = table[2 * stretch + s];
+            if word == 0 {
+                return 0;
+            }
+            word as usize - 1
+        }
+        Slot::Free(_) => 0,
+        Slot::Full => 0,
+    }
+}
+
+// Gives a key that is to be registered the next index of its mark, where it has none yet; the index given, or 0.
+pub fn give_index(
+    archive: &[u8],
+    table: &mut [u32],
+    stretch: usize,
+    place: usize,
+    label: usize,
+) -> usize
+    requires { ⌜ Wide stretch (now table) × (label < 18 * 65536) ⌝ }
+    ensures { λ r. ⌜ r ≡ newIndex stretch (now (table .entry)) label (findOf (now (archive .entry)) stretch (now (table .entry)) (keyOf (now (archive .entry)) place label)) ⌝ }
+    ensures { λ _. ⌜ now (table .exit) ≡ indexed stretch (now (table .entry)) label (findOf (now (archive .entry)) stretch (now (table .entry)) (keyOf (now (archive .entry)) place label)) ⌝ }
+{
+    let given = 3 * stretch - 18 + label / 65536;
+    let slot = find(archive, table, stretch, place, label);
+    match slot {
+        Slot::Here(s) => {
+            let uses = 2 * stretch + s;
+            if table[uses] != 1 {
+                return 0;
+            }
+            let index = raise(table[given]);
+            table[given] = index;
+            table[uses] = raise(index);
+            index as usize
+        }
+        Slot::Free(_) => 0,
+        Slot::Full => 0,
+    }
+}
+
+// The first slot whose key waits: it is to be registered and has no index yet. Where there is none, `stretch`.
+fn first_waiting(table: &[u32], stretch: usize) -> usize
+    requires { ⌜ Wide stretch (now table) ⌝ }
+    ensures { λ r. ⌜ Waiting stretch (now (table .entry)) r ⌝ }
+{
+    let mut s = 0;
+    while s < stretch - 18 {
+        if table[2 * stretch + s] == 1 {
+            return s;
+        }
+        s += 1;
+    }
+    stretch
+}
+
+// A slot whose key waits: the slot given where its key does, and `stretch` where none waits. No slot is read where none is given.
+pub fn waiting_slot(table: &[u32], stretch: usize, slot: usize) -> usize
+    requires { ⌜ Wide stretch (now table) × (slot < stretch → slot < stretch - 18) × (stretch ≤ slot → Settled stretch (now table)) ⌝ }
+    ensures { λ r. ⌜ Waiting stretch (now (table .entry)) r ⌝ }
+{
+    if stretch <= slot {
+        return slot;
+    }
+    if table[2 * stretch + slot] == 1 {
+        return slot;
+    }
+    first_waiting(table, stretch)
+}
