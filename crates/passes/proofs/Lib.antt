@@ -1,0 +1,5 @@
+pub mod Known
+pub mod Bounds
+pub mod Rooms
+pub mod Places
+pub mod Turns
