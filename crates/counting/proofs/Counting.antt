@@ -1,0 +1,300 @@
+-- The first pass over an archive: what holds before each record, that it holds at first and after each record, and what follows where a record stops
+-- the pass and at the archive's end.
+-- Assumes nothing.
+use Prim.Native.Nat.{ℕ, zero, suc, _+_, _*_, _/_, _^_, _≤_, _<_}
+use mathlib.Core.Path.{_≡_, refl, sym, ap, _∙_}
+use mathlib.Core.List.{List, [], _∷_, _++_, append-assoc, append-nil}
+use mathlib.Core.Bool.{Bool}
+use mathlib.Core.Option.{Option, none, some}
+use native.Mathlib.Omega.{arith}
+use native.Mathlib.Numerals.{add-one}
+use borrow.Author.Tests.{eqb-true, eq-eqb, ne-eqb}
+use lib.Dec.{eqb}
+use lib.ListN.{length, getD, replicate, length-append}
+use Rattle.format.specs.declared.Format.{Format}
+use Rattle.arguments.proofs.Arguments.{cases}
+use Rattle.records.specs.Record.{recordAt}
+use Rattle.records.specs.Item.{Item, Use, usesOf, fixedWords}
+use Rattle.contexts.specs.declared.State.{State}
+use Rattle.contexts.specs.Context.{opening}
+use Rattle.tables.specs.Table.{tableWords}
+use Rattle.reader.specs.Step.{doorOf}
+use Rattle.reader.proofs.Runs.{Sound, fresh-sound}
+use Rattle.reader.proofs.Steps.{admitted}
+use Rattle.rule.specs.Counting.{sumBy}
+use Rattle.rule.specs.Rule.{usesAll}
+use Rattle.rule.specs.Refusal.{Run, passed, keepsAt, runFrom, runOf, Refusal, refusal, stopRefusal, itemUses, refusalOf, itemsOf}
+use Rattle.rule.proofs.Best.{sum-append}
+use Rattle.rule.proofs.Bounds.{AllBytes}
+use Rattle.tally.specs.Tally.{Wide}
+use Rattle.tally.specs.Codes.{lastFrom, lastOf}
+use Rattle.tally.proofs.Codes.{last-sound, last-context}
+use Rattle.tally.proofs.Tallied.{empty-tally}
+use Rattle.passes.specs.Follow.{followed, followedTables}
+use Rattle.passes.specs.Item.{itemAt}
+use Rattle.passes.proofs.Turns.{run-turn, run-end, turn-state, turn-tables-step, turn-sound, turn-place, turn-tables}
+use Rattle.counting.specs.declared.Counted.{Counted}
+use Rattle.counting.specs.declared.Finding.{Finding}
+use Rattle.counting.specs.Count.{judged, judgedSlots}
+use Rattle.counting.specs.Found.{graverOf, concluded, CountIs}
+use Rattle.counting.proofs.Findings.{refusalIn, graver, graver-none, graver-three, recordRefusal, runRefusal, passed-refusal, found-low, found-turn, found-clean}
+use Rattle.counting.proofs.Judged.{itemWords, RecordCounted, record-counted}
+use Rattle.counting.proofs.Kept.{SlotsKept, kept-same, kept-then}
+use Rattle.counting.proofs.Told.{Told}
+
+-- ---- items one behind the other
+
+-- the item that a record shows, as a list
+abbrev shown : Option Item → List Item
+shown none = []
+shown (some i) = i ∷ []
+
+-- the items of a run are that of its first record and those of the others
+shown-items : (place : ℕ) (keeps : Bool) (item : Option Item) (run : Run) → itemsOf (passed place keeps item run) ≡ shown item ++ itemsOf run
+shown-items place keeps none run = refl
+shown-items place keeps (some i) run = refl
+
+-- its uses
+shown-uses : (item : Option Item) → usesAll (shown item) ≡ itemUses item
+shown-uses none = refl
+shown-uses (some i) = append-nil (usesOf i)
+
+-- its words
+shown-words : (item : Option Item) → sumBy fixedWords (shown item) ≡ itemWords item
+shown-words none = refl
+shown-words (some i) = omega arith
+
+-- the uses of items behind items
+uses-both : (a b : List Item) → usesAll (a ++ b) ≡ usesAll a ++ usesAll b
+uses-both [] b = refl
+uses-both (i ∷ a) b = ap (λ (l : List Use). usesOf i ++ l) (uses-both a b) ∙ sym (append-assoc (usesOf i) (usesAll a) (usesAll b))
+
+-- ---- what holds before each record
+
+-- `done` are the items up to the state's place, and the rest of the run is read with so many steps from the state on. What is found in all is the
+-- graver of what was found and what the rest adds. As long as nothing is found, the slots tell of the uses of `done`, and the words are theirs.
+pub record Counting (f : Format) (archive : List ℕ) (s : State) (tables slots₀ slots : List ℕ) (found : Finding) (words : ℕ) : Type 0 where
+  pub bytes : AllBytes archive
+  pub sound : Sound f archive s tables
+  pub door : doorOf f archive (length tables) ≡ 0
+  pub wide : Wide (tableWords f) slots
+  pub kept : SlotsKept f slots₀ slots
+  pub steps : ℕ
+  pub enough : length archive < s .place + 8 * suc steps
+  pub last : lastFrom f archive (suc steps) s tables ≡ lastOf f archive
+  pub done : List Item
+  pub items : itemsOf (runOf f archive) ≡ done ++ itemsOf (runFrom f archive (suc steps) s tables)
+  pub stops : stopRefusal (runOf f archive) ≡ stopRefusal (runFrom f archive (suc steps) s tables)
+  pub finds : runRefusal f [] (runOf f archive) ≡ graver (refusalIn found) (runRefusal f (usesAll done) (runFrom f archive (suc steps) s tables))
+  pub low : found .number ≤ 12
+  pub told : found .number ≡ 0 → Told f archive (lastOf f archive) slots (usesAll done)
+  pub counted : found .number ≡ 0 → words ≡ sumBy fixedWords done
+  pub few-uses : length (usesAll done) ≤ 8 * s .place
+  pub few-words : words ≤ 8 * s .place
+
+-- ---- the start
+
+-- a list of zeros
+zeros-are : (n : ℕ) (l : List ℕ) → length l ≡ n → ((i : ℕ) → i < n → getD l i 0 ≡ 0) → l ≡ replicate n 0
+zeros-are zero [] e h = refl
+zeros-are zero (x ∷ xs) e h = absurd (omega arith)
+zeros-are (suc n) [] e h = absurd (omega arith)
+zeros-are (suc n) (x ∷ xs) e h =
+    let first : x ≡ 0 = h 0 (omega arith) in
+    let others = zeros-are n xs (omega arith) (λ i l. h (suc i) (omega arith)) in
+    cc
+
+-- it holds in the opening state, with tables and slots of zeros and nothing found
+pub counting-start : (f : Format) (archive tables slots : List ℕ) → AllBytes archive → doorOf f archive (tableWords f) ≡ 0
+    → length tables ≡ tableWords f → ((i : ℕ) → i < tableWords f → getD tables i 0 ≡ 0)
+    → Wide (tableWords f) slots → ((i : ℕ) → i < 3 * tableWords f → getD slots i 0 ≡ 0)
+    → Counting f archive opening tables slots slots (record { number = 0; place = 0 }) 0
+unfolding runOf lastOf
+counting-start f archive tables slots bytes door long zeros wide clear =
+    let fresh = zeros-are (tableWords f) tables long zeros in
+    let n = add-one (length archive / 8) in
+    record {
+      bytes = bytes;
+      sound = rw fresh (fresh-sound f archive);
+      door = rw long door;
+      wide = wide;
+      kept = kept-same f slots;
+      steps = length archive / 8;
+      enough = omega arith;
+      last = rw (fresh, n);
+      done = [];
+      items = rw (fresh, n);
+      stops = rw (fresh, n);
+      finds = rw (fresh, n);
+      low = omega arith;
+      told = λ z. record {
+        plain = tt;
+        contexts = tt;
+        tally = empty-tally archive (tableWords f) slots wide clear;
+        within = λ mark l. omega arith;
+      };
+      counted = λ z. refl;
+      few-uses = omega arith;
+      few-words = omega arith;
+    }
+
+module _ (f : Format) (archive : List ℕ) (s : State) (tables slots₀ slots : List ℕ) (found : Finding) (words : ℕ)
+    (h : Counting f archive s tables slots₀ slots found words) where
+  -- ---- one record
+
+  -- the archive is one that opening takes, so it is short
+  pub counting-short : length archive ≤ 16777216
+  counting-short = admitted f archive (length tables) (h .door) .short
+
+  -- the record at the state's place is counted against its item
+  here : RecordCounted f archive (lastOf f archive) (s .place) found (usesAll (h .done)) (keepsAt f archive (s .place))
+      (itemAt f archive tables s (recordAt f archive (s .place) .content) (recordAt f archive (s .place) .next)) slots
+      (judgedSlots f archive (followedTables f tables s (recordAt f archive (s .place) .content)) slots s (recordAt f archive (s .place) .content)
+      (recordAt f archive (s .place) .next) (eqb (found .number) 0))
+      (judged f archive (followedTables f tables s (recordAt f archive (s .place) .content)) slots s (recordAt f archive (s .place) .content)
+      (recordAt f archive (s .place) .next) (eqb (found .number) 0))
+  here =
+      record-counted f archive (lastOf f archive) (rw (h .last) at (last-sound f archive (suc (h .steps)) s tables (h .sound) .1 .count)) (h .bytes) tables s
+      (h .door) counting-short (h .sound .before) (omega (arith, h .sound .current, h .sound .count))
+      (rw (h .last) at (last-context f archive (suc (h .steps)) s tables (h .sound))) found (usesAll (h .done)) slots (h .told) (h .few-uses)
+
+  -- its words are few, and so are all words counted up to it
+  pub counting-words : (judged f archive (followedTables f tables s (recordAt f archive (s .place) .content)) slots s (recordAt f archive (s .place) .content)
+      (recordAt f archive (s .place) .next) (eqb (found .number) 0) .words ≤ 33)
+      × (words
+      + judged f archive (followedTables f tables s (recordAt f archive (s .place) .content)) slots s (recordAt f archive (s .place) .content)
+      (recordAt f archive (s .place) .next) (eqb (found .number) 0) .words < 2 ^ 60)
+  counting-words = (here .few-words, omega (arith, here .few-words, h .few-words, h .sound .before, counting-short))
+
+  module _ (more : s .place < length archive) where
+    -- a run whose record goes on
+    goes-on : followed f s (recordAt f archive (s .place) .content) (recordAt f archive (s .place) .next) .number ≡ 0 → (steps : ℕ)
+        → runFrom f archive (suc steps) s tables
+        ≡ passed (s .place) (keepsAt f archive (s .place))
+        (itemAt f archive tables s (recordAt f archive (s .place) .content) (recordAt f archive (s .place) .next))
+        (runFrom f archive steps (followed f s (recordAt f archive (s .place) .content) (recordAt f archive (s .place) .next) .state)
+        (followedTables f tables s (recordAt f archive (s .place) .content)))
+    goes-on goes steps =
+        run-turn f archive tables s (h .sound) (h .door) more steps
+        ∙ rw (eq-eqb (followed f s (recordAt f archive (s .place) .content) (recordAt f archive (s .place) .next) .number) 0 goes)
+
+    -- behind a record that goes on it holds again
+    pub counting-turn : followed f s (recordAt f archive (s .place) .content) (recordAt f archive (s .place) .next) .number ≡ 0
+        → Counting f archive (followed f s (recordAt f archive (s .place) .content) (recordAt f archive (s .place) .next) .state)
+        (followedTables f tables s (recordAt f archive (s .place) .content)) slots₀
+        (judgedSlots f archive (followedTables f tables s (recordAt f archive (s .place) .content)) slots s (recordAt f archive (s .place) .content)
+        (recordAt f archive (s .place) .next) (eqb (found .number) 0))
+        (graverOf found (judged f archive (followedTables f tables s (recordAt f archive (s .place) .content)) slots s (recordAt f archive (s .place) .content)
+        (recordAt f archive (s .place) .next) (eqb (found .number) 0) .number) (s .place))
+        (words
+        + judged f archive (followedTables f tables s (recordAt f archive (s .place) .content)) slots s (recordAt f archive (s .place) .content)
+        (recordAt f archive (s .place) .next) (eqb (found .number) 0) .words)
+    unfolding lastFrom
+    counting-turn goes =
+        go (h .steps) (h .enough) (h .last) (h .items) (h .stops) (h .finds)
+      where
+        next : ℕ
+        next = recordAt f archive (s .place) .next
+
+        s′ : State
+        s′ = followed f s (recordAt f archive (s .place) .content) next .state
+
+        tables′ : List ℕ
+        tables′ = followedTables f tables s (recordAt f archive (s .place) .content)
+
+        slots′ : List ℕ
+        slots′ = judgedSlots f archive tables′ slots s (recordAt f archive (s .place) .content) next (eqb (found .number) 0)
+
+        counted : Counted
+        counted = judged f archive tables′ slots s (recordAt f archive (s .place) .content) next (eqb (found .number) 0)
+
+        item : Option Item
+        item = itemAt f archive tables s (recordAt f archive (s .place) .content) next
+
+        keeps : Bool
+        keeps = keepsAt f archive (s .place)
+
+        place-is : (s′ .place ≡ next) × (s .place + 8 ≤ next) × (next ≤ length archive)
+        place-is = turn-place f archive tables s (h .sound) (h .door) more goes
+
+        before : List Use
+        before = usesAll (h .done)
+
+        found′ : Finding
+        found′ = graverOf found (counted .number) (s .place)
+
+        done′ : List Item
+        done′ = h .done ++ shown item
+
+        uses-are : usesAll done′ ≡ before ++ itemUses item
+        uses-are = uses-both (h .done) (shown item) ∙ ap (λ (l : List Use). before ++ l) (shown-uses item)
+
+        clean : found′ .number ≡ 0 → (found .number ≡ 0) × (counted .number ≡ 0)
+        clean = found-clean found (counted .number) (s .place)
+
+        go : (steps : ℕ) → length archive < s .place + 8 * suc steps → lastFrom f archive (suc steps) s tables ≡ lastOf f archive
+            → itemsOf (runOf f archive) ≡ h .done ++ itemsOf (runFrom f archive (suc steps) s tables)
+            → stopRefusal (runOf f archive) ≡ stopRefusal (runFrom f archive (suc steps) s tables)
+            → runRefusal f [] (runOf f archive) ≡ graver (refusalIn found) (runRefusal f before (runFrom f archive (suc steps) s tables))
+            → Counting f archive s′ tables′ slots₀ slots′ found′ (words + counted .words)
+        go zero enough last items stops finds = absurd (omega (arith, enough, place-is))
+        go (suc steps) enough last items stops finds =
+            let rest = runFrom f archive (suc steps) s′ tables′ in
+            let run = goes-on goes (suc steps) in
+            record {
+              bytes = h .bytes;
+              sound = turn-sound f archive tables s (h .sound) (h .door) more goes;
+              door = rw (turn-tables f tables s (recordAt f archive (s .place) .content)) (h .door);
+              wide = record { some = h .wide .some; low = h .wide .low; long = rw (here .kept .long) (h .wide .long) };
+              kept = kept-then f slots₀ slots slots′ (h .kept) (here .kept);
+              steps = steps;
+              enough = omega (arith, enough, place-is);
+              last = rw (← turn-state f archive tables s (h .sound) (h .door) more goes, ← turn-tables-step f archive tables s (h .sound) (h .door) more goes) last;
+              done = done′;
+              items = items
+                  ∙ (ap (λ (r : Run). h .done ++ itemsOf r) run
+                  ∙ (ap (λ (l : List Item). h .done ++ l) (shown-items (s .place) keeps item rest) ∙ sym (append-assoc (h .done) (shown item) (itemsOf rest))));
+              stops = stops ∙ ap stopRefusal run;
+              finds = finds
+                  ∙ (ap (λ (r : Run). graver (refusalIn found) (runRefusal f before r)) run
+                  ∙ (ap (graver (refusalIn found)) (passed-refusal f before (s .place) keeps item rest)
+                  ∙ (graver-three (refusalIn found) (recordRefusal f keeps item (before ++ itemUses item) (s .place)) (runRefusal f (before ++ itemUses item) rest)
+                  ∙ (ap (λ (x : Option Refusal). graver x (runRefusal f (before ++ itemUses item) rest))
+                  (found-turn found (counted .number) (s .place) (recordRefusal f keeps item (before ++ itemUses item) (s .place)) (h .low) (here .says))
+                  ∙ ap (λ (l : List Use). graver (refusalIn found′) (runRefusal f l rest)) (sym uses-are)))));
+              low = found-low found (counted .number) (s .place) (h .low) (here .says .low);
+              told = λ z. rw uses-are (here .told (clean z .0) (clean z .1));
+              counted = λ z.
+                  let own = here .words (clean z .0) (clean z .1) in
+                  omega (arith, own, h .counted (clean z .0), sum-append fixedWords (h .done) (shown item), shown-words item);
+              few-uses = rw uses-are (omega (arith, length-append before (itemUses item), here .few-uses, h .few-uses, place-is));
+              few-words = omega (arith, here .few-words, h .few-words, place-is);
+            }
+
+    -- ---- a record that stops the pass
+
+    -- the archive is refused by its number, at its place
+    pub counting-stop : (followed f s (recordAt f archive (s .place) .content) (recordAt f archive (s .place) .next) .number ≡ 0 → ⊥)
+        → refusalOf f (runOf f archive)
+        ≡ some (refusal (followed f s (recordAt f archive (s .place) .content) (recordAt f archive (s .place) .next) .number) (s .place))
+    unfolding refusalOf
+    counting-stop stop =
+        let test = ne-eqb (followed f s (recordAt f archive (s .place) .content) (recordAt f archive (s .place) .next) .number) 0 stop in
+        let run = run-turn f archive tables s (h .sound) (h .door) more (h .steps) in
+        rw (h .stops ∙ ap stopRefusal run, test, test)
+
+  -- ---- the end
+
+  -- at the archive's length what was found says whether the archive is refused; if it is not, words and slots are those of all items
+  pub counting-end : s .place ≡ length archive → CountIs f archive slots (concluded found words)
+  unfolding concluded refusalOf
+  counting-end end =
+      let run = run-end f archive tables s (h .steps) (h .sound) (h .door) end in
+      let stops : stopRefusal (runOf f archive) ≡ none = h .stops ∙ ap stopRefusal run in
+      let finds : runRefusal f [] (runOf f archive) ≡ refusalIn found =
+      h .finds ∙ (ap (λ (r : Run). graver (refusalIn found) (runRefusal f (usesAll (h .done)) r)) run ∙ graver-none (refusalIn found)) in
+      let items : itemsOf (runOf f archive) ≡ h .done = h .items ∙ (ap (λ (r : Run). h .done ++ itemsOf r) run ∙ append-nil (h .done)) in
+      cases (eqb (found .number) 0)
+      (λ e. let z = eqb-true (found .number) 0 e in
+      rw e (rw stops (finds ∙ rw e), rw items (h .counted z), rw items (h .told z .tally)))
+      (λ e. rw e (rw stops (finds ∙ rw e)))

@@ -1,0 +1,11 @@
+pub mod Limits
+pub mod Told
+pub mod References
+pub mod Kept
+pub mod Sizes
+pub mod Findings
+pub mod Judged
+pub mod Counting
+pub mod Plain
+pub mod Laws
+pub mod Rooms

@@ -1,0 +1,38 @@
+-- What the first pass says of a whole archive.
+use Prim.Native.Nat.{ℕ}
+use mathlib.Core.Path.{_≡_}
+use mathlib.Core.List.{List}
+use mathlib.Core.Option.{none, some}
+use lib.Dec.{eqb, ltb}
+use Rattle.words.specs.Word.{pick}
+use Rattle.format.specs.declared.Format.{Format}
+use Rattle.records.specs.Item.{fixedWords}
+use Rattle.tables.specs.Table.{tableWords}
+use Rattle.rule.specs.Counting.{sumBy}
+use Rattle.rule.specs.Rule.{usesAll}
+use Rattle.rule.specs.Refusal.{runOf, refusal, refusalOf, itemsOf}
+use Rattle.tally.specs.Tally.{Tallies}
+use Rattle.tally.specs.Codes.{codes, lastOf}
+use Rattle.counting.specs.declared.Finding.{Finding}
+use Rattle.counting.specs.declared.Count.{Count}
+use Rattle.counting.specs.declared.Count.the-variants.{Refused, Words}
+
+-- the graver of what was found and what is found at a place: the lower number, and of equal ones the first
+unfoldable pub graverOf : Finding → ℕ → ℕ → Finding
+graverOf found number place =
+    pick (eqb number 0) found
+    (pick (eqb (found .number) 0) (record { number = number; place = place })
+    (pick (ltb number (found .number)) (record { number = number; place = place }) found))
+
+-- what was found in all, once no record stopped the pass
+unfoldable pub concluded : Finding → ℕ → Count
+concluded found words = pick (eqb (found .number) 0) (Words words) (Refused (found .number) (found .place))
+
+-- the archive is refused by this number at this place; or it is not, its items take so many words without texts and threads, and the slots count
+-- their uses
+abbrev pub CountIs : Format → List ℕ → List ℕ → Count → Type 0
+CountIs f archive slots (Refused number place) = refusalOf f (runOf f archive) ≡ some (refusal number place)
+CountIs f archive slots (Words n) =
+    (refusalOf f (runOf f archive) ≡ none)
+    × (n ≡ sumBy fixedWords (itemsOf (runOf f archive)))
+    × Tallies archive (tableWords f) slots (codes (lastOf f archive) (usesAll (itemsOf (runOf f archive))))
