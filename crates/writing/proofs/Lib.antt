@@ -1,0 +1,12 @@
+pub mod IndexCodes
+pub mod ReferenceCodes
+pub mod Given
+pub mod Registrations
+pub mod Records
+pub mod Contents
+pub mod Ready
+pub mod Pass
+pub mod Passing
+pub mod Spelling
+pub mod Registering
+pub mod Settled

@@ -1,0 +1,309 @@
+-- The second pass over an archive that is not refused: what holds at each turn of it, from its start to its end, where the bytes of the rule are written.
+-- Assumes nothing.
+use Prim.Native.Nat.{ℕ, suc, _+_, _-_, _*_, _/_, _≤_, _<_}
+use mathlib.Core.Path.{_≡_, refl, sym, ap, subst, _∙_}
+use mathlib.Core.List.{List, [], _∷_, _++_, append-assoc, append-nil}
+use mathlib.Core.Bool.{Bool}
+use mathlib.Core.Option.{Option, none, some}
+use native.Mathlib.Numerals.{add-one}
+use native.Mathlib.Omega.{arith}
+use borrow.Author.Tests.{eq-eqb, eqb-true}
+use lib.Dec.{eqb}
+use lib.ListN.{length, getD, drop, replicate, length-append, length-replicate, getD-replicate}
+use lib.Seq.{ext-getD}
+use Rattle.words.specs.Word.{pick}
+use Rattle.format.specs.declared.Format.{Format}
+use Rattle.format.specs.Limits.{smallFormat}
+use Rattle.arguments.proofs.Arguments.{cases}
+use Rattle.records.specs.declared.Content.{Content}
+use Rattle.records.specs.declared.Content.the-variants.{Refused, Magic, ProviderInfo, Section, ProviderEvent, Initialization, String, Thread, Event as EventRead, Ignored, Skipped}
+use Rattle.records.specs.Record.{recordAt}
+use Rattle.records.specs.Item.{Item, Use, usesOf}
+use Rattle.records.specs.Written.{itemRecord}
+use Rattle.contexts.specs.declared.State.{State}
+use Rattle.contexts.specs.Context.{opening}
+use Rattle.tables.specs.Table.{tableWords}
+use Rattle.reader.specs.Step.{doorOf}
+use Rattle.reader.proofs.Runs.{Sound, fresh-sound}
+use Rattle.rule.specs.Rule.{usesAll, Entry, indexIn, tableAfter, registrations, providerOf, written, chosenIn, rule}
+use Rattle.rule.specs.Refusal.{Run, ended, passed, keepsAt, runFrom, runOf, stopRefusal, refusalOf, itemsOf, Accepted}
+use Rattle.rule.proofs.Bounds.{AllBytes}
+use Rattle.rule.proofs.Length.{none-registered}
+use Rattle.rule.proofs.ReadBack.{AllFit}
+use Rattle.rule.proofs.WholeRuns.{not-refused-passes}
+use Rattle.tally.specs.Codes.{lastFrom, lastOf, Chosen}
+use Rattle.tally.proofs.Codes.{UsesPlain, last-sound, last-context}
+use Rattle.passes.specs.Follow.{followed, followedTables}
+use Rattle.passes.specs.Item.{itemAt}
+use Rattle.passes.proofs.Places.{door-event}
+use Rattle.passes.proofs.Turns.{turn-tables, run-end, run-turn, turn-state, turn-tables-step, turn-sound, turn-place}
+use Rattle.writing.specs.Write.{contentBytes, contentSlots}
+use Rattle.writing.specs.Fits.{ContentFits}
+use Rattle.writing.proofs.IndexCodes.{Indexing}
+use Rattle.writing.proofs.Given.{Small, UsesReady, ready-both}
+use Rattle.writing.proofs.Contents.{itemList, Wrote, content-written}
+use Rattle.writing.proofs.Ready.{items-plain, accepted-fit, accepted-ready}
+
+-- ---- lists of items in two parts
+
+-- the uses of two parts of items
+uses-both : (items others : List Item) → usesAll (items ++ others) ≡ usesAll items ++ usesAll others
+uses-both [] others = refl
+uses-both (i ∷ items) others = rw (uses-both items others) (sym (append-assoc (usesOf i) (usesAll items) (usesAll others)))
+
+-- what the rule writes for one item or none, and then for others
+written-behind : (chosen : Use → Bool) (table : List Entry) (o : Option Item) (others : List Item)
+    → written chosen table (itemList o ++ others)
+    ≡ written chosen table (itemList o) ++ written chosen (tableAfter chosen table (usesAll (itemList o))) others
+written-behind chosen table none others = refl
+written-behind chosen table (some i) others =
+    let first = registrations chosen table (usesOf i) in
+    let own = itemRecord (indexIn (tableAfter chosen table (usesOf i)) (providerOf i)) i in
+    rw (append-nil (usesOf i), append-nil own) (sym (append-assoc first own (written chosen (tableAfter chosen table (usesOf i)) others)))
+
+-- both parts fit as they are written
+fit-behind : (f : Format) (chosen : Use → Bool) (table : List Entry) (o : Option Item) (others : List Item) → AllFit f chosen table (itemList o ++ others)
+    → AllFit f chosen table (itemList o) × AllFit f chosen (tableAfter chosen table (usesAll (itemList o))) others
+fit-behind f chosen table none others fit = (tt, fit)
+fit-behind f chosen table (some i) others fit = ((fit .0, fit .1, tt), rw (append-nil (usesOf i)) (fit .2))
+
+-- the items of a run are the one that its first record shows, if any, and those behind
+items-behind : (place : ℕ) (keeps : Bool) (o : Option Item) (run : Run) → itemsOf (passed place keeps o run) ≡ itemList o ++ itemsOf run
+items-behind place keeps none run = refl
+items-behind place keeps (some i) run = refl
+
+-- ---- what holds at each turn
+
+-- the bytes written so far, and those that the rule gives for the rest of the run by the table that the slots hold, are the rule's
+pub record Writing (f : Format) (archive : List ℕ) (s : State) (tables slots₀ slots sofar : List ℕ) : Type 0 where
+  pub small : Small f
+  pub bytes : AllBytes archive
+  pub sound : Sound f archive s tables
+  pub door : doorOf f archive (length tables) ≡ 0
+  pub steps : ℕ
+  pub enough : length archive < s .place + 8 * suc steps
+  pub last-is : lastFrom f archive (suc steps) s tables ≡ lastOf f archive
+  pub stop : stopRefusal (runFrom f archive (suc steps) s tables) ≡ none
+  pub plain : UsesPlain (usesAll (itemsOf (runOf f archive)))
+  pub table : List Entry
+  pub indexing : Indexing f archive (lastOf f archive) (usesAll (itemsOf (runOf f archive))) slots table
+  pub ready : UsesReady f (usesAll (itemsOf (runOf f archive))) table (usesAll (itemsOf (runFrom f archive (suc steps) s tables)))
+  pub fit : AllFit f (chosenIn (usesAll (itemsOf (runOf f archive)))) table (itemsOf (runFrom f archive (suc steps) s tables))
+  pub rule-is : rule (itemsOf (runOf f archive))
+      ≡ sofar ++ written (chosenIn (usesAll (itemsOf (runOf f archive)))) table (itemsOf (runFrom f archive (suc steps) s tables))
+  pub long : length slots ≡ length slots₀
+  pub behind : drop (3 * tableWords f) slots ≡ drop (3 * tableWords f) slots₀
+
+-- ---- the end
+
+-- at the archive's end all bytes of the rule are written
+pub writing-end : (f : Format) (archive : List ℕ) (s : State) (tables slots₀ slots sofar : List ℕ) → Writing f archive s tables slots₀ slots sofar
+    → s .place ≡ length archive → rule (itemsOf (runOf f archive)) ≡ sofar
+writing-end f archive s tables slots₀ slots sofar w e =
+    w .rule-is ∙ rw (run-end f archive tables s (w .steps) (w .sound) (w .door) e) (append-nil sofar)
+
+-- ---- one turn
+
+-- a record that only registers shows nothing, and every other leaves the tables, so they may be read after it
+item-followed : (f : Format) (archive tables : List ℕ) (s : State) (c : Content) (next : ℕ)
+    → itemAt f archive tables s c next ≡ itemAt f archive (followedTables f tables s c) s c next
+unfolding itemAt followedTables
+item-followed f archive tables s (Refused number) next = refl
+item-followed f archive tables s Magic next = refl
+item-followed f archive tables s (ProviderInfo id place long) next = refl
+item-followed f archive tables s (Section id) next = refl
+item-followed f archive tables s (ProviderEvent id e) next = refl
+item-followed f archive tables s (Initialization rate) next = refl
+item-followed f archive tables s (String index place long) next = refl
+item-followed f archive tables s (Thread index place) next = refl
+item-followed f archive tables s (EventRead e) next = refl
+item-followed f archive tables s Ignored next = refl
+item-followed f archive tables s (Skipped type size) next = refl
+
+-- a run that no number stops goes on
+goes-on : (number place : ℕ) (run : Run) → stopRefusal (pick (eqb number 0) run (ended number place)) ≡ none → number ≡ 0
+goes-on number place run stop =
+    cases (eqb number 0) (λ e. eqb-true number 0 e)
+    (λ e. let z = rw e at stop in let one : _≡_ {A = ℕ} 0 1 = cc in absurd (omega arith))
+
+-- what a turn does: no number stops it, what is written fits and has room, and the same holds behind it
+pub record Turned (f : Format) (archive : List ℕ) (s : State) (tables slots₀ slots sofar : List ℕ) (c : Content) (next : ℕ) : Type 0 where
+  pub number : followed f s c next .number ≡ 0
+  pub fits : ContentFits f archive (followedTables f tables s c) slots s c next
+  pub writing : Writing f archive (followed f s c next .state) (followedTables f tables s c) slots₀
+      (contentSlots f archive (followedTables f tables s c) slots s c next)
+      (sofar ++ contentBytes f archive (followedTables f tables s c) slots s c next)
+  pub room : length (sofar ++ contentBytes f archive (followedTables f tables s c) slots s c next) ≤ length (rule (itemsOf (runOf f archive)))
+
+module _ (f : Format) (archive : List ℕ) (s : State) (tables slots₀ slots sofar : List ℕ) (w : Writing f archive s tables slots₀ slots sofar)
+    (more : s .place < length archive) where
+  -- what stands in the record
+  abbrev content : Content
+  content = recordAt f archive (s .place) .content
+
+  -- where it ends
+  abbrev next : ℕ
+  next = recordAt f archive (s .place) .next
+
+  -- all uses of the archive
+  abbrev uses : List Use
+  uses = usesAll (itemsOf (runOf f archive))
+
+  -- which of them are registered
+  abbrev chosen : Use → Bool
+  chosen = chosenIn uses
+
+  -- no number stops the turn
+  goes : followed f s content next .number ≡ 0
+  goes = goes-on (followed f s content next .number) (s .place) _ (rw (run-turn f archive tables s (w .sound) (w .door) more (w .steps)) at (w .stop))
+
+  -- the state behind the record
+  abbrev state : State
+  state = followed f s content next .state
+
+  -- the tables behind it
+  abbrev tables′ : List ℕ
+  tables′ = followedTables f tables s content
+
+  -- the item that it shows, if any
+  abbrev item : Option Item
+  item = itemAt f archive tables′ s content next
+
+  -- the rest of the run
+  abbrev rest : Run
+  rest = runFrom f archive (w .steps) state tables′
+
+  -- so the run is the record and what is behind it
+  passes : runFrom f archive (suc (w .steps)) s tables ≡ passed (s .place) (keepsAt f archive (s .place)) item rest
+  passes =
+      run-turn f archive tables s (w .sound) (w .door) more (w .steps)
+      ∙ rw (eq-eqb (followed f s content next .number) 0 goes, item-followed f archive tables s content next)
+
+  -- and its items are the record's and those behind it
+  shown : itemsOf (runFrom f archive (suc (w .steps)) s tables) ≡ itemList item ++ itemsOf rest
+  shown = ap itemsOf passes ∙ items-behind (s .place) (keepsAt f archive (s .place)) item rest
+
+  -- there is a step left for what is behind it
+  again : suc (w .steps - 1) ≡ w .steps
+  again = omega (arith, turn-place f archive tables s (w .sound) (w .door) more goes, w .enough)
+
+  -- the last state is the same from there
+  last-follows : lastFrom f archive (w .steps) state tables′ ≡ lastOf f archive
+  unfolding lastFrom
+  last-follows =
+      rw (
+        ← (turn-state f archive tables s (w .sound) (w .door) more goes),
+        ← (turn-tables-step f archive tables s (w .sound) (w .door) more goes),
+      ) (w .last-is)
+
+  -- the uses of the record, and those behind it
+  ready : UsesReady f uses (w .table) (usesAll (itemList item)) × UsesReady f uses (tableAfter chosen (w .table) (usesAll (itemList item))) (usesAll (itemsOf rest))
+  ready =
+      ready-both f uses (w .table) (usesAll (itemList item)) (usesAll (itemsOf rest)) (rw (shown, uses-both (itemList item) (itemsOf rest)) at (w .ready))
+
+  -- both fit as they are written
+  fit : AllFit f chosen (w .table) (itemList item) × AllFit f chosen (tableAfter chosen (w .table) (usesAll (itemList item))) (itemsOf rest)
+  fit = fit-behind f chosen (w .table) item (itemsOf rest) (rw shown at (w .fit))
+
+  -- what is written for the record
+  wrote : Wrote f archive (lastOf f archive) uses tables′ slots s (w .table) content next
+  wrote =
+      let end = last-sound f archive (suc (w .steps)) s tables (w .sound) .1 in
+      content-written f archive (lastOf f archive) uses (rw (w .last-is) at (end .count)) (w .plain) (w .small) (w .bytes) tables′ slots s (w .table) (w .indexing)
+      (rw (w .last-is) at (last-context f archive (suc (w .steps)) s tables (w .sound))) (omega (arith, w .sound .current, w .sound .count)) content
+      (λ e k. door-event f archive (length tables) (s .place) e (w .door) k) refl (ready .0) (fit .0)
+
+  -- its bytes
+  abbrev bytes : List ℕ
+  bytes = contentBytes f archive tables′ slots s content next
+
+  -- the rule's table behind it
+  abbrev table′ : List Entry
+  table′ = tableAfter chosen (w .table) (usesAll (itemList item))
+
+  -- with them the bytes of the rule go on
+  rule-follows : rule (itemsOf (runOf f archive)) ≡ (sofar ++ bytes) ++ written chosen table′ (itemsOf rest)
+  rule-follows =
+      w .rule-is
+      ∙ rw (shown, written-behind chosen (w .table) item (itemsOf rest), ← (wrote .bytes-are))
+      (sym (append-assoc sofar bytes (written chosen table′ (itemsOf rest))))
+
+  -- a turn of the pass
+  pub writing-turn : Turned f archive s tables slots₀ slots sofar (recordAt f archive (s .place) .content) (recordAt f archive (s .place) .next)
+  writing-turn = record {
+    number = goes;
+    fits = wrote .fits;
+    writing = record {
+      small = w .small;
+      bytes = w .bytes;
+      sound = turn-sound f archive tables s (w .sound) (w .door) more goes;
+      door = rw (turn-tables f tables s content) (w .door);
+      steps = w .steps - 1;
+      enough = omega (arith, turn-place f archive tables s (w .sound) (w .door) more goes, w .enough, again);
+      last-is = rw again last-follows;
+      stop = rw again (rw passes at (w .stop));
+      plain = w .plain;
+      table = table′;
+      indexing = wrote .indexing;
+      ready = rw again (ready .1);
+      fit = rw again (fit .1);
+      rule-is = rw again rule-follows;
+      long = wrote .long ∙ w .long;
+      behind = wrote .behind ∙ w .behind;
+    };
+    room = omega (arith, ap length rule-follows, length-append (sofar ++ bytes) (written chosen table′ (itemsOf rest)));
+  }
+
+-- ---- the start
+
+-- tables of zeros
+zeros-are : (tables : List ℕ) (n : ℕ) → length tables ≡ n → ((i : ℕ) → i < n → getD tables i 0 ≡ 0) → tables ≡ replicate n 0
+zeros-are tables n long zeros =
+    ext-getD 0 tables (replicate n 0) (long ∙ sym (length-replicate n 0))
+    (λ i low. zeros i (omega arith) ∙ sym (getD-replicate n i 0 0 (omega arith)))
+
+-- the small format keeps its limits
+small-limits : (f : Format) → f ≡ smallFormat → Small f
+small-limits f is = subst Small (sym is) (record { longest = omega arith; highest = omega arith })
+
+-- the run with them is the archive's
+whole-run : (f : Format) (archive tables : List ℕ) → tables ≡ replicate (tableWords f) 0
+    → runFrom f archive (suc (length archive / 8)) opening tables ≡ runOf f archive
+unfolding runOf
+whole-run f archive tables e = rw (e, add-one)
+
+-- and ends in its last state
+whole-last : (f : Format) (archive tables : List ℕ) → tables ≡ replicate (tableWords f) 0
+    → lastFrom f archive (suc (length archive / 8)) opening tables ≡ lastOf f archive
+unfolding lastOf
+whole-last f archive tables e = rw (e, add-one)
+
+-- from opening, with tables of zeros and the choices in the slots, nothing is written yet
+pub writing-start : (f : Format) (archive tables slots : List ℕ) → f ≡ smallFormat → AllBytes archive → doorOf f archive (tableWords f) ≡ 0
+    → refusalOf f (runOf f archive) ≡ none → length tables ≡ tableWords f → ((i : ℕ) → i < tableWords f → getD tables i 0 ≡ 0)
+    → Chosen f archive slots → Writing f archive opening tables slots slots []
+unfolding rule
+writing-start f archive tables slots is bytes door passes long zeros chosen =
+    let items = itemsOf (runOf f archive) in
+    let accepted : Accepted f archive = record { opened = door; not-refused = passes } in
+    let zeroed = zeros-are tables (tableWords f) long zeros in
+    let run : runFrom f archive (suc (length archive / 8)) opening tables ≡ runOf f archive = whole-run f archive tables zeroed in
+    let fit = accepted-fit f archive is accepted bytes in
+    record {
+      small = small-limits f is;
+      bytes = bytes;
+      sound = rw zeroed (fresh-sound f archive);
+      door = rw long door;
+      steps = length archive / 8;
+      enough = omega arith;
+      last-is = whole-last f archive tables zeroed;
+      stop = rw run (not-refused-passes f (runOf f archive) passes .stop);
+      plain = items-plain f (chosenIn (usesAll items)) [] items fit;
+      table = [];
+      indexing = record { indexes = chosen; plain = tt; seen = []; registered = none-registered (chosenIn (usesAll items)) };
+      ready = rw run (accepted-ready f archive is accepted bytes);
+      fit = rw run fit;
+      rule-is = rw run;
+      long = refl;
+      behind = refl;
+    }
