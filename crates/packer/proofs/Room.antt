@@ -1,0 +1,154 @@
+-- The room of a repack: what clearing leaves of it, and how its slots are lent to the tally and come back between the two passes. Assumes nothing.
+use Prim.Native.Nat.{ℕ, _+_, _-_, _*_, _<_, _≤_}
+use mathlib.Core.Path.{_≡_, sym, ap, subst, _∙_}
+use mathlib.Core.List.{List, [], _++_, append-nil}
+use mathlib.Core.Option.{none}
+use native.Mathlib.Omega.{arith}
+use lib.Dec.{lit<}
+use lib.ListN.{length, take, drop, getD, replicate, length-append, length-drop, length-replicate, drop-of-length-le}
+use lib.Seq.{length-take-le, drop-at, drop-drop}
+use Rattle.format.specs.declared.Format.{Format}
+use Rattle.format.specs.Limits.{smallFormat}
+use Rattle.format.proofs.Headers.{part-from}
+use Rattle.records.specs.Item.{fixedWords}
+use Rattle.tables.specs.Table.{FormatFits, tableWords, cleared}
+use Rattle.tables.proofs.Tables.{small-fits, cleared-zero, length-cleared}
+use Rattle.reader.specs.Step.{doorOf}
+use Rattle.rule.specs.Counting.{sumBy}
+use Rattle.rule.specs.Rule.{usesAll}
+use Rattle.rule.specs.Refusal.{runOf, refusalOf, itemsOf, writtenLength}
+use Rattle.rule.proofs.Bounds.{AllBytes}
+use Rattle.tally.specs.Slots.{measureOf, chosenTo}
+use Rattle.tally.specs.Tally.{Wide, Tallies, Indexes, chosenKey}
+use Rattle.tally.specs.Codes.{codes, lastOf, Chosen}
+use Rattle.tally.proofs.Frames.{chosen-length, chosen-behind}
+use Rattle.tally.proofs.Indexed.{choose-indexes}
+use Rattle.packer.specs.Pack.{roomWords}
+use Rattle.packer.proofs.Measured.{measured, measured-low}
+
+-- the limits of the small format fit the tables and the labels of the tally
+pub small-format : (f : Format) → f ≡ smallFormat → FormatFits f × (f .longest < 65536)
+small-format f small = subst (λ g. FormatFits g × (g .longest < 65536)) (sym small) (small-fits, lit< tt)
+
+-- ---- clearing
+
+-- behind the cleared words a room is as it was
+pub cleared-behind : (n : ℕ) (room : List ℕ) → drop n (cleared n room) ≡ drop n room
+cleared-behind n room = drop-at (replicate n 0) (drop n room) n (length-replicate {A = ℕ} n 0)
+
+-- a room that is cleared for a repack is as long as it was, and the words that a repack uses are 0
+pub cleared-first : (f : Format) (room first : List ℕ) (stretch : ℕ) → stretch ≡ tableWords f → roomWords f ≤ length room
+    → first ≡ cleared (4 * stretch) room → (length first ≡ length room) × ((i : ℕ) → i < roomWords f → getD first i 0 ≡ 0)
+cleared-first f room first stretch is long clear =
+    let clear′ : first ≡ cleared (roomWords f) room = rw is at clear in
+    rw clear′ (length-cleared (roomWords f) room long, cleared-zero (roomWords f) room)
+
+-- a room that is cleared again, after anything that left the words behind, is the first room, cleared
+pub cleared-again : (n : ℕ) (room after : List ℕ) → drop n after ≡ drop n (cleared n room) → cleared n after ≡ cleared n room
+cleared-again n room after behind = ap (λ (rest : List ℕ). replicate n 0 ++ rest) (behind ∙ cleared-behind n room)
+
+-- so a room that is cleared, used up to its words behind, and cleared again is the first room, cleared
+pub cleared-last : (f : Format) (room first used last : List ℕ) (stretch : ℕ) → stretch ≡ tableWords f → first ≡ cleared (4 * stretch) room
+    → drop (roomWords f) used ≡ drop (roomWords f) first → last ≡ cleared (4 * stretch) used → last ≡ cleared (roomWords f) room
+cleared-last f room first used last stretch is clear behind again =
+    let clear′ : first ≡ cleared (roomWords f) room = rw is at clear in
+    let again′ : last ≡ cleared (roomWords f) used = rw is at again in
+    again′ ∙ cleared-again (roomWords f) room used (behind ∙ ap (drop (roomWords f)) clear′)
+
+-- ---- the slots are lent
+
+-- a room whose words from n on were lent and came back as these
+abbrev pub handedBack : ℕ → List ℕ → List ℕ → List ℕ
+handedBack n room back = take n room ++ (back ++ drop (length room - n) (drop n room))
+
+-- behind the first n words stands what came back
+pub handed-behind : (n : ℕ) (room back : List ℕ) → n ≤ length room → drop n (handedBack n room back) ≡ back
+handed-behind n room back low =
+    let none-left : drop (length room - n) (drop n room) ≡ [] = drop-of-length-le (drop n room) {i = length room - n} (omega (arith, length-drop n room)) in
+    drop-at (take n room) (back ++ drop (length room - n) (drop n room)) n (length-take-le n room low)
+    ∙ ap (λ (rest : List ℕ). back ++ rest) none-left ∙ append-nil back
+
+-- slots that tell of uses can be lent: they are wide enough
+pub lent-wide : (f : Format) (archive room : List ℕ) (us : List (List ℕ)) (stretch : ℕ) → stretch ≡ tableWords f
+    → Tallies archive (tableWords f) (drop (tableWords f) room) us → Wide stretch (take (length room - stretch) (drop stretch room))
+lent-wide f archive room us stretch is tallies = rw (part-from stretch room, is) (tallies .wide)
+
+-- what is measured of lent slots, with the words of the items, is the written length, and low
+pub lent-measured : (f : Format) (archive room : List ℕ) (fixed keys stretch : ℕ) → f ≡ smallFormat → AllBytes archive
+    → doorOf f archive (tableWords f) ≡ 0 → refusalOf f (runOf f archive) ≡ none
+    → Tallies archive (tableWords f) (drop (tableWords f) room) (codes (lastOf f archive) (usesAll (itemsOf (runOf f archive))))
+    → fixed ≡ sumBy fixedWords (itemsOf (runOf f archive)) → stretch ≡ tableWords f
+    → keys ≡ measureOf stretch (take (length room - stretch) (drop stretch room))
+    → (8 * (fixed + keys) ≡ writtenLength f archive) × (8 * (fixed + keys) ≤ 16777216)
+lent-measured f archive room fixed keys stretch small bytes door unrefused tallies counted is measure =
+    let same : keys ≡ measureOf (tableWords f) (drop (tableWords f) room) = rw (part-from stretch room, is) at measure in
+    let slots = drop (tableWords f) room in (
+      omega (arith, same, measured f archive slots fixed small bytes door unrefused tallies counted),
+      omega (arith, same, measured-low f archive slots fixed small bytes door unrefused tallies counted),
+    )
+
+-- ---- the choices
+
+-- slots that were lent and came back with choices for uses, the words before them cleared
+module _ (archive room back after : List ℕ) (us : List (List ℕ)) (stretch : ℕ) (long : 4 * stretch ≤ length room)
+    (tallies : Tallies archive stretch (drop stretch room) us)
+    (chosen : back ≡ chosenTo stretch stretch (take (length room - stretch) (drop stretch room)))
+    (clear : after ≡ cleared stretch (handedBack stretch room back)) where
+  -- the slots are those of the room with choices in them
+  slots-after : drop stretch after ≡ chosenTo stretch stretch (drop stretch room)
+  slots-after =
+      rw clear
+      (cleared-behind stretch (handedBack stretch room back) ∙ handed-behind stretch room back (omega arith)
+      ∙ chosen ∙ ap (chosenTo stretch stretch) (part-from stretch room))
+
+  -- the room is as long as it was
+  length-after : length after ≡ length room
+  length-after =
+      rw clear
+      (omega (
+        arith,
+        length-append (replicate stretch 0) (drop stretch (handedBack stretch room back)),
+        length-replicate {A = ℕ} stretch 0,
+        ap length (handed-behind stretch room back (omega arith) ∙ chosen ∙ ap (chosenTo stretch stretch) (part-from stretch room)),
+        chosen-length stretch stretch (drop stretch room),
+        length-drop stretch room,
+      ))
+
+  -- behind the slots it is as it was
+  behind-after : drop (4 * stretch) after ≡ drop (4 * stretch) room
+  behind-after =
+      let on : stretch + 3 * stretch ≡ 4 * stretch = omega arith in
+      rw on at
+      (sym (drop-drop (3 * stretch) stretch after) ∙ ap (drop (3 * stretch)) slots-after
+      ∙ chosen-behind stretch stretch (drop stretch room) (omega arith) ∙ drop-drop (3 * stretch) stretch room)
+
+  -- the words before them are 0
+  zeros-after : (i : ℕ) → i < stretch → getD after i 0 ≡ 0
+  zeros-after i low = rw clear (cleared-zero stretch (handedBack stretch room back) i low)
+
+  -- no key has an index yet
+  indexes-after : Indexes archive stretch (drop stretch after) us (chosenKey us) (λ key. 0) (λ mark. 0)
+  indexes-after = rw slots-after (choose-indexes tallies)
+
+-- a room that the second pass can write from: its first words are 0, its slots have choices, and all else is as in the room before
+pub record Ready (f : Format) (archive room after : List ℕ) : Type 0 where
+  pub same-length : length after ≡ length room
+  pub behind : drop (roomWords f) after ≡ drop (roomWords f) room
+  pub zeros : (i : ℕ) → i < tableWords f → getD after i 0 ≡ 0
+  pub chosen : Chosen f archive (drop (tableWords f) after)
+
+-- a room whose slots tell of an archive's uses is ready once choices stand for them and the first words are cleared
+pub choices-ready : (f : Format) (archive room back after : List ℕ) (stretch : ℕ) → stretch ≡ tableWords f → roomWords f ≤ length room
+    → Tallies archive (tableWords f) (drop (tableWords f) room) (codes (lastOf f archive) (usesAll (itemsOf (runOf f archive))))
+    → back ≡ chosenTo stretch stretch (take (length room - stretch) (drop stretch room))
+    → after ≡ cleared stretch (handedBack stretch room back) → Ready f archive room after
+choices-ready f archive room back after stretch is long tallies chosen clear =
+    let us = codes (lastOf f archive) (usesAll (itemsOf (runOf f archive))) in
+    let long′ : 4 * stretch ≤ length room = omega (arith, is) in
+    let tallies′ : Tallies archive stretch (drop stretch room) us = rw is tallies in
+    record {
+      same-length = length-after archive room back after us stretch long′ tallies′ chosen clear;
+      behind = rw is at (behind-after archive room back after us stretch long′ tallies′ chosen clear);
+      zeros = rw is at (zeros-after archive room back after us stretch long′ tallies′ chosen clear);
+      chosen = rw is at (indexes-after archive room back after us stretch long′ tallies′ chosen clear);
+    }
