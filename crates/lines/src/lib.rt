@@ -309,3 +309,17 @@ pub fn list(archive: &[u8], tables: &mut [u32]) {
     }
     list_records(archive, state, tables);
 }
+
+fn print_hex_byte(byte: u8) {
+    io::print_hex(STDOUT_FILENO, byte as u64, 2);
+}
+
+// A line of bytes, each as two lower-case hexadecimal digits.
+pub fn print_hex(bytes: &[u8]) {
+    let mut i = 0;
+    while i < bytes.len() {
+        print_hex_byte(bytes[i]);
+        i += 1;
+    }
+    print(b"\n");
+}

@@ -1,0 +1,16 @@
+-- `bytes_kept` is safe and ends: the measure is the bytes that are left.
+use Prim.Native.Nat.{_-_}
+use lib.ListN.{length}
+use borrow.Author.Needs.{needs}
+use Rattle.rooms.proofs.bytes_kept.Statement.{statement}
+use Rattle.rooms.proofs.bytes_kept.Tie as tie
+
+abbrev Inv-loop : tie.InvT-loop
+Inv-loop bytes from i₀ i = Unit {0}
+
+abbrev μ-loop : tie.MeasureT-loop
+μ-loop bytes from i₀ i = length bytes - i
+
+pub bytes-kept-spec : {M : Type 1} → statement M
+bytes-kept-spec =
+    tie.close (tie.spec Inv-loop μ-loop (λ c. search needs) (λ c. search needs) (λ c κs. search needs) (λ c. search needs) (λ c. search needs) (λ c. search needs) (λ c. search needs) (λ c. search needs))
