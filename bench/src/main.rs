@@ -1,13 +1,16 @@
-// Compares the proved reader with a plain Rust reader, reply by reply, and times both on the same archives.
-// Arguments: `test N` or `time MIB`, then corpus.bin and probes.bin, if there are any; their expected answers are looked for beside them.
+// Compares the proved reader and repacker with plain Rust ones, reply by reply, and times them on the same archives.
+// Arguments: `read`, `repack` or `all`, then `test N` or `time MIB`, then corpus.bin and probes.bin, if there are any; their expected
+// answers are looked for beside them.
 mod digest;
 mod listing;
 mod make;
 mod ours;
+mod packing;
 mod plain;
+mod repack;
 mod replies;
 
-use make::Random;
+use make::{Long, Random};
 use plain::{State, TABLE_WORDS};
 use std::hint::black_box;
 
@@ -153,7 +156,7 @@ fn compare_planted(random: &mut Random) -> Result<u64, (Vec<u8>, String)> {
     Ok(14)
 }
 
-fn save(archive: &[u8], what: &str) -> ! {
+pub fn save(archive: &[u8], what: &str) -> ! {
     let path = std::env::temp_dir().join("difference.bin");
     std::fs::write(&path, archive).unwrap();
     println!("DIFFERENCE: {what}\nthe archive is in {}", path.display());
@@ -200,7 +203,7 @@ fn test(many: usize) {
     println!("one archive cut at each of its {} bytes: no difference", archive.len());
     // the length's limit
     for n in [16_777_208, 16_777_216, 16_777_217, 16_777_224] {
-        let mut long = make::long(n, 5, 50, 3);
+        let mut long = make::long(n, 5, Long::new(50, 3));
         long.truncate(n);
         long.resize(n, 0);
         if ours::read(&long, &mut [0; TABLE_WORDS]) != digest::read(&long, &mut [0; TABLE_WORDS]) {
@@ -218,12 +221,12 @@ fn word64(bytes: &[u8], at: usize) -> u64 {
     u64::from_le_bytes(bytes[at..at + 8].try_into().unwrap())
 }
 
-// The cases of corpus.bin; the plain reader's listing against the expected answers, where they stand beside.
+// The cases of corpus.bin; the plain reader's listing and the plain repacker's bytes against the expected answers, where they stand beside.
 fn corpus(path: &str) {
     let bytes = std::fs::read(path).unwrap();
     let expected = std::fs::read(path.replace(".bin", ".expected")).unwrap_or_default();
     let mut rest = &expected[..];
-    let (mut at, mut case, mut blocks) = (0, 0, 0);
+    let (mut at, mut case, mut blocks, mut calls) = (0, 0, 0, 0);
     while at < bytes.len() {
         let n = word32(&bytes, at);
         let archive = &bytes[at + 4..at + 4 + n];
@@ -232,23 +235,21 @@ fn corpus(path: &str) {
             Ok(n) => blocks += n,
             Err(what) => save(archive, &format!("case {case}: {what}")),
         }
+        match packing::compare_all(&mut Random(case | 1), archive) {
+            Ok((n, _)) => calls += n,
+            Err(what) => save(archive, &format!("case {case}: {what}")),
+        }
         if !expected.is_empty() {
-            let lines = [format!("case {case} {n}\n").into_bytes(), listing::listing(archive), b"pack ".to_vec()].concat();
+            let lines = [format!("case {case} {n}\n").into_bytes(), listing::listing(archive), packing::lines(archive)].concat();
             if !rest.starts_with(&lines) {
-                save(archive, &format!("case {case}: the plain reader's listing is not the expected one"));
+                save(archive, &format!("case {case}: the plain listing or repacking is not the expected one"));
             }
-            let line = &rest[lines.len()..];
-            let skipped = if line.starts_with(b"0 ") { 2 } else { 1 };
             rest = &rest[lines.len()..];
-            for _ in 0..skipped {
-                let end = rest.iter().position(|&b| b == b'\n').unwrap();
-                rest = &rest[end + 1..];
-            }
         }
         case += 1;
     }
-    let listed = if expected.is_empty() { "" } else { ", and the plain reader's listings are the expected ones" };
-    println!("{case} cases of the corpus, {blocks} replies: no difference{listed}");
+    let listed = if expected.is_empty() { "" } else { ", and the plain listings and repackings are the expected ones" };
+    println!("{case} cases of the corpus, {blocks} replies and {calls} repackings: no difference{listed}");
 }
 
 // The calls of probes.bin, likewise.
@@ -327,7 +328,7 @@ fn now() -> f64 {
 }
 
 // The best time of several runs, in nanoseconds; the two readers take turns.
-fn best(runs: usize, mut ours: impl FnMut() -> u64, mut plain: impl FnMut() -> u64) -> (f64, f64) {
+pub fn best(runs: usize, mut ours: impl FnMut() -> u64, mut plain: impl FnMut() -> u64) -> (f64, f64) {
     let (mut a, mut b) = (f64::MAX, f64::MAX);
     for _ in 0..runs {
         let start = now();
@@ -352,7 +353,7 @@ fn time(mib: usize) {
         ("registered, 0 to 15 args", 10, 15),
     ];
     for (name, inline, arguments) in kinds {
-        let archive = make::long(mib << 20, 99, inline, arguments);
+        let archive = make::long(mib << 20, 99, Long::new(inline, arguments));
         let archive = &archive[..archive.len().min(16_777_216) / 8 * 8];
         let mut tables = vec![0; TABLE_WORDS];
         let mut state = plain::open(archive, &mut tables).unwrap();
@@ -382,18 +383,34 @@ fn time(mib: usize) {
 
 fn main() {
     let arguments: Vec<String> = std::env::args().skip(1).collect();
-    let number = |i: usize, otherwise: usize| arguments.get(i).and_then(|n| n.parse().ok()).unwrap_or(otherwise);
-    match arguments.first().map(String::as_str) {
-        Some("time") => time(number(1, 12)),
-        Some("test") => {
-            test(number(1, 20_000));
-            if let Some(path) = arguments.get(2) {
-                corpus(path);
+    let word = |i: usize| arguments.get(i).map_or("", String::as_str);
+    let reading = matches!(word(0), "read" | "all");
+    let repacking = matches!(word(0), "repack" | "all");
+    match word(1) {
+        "time" => {
+            let mib = word(2).parse().unwrap_or(12);
+            if reading {
+                time(mib);
+            }
+            if repacking {
+                packing::time(mib);
+            }
+        }
+        "test" => {
+            let many = word(2).parse().unwrap_or(20_000);
+            if reading {
+                test(many);
+            }
+            if repacking {
+                packing::test(many);
             }
             if let Some(path) = arguments.get(3) {
+                corpus(path);
+            }
+            if let Some(path) = arguments.get(4) {
                 probes(path);
             }
         }
-        _ => println!("test N [corpus.bin [probes.bin]] or time MIB"),
+        _ => println!("read, repack or all, then test N [corpus.bin [probes.bin]] or time MIB"),
     }
 }

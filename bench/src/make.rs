@@ -70,6 +70,8 @@ fn section_record(id: u32) -> Vec<u64> {
 pub struct Style {
     pub texts: Vec<Vec<u8>>,
     pub threads: Vec<[u64; 2]>,
+    // how many of the texts and of the threads, from the first, can be named by an index
+    pub registered: [usize; 2],
     // of a hundred, how many references spell what they mean
     pub inline: usize,
     pub arguments: usize,
@@ -79,15 +81,14 @@ impl Style {
     // A reference to a text, with its stream.
     fn text(&self, random: &mut Random) -> (u64, Vec<u64>) {
         let i = random.below(self.texts.len());
-        if random.chance(self.inline) {
+        if random.chance(self.inline) || self.registered[0] <= i {
             return (0x8000 | self.texts[i].len() as u64, stream(&self.texts[i]));
         }
         (1 + i as u64, vec![])
     }
 
-    fn argument(&self, random: &mut Random) -> Vec<u64> {
+    fn argument(&self, random: &mut Random, kind: u64) -> Vec<u64> {
         let (reference, mut body) = self.text(random);
-        let kind = random.below(10) as u64;
         let mut high = 0;
         match kind {
             1 | 2 => high = random.next() >> 32,
@@ -110,7 +111,7 @@ impl Style {
         let thread = random.below(self.threads.len());
         let mut body = vec![time];
         let mut reference = 1 + thread as u64;
-        if random.chance(self.inline) {
+        if random.chance(self.inline) || self.registered[1] <= thread {
             reference = 0;
             body.extend(self.threads[thread]);
         }
@@ -119,7 +120,8 @@ impl Style {
         body.extend(category_stream);
         body.extend(name_stream);
         for _ in 0..count {
-            body.extend(self.argument(random));
+            let kind = random.below(10) as u64;
+            body.extend(self.argument(random, kind));
         }
         if kind == 1 || kind > 3 {
             body.push(random.next());
@@ -129,15 +131,32 @@ impl Style {
     }
 }
 
-// A long archive: five providers, each with a hundred texts and twenty threads registered, and events in turns of a few hundred.
-pub fn long(bytes: usize, seed: u64, inline: usize, arguments: usize) -> Vec<u8> {
+// What a long archive is made of: of a hundred references so many are spelled, an event has up to so many arguments, and each
+// provider so many texts and threads, all registered.
+#[derive(Clone, Copy)]
+pub struct Long {
+    pub inline: usize,
+    pub arguments: usize,
+    pub providers: usize,
+    pub texts: usize,
+    pub threads: usize,
+}
+
+impl Long {
+    pub const fn new(inline: usize, arguments: usize) -> Self {
+        Long { inline, arguments, providers: 5, texts: 100, threads: 20 }
+    }
+}
+
+// A long archive, with events in turns of a few hundred for each provider.
+pub fn long(bytes: usize, seed: u64, of: Long) -> Vec<u8> {
     let mut random = Random(seed);
-    let ids = [7, 11, 900, 12_345, u32::MAX];
+    let ids = &[7, 11, 900, 12_345, u32::MAX, 1, 2, 3][..of.providers];
     let mut words = vec![MAGIC, 1 | 2 << 4, 24_000_000];
     let mut styles = vec![];
-    for id in ids {
-        let texts: Vec<Vec<u8>> = (0..100).map(|_| name(&mut random, 3..33)).collect();
-        let threads: Vec<[u64; 2]> = (0..20).map(|i| [1000 + i, 2000 + i]).collect();
+    for &id in ids {
+        let texts: Vec<Vec<u8>> = (0..of.texts).map(|_| name(&mut random, 3..33)).collect();
+        let threads: Vec<[u64; 2]> = (0..of.threads as u64).map(|i| [1000 + i, 2000 + i]).collect();
         words.extend(provider_record(id, &name(&mut random, 3..20)));
         for (i, text) in texts.iter().enumerate() {
             words.extend(string_record(i + 1, text));
@@ -145,7 +164,8 @@ pub fn long(bytes: usize, seed: u64, inline: usize, arguments: usize) -> Vec<u8>
         for (i, thread) in threads.iter().enumerate() {
             words.extend(thread_record(i + 1, *thread));
         }
-        styles.push(Style { texts, threads, inline, arguments });
+        let registered = [texts.len(), threads.len()];
+        styles.push(Style { texts, threads, registered, inline: of.inline, arguments: of.arguments });
     }
     let mut time = 1_000_000;
     while words.len() * 8 < bytes {
@@ -165,6 +185,7 @@ pub fn records(random: &mut Random) -> Vec<Vec<u64>> {
     let style = Style {
         texts: (0..many).map(|_| name(random, 0..20)).collect(),
         threads: (0..random.within(1..5)).map(|i| [i as u64, random.next() % 10]).collect(),
+        registered: [usize::MAX; 2],
         inline: random.below(101),
         arguments: random.below(16),
     };
@@ -212,6 +233,141 @@ pub fn records(random: &mut Random) -> Vec<Vec<u64>> {
         records.push(string_record(random.within(505..520), &name(random, 0..9)));
     }
     records
+}
+
+// What a context is, for an archive that repacking takes, and the records that start it.
+fn context(random: &mut Random, provider: Option<u32>) -> (Style, Vec<Vec<u64>>) {
+    let mut texts: Vec<Vec<u8>> = (0..random.within(1..10)).map(|_| name(random, 0..20)).collect();
+    if random.chance(30) {
+        let length = [8, 16, 24, 248, 255, 256][random.below(6)];
+        texts.push(name(random, length..length + 1));
+    }
+    // one text as two, so that equal texts stand under two indexes
+    if random.chance(30) {
+        texts.push(texts[0].clone());
+    }
+    let threads: Vec<[u64; 2]> = (0..random.within(1..5)).map(|_| [random.next() % 3, random.next() % 3]).collect();
+    let registered = [random.below(texts.len() + 1), random.below(threads.len() + 1)];
+    let mut start = vec![];
+    if let Some(id) = provider {
+        start.push(if random.chance(60) { provider_record(id, &name(random, 0..12)) } else { section_record(id) });
+    }
+    start.extend((0..registered[0]).map(|i| string_record(i + 1, &texts[i])));
+    start.extend((0..registered[1]).map(|i| thread_record(i + 1, threads[i])));
+    let style = Style { texts, threads, registered, inline: random.below(101), arguments: random.below(16) };
+    (style, start)
+}
+
+// The records of an archive that repacking takes: several contexts, texts under an index, under two, and spelled.
+pub fn sound(random: &mut Random) -> Vec<Vec<u64>> {
+    let mut records = vec![vec![MAGIC]];
+    let ids: Vec<u32> = (0..random.within(1..7) as u32).map(|i| i * 1_000_003).collect();
+    let mut styles: Vec<Option<Style>> = (0..=ids.len()).map(|_| None).collect();
+    let mut current = 0;
+    for turn in 0..random.within(1..60) {
+        if random.chance(10) {
+            current = random.within(1..styles.len());
+            if styles[current].is_some() {
+                records.push(section_record(ids[current - 1]));
+            }
+        }
+        if styles[current].is_none() {
+            let (style, start) = context(random, current.checked_sub(1).map(|slot| ids[slot]));
+            records.extend(start);
+            styles[current] = Some(style);
+        }
+        let style = styles[current].as_mut().unwrap();
+        records.push(match random.below(40) {
+            0 => vec![1 | 2 << 4, random.next() % 5_000_000_000],
+            1 => vec![1 << 4 | 3 << 16 | random.next() % 9 << 20 | (random.next() & 15) << 52],
+            2 => string_record(0, b"ignored"),
+            3 => thread_record(0, [1, 2]),
+            4 => vec![MAGIC],
+            5 => string_record(500, &name(random, 0..40)),
+            // an index that comes to stand for another text
+            6 if 0 < style.registered[0] => {
+                let index = random.below(style.registered[0]);
+                style.texts[index] = name(random, 0..20);
+                string_record(index + 1, &style.texts[index])
+            }
+            7 if 0 < style.registered[1] => {
+                let index = random.below(style.registered[1]);
+                style.threads[index][0] += 1;
+                thread_record(index + 1, style.threads[index])
+            }
+            _ => style.event(random, turn as u64),
+        });
+    }
+    records
+}
+
+// An archive that repacking takes, with a record of every kind and, in one event, an argument of every type.
+pub fn every_kind(random: &mut Random) -> Vec<u8> {
+    let style = Style {
+        texts: vec![b"one".to_vec(), b"nine byte".to_vec(), b"spelled".to_vec()],
+        threads: vec![[1, 2], [3, 4]],
+        registered: [2, 1],
+        inline: 0,
+        arguments: 0,
+    };
+    let mut words = vec![MAGIC, 1 | 2 << 4, 24_000_000];
+    words.extend(provider_record(7, b"provider"));
+    words.extend(section_record(9));
+    words.push(1 << 4 | 3 << 16 | 9 << 20 | 2 << 52);
+    words.extend((0..2).flat_map(|i| string_record(i + 1, &style.texts[i])));
+    words.extend(thread_record(1, style.threads[0]));
+    words.extend(string_record(0, b"ignored"));
+    words.extend((0..3).flat_map(|i| style.event(random, i)));
+    let arguments: Vec<u64> = (0..10).flat_map(|kind| style.argument(random, kind)).collect();
+    words.extend([4 | (3 + arguments.len() as u64) << 4 | 1 << 16 | 10 << 20 | 1 << 24 | 1 << 32 | 2 << 48, 5]);
+    words.extend(arguments);
+    words.push(6);
+    bytes_of(&words)
+}
+
+// An archive that repacking would take but for a bit, a byte or a word that it would lose.
+pub fn lossy(random: &mut Random) -> Vec<u8> {
+    let mut records = sound(random);
+    let at = random.below(records.len());
+    let last = records[at].len() - 1;
+    match random.below(5) {
+        0 => records[at][0] |= 1 << random.within(16..64),
+        1 => records[at][last] |= 1 << random.within(32..64),
+        2 => {
+            let word = random.below(last + 1);
+            records[at][word] |= random.next() & random.next() << 32;
+        }
+        3 => {
+            records[at].push(0);
+            records[at][0] += 1 << 4;
+        }
+        _ => records.insert(at, vec![random.within(5..16) as u64 | 1 << 4]),
+    }
+    bytes_of(&records.concat())
+}
+
+// An archive with so many distinct texts and threads in its last context.
+pub fn many(random: &mut Random, texts: usize, threads: usize) -> Vec<u8> {
+    let mut words = vec![MAGIC];
+    words.extend(section_record(7));
+    for i in 0..texts.max(threads) + random.below(40) {
+        let text = (i % texts).to_string();
+        let body = [vec![i as u64, 1, (i % threads) as u64], stream(text.as_bytes())].concat();
+        words.push(4 | (1 + body.len() as u64) << 4 | (0x8000 | text.len() as u64) << 32);
+        words.extend(body);
+    }
+    bytes_of(&words)
+}
+
+// How many events an archive has.
+pub fn events(archive: &[u8]) -> usize {
+    let (mut place, mut count) = (0, 0);
+    while place + 8 <= archive.len() {
+        let header = u64::from_le_bytes(archive[place..place + 8].try_into().unwrap());
+        count += (header & 15 == 4) as usize;
+        place += 8 * (header as usize >> 4 & 0xfff);
+    }
+    count
 }
 
 // One damage to an archive: a cut, bytes, words, fields, sizes, records that change places.
@@ -296,6 +452,7 @@ pub fn planted(random: &mut Random) -> Planted {
     let style = Style {
         texts: vec![b"text".to_vec(); many],
         threads: vec![[1, 2]; many],
+        registered: [usize::MAX; 2],
         inline: random.below(50),
         arguments: random.below(6),
     };

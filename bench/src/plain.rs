@@ -3,10 +3,10 @@
 
 pub const CONTEXT_WORDS: usize = 768;
 pub const TABLE_WORDS: usize = 9 * CONTEXT_WORDS;
-const LONGEST_ARCHIVE: usize = 1 << 24;
-const LONGEST_TEXT: usize = 256;
-const HIGHEST_INDEX: usize = 511;
-const MAGIC: [u8; 8] = [0x10, 0x00, 0x04, 0x46, 0x78, 0x54, 0x16, 0x00];
+pub const LONGEST_ARCHIVE: usize = 1 << 24;
+pub const LONGEST_TEXT: usize = 256;
+pub const HIGHEST_INDEX: usize = 511;
+pub const MAGIC: [u8; 8] = [0x10, 0x00, 0x04, 0x46, 0x78, 0x54, 0x16, 0x00];
 
 #[derive(Clone, Copy, Debug, PartialEq, Eq)]
 pub struct State {
@@ -88,15 +88,15 @@ pub enum Item {
     Skipped { kind: u8, size: u64 },
 }
 
-fn word(bytes: &[u8], place: usize) -> u64 {
+pub fn word(bytes: &[u8], place: usize) -> u64 {
     u64::from_le_bytes(bytes[place..place + 8].try_into().unwrap())
 }
 
-fn bits(word: u64, low: u32, high: u32) -> u64 {
+pub fn bits(word: u64, low: u32, high: u32) -> u64 {
     (word >> low) & (u64::MAX >> (63 - (high - low)))
 }
 
-fn stream_bytes(length: usize) -> usize {
+pub fn stream_bytes(length: usize) -> usize {
     (length + 7) & !7
 }
 
@@ -124,7 +124,7 @@ fn belongs(state: &State, archive: &[u8]) -> bool {
 }
 
 // The record at a place, as the part of the archive that it takes.
-fn record(archive: &[u8], place: usize) -> Result<(u64, usize), u8> {
+pub fn record(archive: &[u8], place: usize) -> Result<(u64, usize), u8> {
     if archive.len() - place < 8 {
         return Err(5);
     }

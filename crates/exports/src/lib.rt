@@ -1,8 +1,10 @@
-// Whole readings for programs in other languages, for tests and timing: a digest of every reply, or the replies as numbers.
-// Nothing is asked of a caller. The contracts are silent: `reader` promises what is read, and here only safety and an end are proved.
+// Whole readings and repackings for programs in other languages, for tests and timing: a digest of every reply, or the replies as
+// numbers. Nothing is asked of a caller. The contracts are silent: `reader` and `packer` promise what is read and written, and here
+// only safety and an end are proved.
 use arguments::Scalar;
 use contexts::Provider;
 use contexts::State;
+use packer::Packed;
 use reader::Answer;
 use reader::Asked;
 use reader::ShownArgument;
@@ -658,4 +660,14 @@ pub extern "C" fn inthuchot_argument(
         0,
         asked_block(reader::argument(archive, s, tables, event, number)),
     ) as u64
+}
+
+// Repacks an archive. The reply is the refusal's number with its place above four bits, or 0 with the written length there.
+#[no_mangle]
+pub extern "C" fn inthuchot_repack(archive: &[u8], room: &mut [u32], output: &mut [u8]) -> u64 {
+    let packed = packer::repack(archive, room, output);
+    match packed {
+        Packed::Refused { number, place } => number as u64 | ((place as u64) << 4),
+        Packed::Written { length } => (length as u64) << 4,
+    }
 }
