@@ -2,3 +2,4 @@ pub mod Shown
 pub mod Step
 pub mod Ask
 pub mod Reads
+pub mod Numbers
