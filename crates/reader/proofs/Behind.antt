@@ -87,7 +87,7 @@ arguments-behind f archive t t′ context limit (suc count) rest place a h =
 -- ---- a step
 
 -- tables of any length that is enough pass the door alike
-door-behind : (f : Format) (archive : List ℕ) (room room′ : ℕ) → tableWords f ≤ room → tableWords f ≤ room′
+pub door-behind : (f : Format) (archive : List ℕ) (room room′ : ℕ) → tableWords f ≤ room → tableWords f ≤ room′
     → doorOf f archive room ≡ doorOf f archive room′
 unfolding doorOf
 door-behind f archive room room′ h h′ = rw (le-ltb room (tableWords f) h, le-ltb room′ (tableWords f) h′)

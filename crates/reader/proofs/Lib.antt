@@ -6,3 +6,5 @@ pub mod OneList
 pub mod ByItems
 pub mod NeverFour
 pub mod Behind
+pub mod Numbers
+pub mod Opening

@@ -1,5 +1,5 @@
 -- The list of items that an archive reads as, after "The list of items" of document 01. It is built of the definitions that the contracts of
--- `open`, `step`, `argument` and `text` cite.
+-- `step`, `argument` and `text` cite, from the state and the tables that opening leaves (proofs `Opening.reads-as-opened`).
 use Prim.Native.Nat.{ℕ, zero, suc}
 use mathlib.Core.Path.{_≡_}
 use mathlib.Core.List.{List, [], _∷_}
@@ -96,6 +96,8 @@ pub data Reads (f : Format) (archive : List ℕ) : State → List ℕ → List I
       → itemOf f archive (stepTables f archive tables s) (stepReply f archive tables s .state) (stepReply f archive tables s .answer) ≡ some i
       → Reads f archive (stepReply f archive tables s .state) (stepTables f archive tables s) items → Reads f archive s tables (i ∷ items)
 
--- "An archive reads to its end as a list when opening takes it, given long enough tables, and the steps from there show exactly the list's items"
+-- "An archive reads to its end as a list when opening takes it, given long enough tables, and the steps from there show exactly the list's items".
+-- Here opening is spelled out: its door, its state, and zeros for the tables. That `open`'s reply and tables say the same, whatever long enough
+-- tables held before and however long they are, is the law `Opening.reads-as-opened`.
 abbrev pub ReadsAs : Format → List ℕ → List Item → Type 0
 ReadsAs f archive items = (doorOf f archive (tableWords f) ≡ 0) × Reads f archive opening (replicate (tableWords f) 0) items
