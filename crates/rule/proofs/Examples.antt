@@ -30,7 +30,7 @@ use Rattle.reader.specs.Step.{doorOf, stopping, registering, eventDecision, con
 use Rattle.reader.specs.Ask.{shownArgument, askedEvent, askedPlace, argumentReply, partOf}
 use Rattle.reader.specs.Reads.{argumentItems, itemOf}
 use Rattle.rule.specs.Rule.{registers, rule}
-use Rattle.rule.specs.Refusal.{ended, passed, runFrom, runOf, refusalOf, itemsOf}
+use Rattle.rule.specs.Refusal.{ended, passed, runFrom, runOf, refusalOf, itemsOf, Accepted, writtenLength}
 
 -- the words of an archive, one after another
 abbrev archiveOf : List ℕ → List ℕ
@@ -97,6 +97,12 @@ elevenEvent =
       extra = 0;
     })
 
+-- K11 spelled inline: the magic, and that event with all three uses of "sun" inline. The event has eight words: its header, the timestamp, process
+-- and thread, "sun" twice, and an argument of two words
+abbrev elevenInline : List ℕ
+elevenInline =
+    archiveOf (0x0016547846040010 ∷ 0x8003800300100084 ∷ 100 ∷ 7 ∷ 8 ∷ 0x00000000006E7573 ∷ 0x00000000006E7573 ∷ 0x0000000080030020 ∷ 0x00000000006E7573 ∷ [])
+
 -- the same repacked: "sun" is registered under 1 right before the event, and the thread is inline; a line is a word
 abbrev eleven : List ℕ
 eleven =
@@ -148,6 +154,16 @@ pub record Table : Type 0 where
   pub k11-repacked : rule (magic ∷ elevenEvent ∷ []) ≡ eleven
   -- that read as the same items
   pub k11-run : runOf smallFormat eleven ≡ passed 0 true (some magic) (passed 8 true none (passed 24 true (some elevenEvent) (ended 0 64)))
+  -- spelled inline it is nine words
+  pub k11-inline-length : length elevenInline ≡ 72
+  -- that read as the same items
+  pub k11-inline-run : runOf smallFormat elevenInline ≡ passed 0 true (some magic) (passed 8 true (some elevenEvent) (ended 0 72))
+  -- repacking takes it
+  pub k11-inline-accepted : Accepted smallFormat elevenInline
+  -- and writes the eight words, not a copy of its input
+  pub k11-inline-repacked : rule (itemsOf (runOf smallFormat elevenInline)) ≡ eleven
+  -- the written length in the reply is theirs
+  pub k11-inline-written : writtenLength smallFormat elevenInline ≡ 64
   -- K12: thread used once inline
   pub k12-once : (t : Thread) → registers (keyWords (threadKey t)) 1 ≡ false
   -- twice registered
@@ -188,6 +204,11 @@ table =
       k11 = refl;
       k11-repacked = refl;
       k11-run = refl;
+      k11-inline-length = refl;
+      k11-inline-run = refl;
+      k11-inline-accepted = record { opened = refl; not-refused = refl };
+      k11-inline-repacked = refl;
+      k11-inline-written = refl;
       k12-once = λ t. refl;
       k12-twice = λ t. refl;
       k13 = refl;

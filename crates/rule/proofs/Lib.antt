@@ -11,6 +11,7 @@ pub mod Length
 pub mod Limits
 pub mod Lower
 pub mod LowerUses
+pub mod Numbers
 pub mod Plain
 pub mod ReadBack
 pub mod References

@@ -43,7 +43,9 @@ onAnswer (Initialization rate) stop go = go
 onAnswer (Event e) stop go = go
 onAnswer (Skipped type size) stop go = go
 
--- so many steps at most; each record has a word at least, so one step more than the archive has words is enough
+-- so many steps at most; each record has a word at least, so one step more than the archive has words is enough. That the first clause, with no
+-- step left, is never what ends the run of an archive are the laws `Numbers.more-steps` (with more steps the run is the same) and
+-- `Numbers.run-is-steps` (the number and place at its end are what a step of it answers)
 unfoldable pub runFrom : Format → List ℕ → ℕ → State → List ℕ → Run
 runFrom f archive zero s tables = ended 0 (s .place)
 runFrom f archive (suc steps) s tables =
@@ -63,7 +65,7 @@ abbrev pub orElse : Option Refusal → Option Refusal → Option Refusal
 orElse (some r) other = some r
 orElse none other = other
 
--- "5 to 9 as reading meets them"
+-- "5 to 9 as reading meets them": the run of an opened archive ends by 0 or one of these (`Numbers.run-numbers`)
 abbrev pub stopRefusal : Run → Option Refusal
 stopRefusal (ended number place) = pick (eqb number 0) none (some (refusal number place))
 stopRefusal (passed place keeps item run) = stopRefusal run
