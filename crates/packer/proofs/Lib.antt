@@ -1,3 +1,4 @@
 pub mod Demand
 pub mod Measured
+pub mod Numbers
 pub mod Room

@@ -5,7 +5,7 @@ use mathlib.Core.Option.{Option, none, some}
 use Rattle.packer.specs.declared.Packed.{Packed}
 use Rattle.packer.specs.declared.Packed.the-variants.{Refused, Written}
 
--- the number of a refusal; an archive that was repacked has none
+-- the number of a refusal; an archive that was repacked has none. It is 1, 2 or 5 to 14 (proofs `Numbers.repack-numbers`)
 abbrev pub packedNumber : Packed → Option ℕ
 packedNumber (Refused number place) = some number
 packedNumber (Written long) = none
