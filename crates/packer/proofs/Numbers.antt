@@ -1,6 +1,6 @@
 -- Which of document 01's numbers a repack can answer, and the place that comes with each. A number is that of the definition `packedNumber`.
 -- Assumes nothing.
-use Prim.Native.Nat.{ℕ, _≤_}
+use Prim.Native.Nat.{ℕ}
 use mathlib.Core.Path.{_≡_, refl, subst}
 use mathlib.Core.List.{List}
 use mathlib.Core.Option.{Option, none, some}
@@ -56,6 +56,7 @@ door-number f archive room =
     P : ℕ → Type 0
     P number = (number ≡ 0 → ⊥) → Between 1 2 number ⊎ Between 13 14 number
 
+-- so does every repack
 repack-ends : (f : Format) (archive : List ℕ) (room output : ℕ) → RepackEnds f archive (packReply f archive room output)
 unfolding packReply writtenReply
 repack-ends f archive room output =

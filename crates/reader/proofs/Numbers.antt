@@ -1,9 +1,8 @@
 -- Which of document 01's numbers each call can answer, the place that comes with each, and that a call which is refused or at the end changes
 -- nothing. A number is that of the definitions `answerNumber` and `askedNumber`. Assumes nothing.
 use Prim.Native.Nat.{ℕ, _-_, _%_, _≤_}
-use mathlib.Core.Path.{_≡_, refl, sym, subst, _∙_}
+use mathlib.Core.Path.{_≡_, refl, subst}
 use mathlib.Core.List.{List}
-use mathlib.Core.Bool.{true, false}
 use mathlib.Core.Option.{Option, none, some}
 use native.Mathlib.Omega.{arith}
 use borrow.Author.Tests.{eqb-true, eqb-false}
@@ -12,7 +11,6 @@ use lib.ListN.{length, take, drop}
 use Rattle.words.specs.Stream.{startsWithMagic}
 use Rattle.format.specs.declared.Format.{Format}
 use Rattle.format.proofs.Parts.{on-pick}
-use Rattle.arguments.specs.declared.Argument.{Argument}
 use Rattle.arguments.specs.declared.Argued.{Argued}
 use Rattle.arguments.specs.declared.Argued.the-variants.{Refused as ArgumentRefused, Argument as ArgumentRead}
 use Rattle.arguments.specs.Argument.{numberedOf, onArgued}
@@ -22,7 +20,7 @@ use Rattle.records.specs.declared.Content.{Content}
 use Rattle.records.specs.declared.Content.the-variants.{Refused, Magic, ProviderInfo, Section, ProviderEvent, Initialization, String, Thread, Event as EventRead, Ignored, Skipped}
 use Rattle.records.specs.Record.{recordAt}
 use Rattle.contexts.specs.declared.State.{State}
-use Rattle.contexts.specs.Context.{opening, belongsTo, entering}
+use Rattle.contexts.specs.Context.{opening, belongsTo}
 use Rattle.tables.specs.Table.{tableWords}
 use Rattle.reader.specs.declared.Answer.{Answer}
 use Rattle.reader.specs.declared.Answer.the-variants.{End, Nothing, Magic as MagicShown, ProviderInfo as ProviderInfoShown, Section as SectionShown, ProviderEvent as ProviderEventShown, Initialization as InitializationShown, Event as EventShown, Skipped as SkippedShown}
@@ -30,7 +28,7 @@ use Rattle.reader.specs.declared.Asked.{Asked}
 use Rattle.reader.specs.declared.Asked.the-variants.{Refused as AskedRefused, Argument as ArgumentShown}
 use Rattle.reader.specs.declared.Decision.{Decision}
 use Rattle.reader.specs.Shown.{argumentBad}
-use Rattle.reader.specs.Step.{doorOf, stopping, showing, enteringAs, registering, contentDecision, placeDecision, decisionOf, changed, openReply, openTables, stepReply, stepTables}
+use Rattle.reader.specs.Step.{doorOf, stopping, registering, contentDecision, placeDecision, decisionOf, changed, openReply, openTables, stepReply, stepTables}
 use Rattle.reader.specs.Ask.{shownArgument, askedEvent, onEvent, askedPlace, argumentReply}
 use Rattle.reader.specs.Numbers.{answerNumber, askedNumber}
 use Rattle.reader.proofs.Lookups.{ContentFits, record-whole}
@@ -42,42 +40,31 @@ Between low high number = (low ≤ number) × (number ≤ high)
 
 -- ---- a call that is refused or at the end changes nothing
 
--- an answer that goes on has no number: one that names no context and no rate
-plain-none : (a : Answer) → Plain a → answerNumber a ≡ none
-plain-none (End number place) h = absurd h
-plain-none Nothing h = refl
-plain-none MagicShown h = refl
-plain-none (ProviderInfoShown id place long) h = refl
-plain-none (SectionShown id) h = refl
-plain-none (ProviderEventShown id event) h = refl
-plain-none (InitializationShown rate) h = refl
-plain-none (EventShown e) h = refl
-plain-none (SkippedShown type size) h = refl
-
--- and one that makes an id current
-names-none : (id : ℕ) (a : Answer) → Names id a → answerNumber a ≡ none
-names-none id (End number place) h = absurd h
-names-none id Nothing h = refl
-names-none id MagicShown h = refl
-names-none id (ProviderInfoShown other place long) h = refl
-names-none id (SectionShown other) h = refl
-names-none id (ProviderEventShown other event) h = refl
-names-none id (InitializationShown rate) h = refl
-names-none id (EventShown e) h = refl
-names-none id (SkippedShown type size) h = refl
-
+-- an option is not both without and with a number
 none-some : {o : Option ℕ} {n : ℕ} → o ≡ none → o ≡ some n → ⊥
 none-some e k = let z : _≡_ {A = ℕ} 0 1 = cc in omega arith
+
+-- an answer with a number is an end or a refusal
+pub answer-end : (a : Answer) (n : ℕ) → answerNumber a ≡ some n → (place : ℕ) × (a ≡ End n place)
+answer-end (End number place) n e = let q : number ≡ n = cc in (place, rw q)
+answer-end Nothing n e = absurd (none-some refl e)
+answer-end MagicShown n e = absurd (none-some refl e)
+answer-end (ProviderInfoShown id place long) n e = absurd (none-some refl e)
+answer-end (SectionShown id) n e = absurd (none-some refl e)
+answer-end (ProviderEventShown id event) n e = absurd (none-some refl e)
+answer-end (InitializationShown rate) n e = absurd (none-some refl e)
+answer-end (EventShown shown) n e = absurd (none-some refl e)
+answer-end (SkippedShown type size) n e = absurd (none-some refl e)
 
 -- "A step that is refused, or at the end, changes nothing.": where a step answers a number, state and tables are as they came
 pub stopped-keeps : (f : Format) (archive tables : List ℕ) (s : State) (n : ℕ) → answerNumber (stepReply f archive tables s .answer) ≡ some n
     → (stepReply f archive tables s .state ≡ s) × (stepTables f archive tables s ≡ tables)
 unfolding stopping registering changed
 stopped-keeps f archive tables s n =
-    on-decision P f archive tables s (λ number place h e. (refl, refl)) (λ answer h e. absurd (none-some (plain-none answer h) e))
+    on-decision P f archive tables s (λ number place h e. (refl, refl)) (λ answer h e. absurd (subst Plain (answer-end answer n e .1) h))
     (λ rate e. absurd (none-some refl e))
-    (λ id answer h. on-entering P s id next answer (λ e. (refl, refl)) (λ i q e. absurd (none-some (names-none id answer h) e))
-    (λ q z e. absurd (none-some (names-none id answer h) e)))
+    (λ id answer h. on-entering P s id next answer (λ e. (refl, refl)) (λ i q e. absurd (subst (Names id) (answer-end answer n e .1) h))
+    (λ q z e. absurd (subst (Names id) (answer-end answer n e .1) h)))
     (λ kind index r e. absurd (none-some refl e))
     (λ ev k. on-event P f archive tables s ev next (λ e. (refl, refl)) (λ shown e. absurd (none-some refl e)))
   where
@@ -145,16 +132,17 @@ StepEnds archive s door (InitializationShown rate) = Unit {0}
 StepEnds archive s door (EventShown e) = Unit {0}
 StepEnds archive s door (SkippedShown type size) = Unit {0}
 
+-- so does every step
 step-ends : (f : Format) (archive tables : List ℕ) (s : State)
     → StepEnds archive s (doorOf f archive (length tables)) (stepReply f archive tables s .answer)
 unfolding decisionOf placeDecision contentDecision stopping registering
 step-ends f archive tables s =
     on-pick P (eqb door 0) _ _
     (λ e. on-pick P (belongsTo s (length archive)) _ _
-    (λ e. on-pick P (eqb (s .place) (length archive)) _ _ (λ e. ((omega arith, omega arith), at-length (eqb-true (s .place) (length archive) e), λ b. absurd (omega (arith, b .0))))
+    (λ e. on-pick P (eqb (s .place) (length archive)) _ _ (λ e. at-length (eqb-true (s .place) (length archive) e))
     (λ e. of-content (recordAt f archive (s .place) .content) (record-whole f archive (s .place) .holds)))
     (λ e. at-record 4 (omega arith, omega arith)))
-    (λ e. let d = door-number f archive (length tables) (eqb-false door 0 e) in ((omega arith, omega (arith, d .1)), at-zero archive s door d, λ b. refl))
+    (λ e. at-door (door-number f archive (length tables) (eqb-false door 0 e)))
   where
     door : ℕ
     door = doorOf f archive (length tables)
@@ -165,9 +153,15 @@ step-ends f archive tables s =
     P : Decision → Type 0
     P d = StepEnds archive s door (d .answer)
 
-    at-length : s .place ≡ length archive → Places archive s 0 (s .place)
-    at-length h =
-        record { door = λ b. absurd (omega (arith, b .0)); state = λ e. refl; start = λ b. refl; end = λ e. h }
+    at-door : Between 1 3 door → StepEnds archive s door (End door 0)
+    at-door d = ((omega arith, omega (arith, d .1)), at-zero archive s door d, λ b. refl)
+
+    at-length : s .place ≡ length archive → StepEnds archive s door (End 0 (s .place))
+    at-length h = (
+      (omega arith, omega arith),
+      record { door = λ b. absurd (omega (arith, b .0)); state = λ e. refl; start = λ b. refl; end = λ e. h },
+      λ b. absurd (omega (arith, b .0)),
+    )
 
     at-record : (number : ℕ) → Between 4 9 number → StepEnds archive s door (End number (s .place))
     at-record number h = ((omega arith, h .1), at-state archive s number (h .0), λ b. absurd (omega (arith, h .0, b .1)))
@@ -188,23 +182,12 @@ step-ends f archive tables s =
     of-content Ignored h = tt
     of-content (Skipped type size) h = tt
 
--- an answer with a number is an end or a refusal
-pub answer-end : (a : Answer) (n : ℕ) → answerNumber a ≡ some n → (place : ℕ) × (a ≡ End n place)
-answer-end (End number place) n e = let q : number ≡ n = cc in (place, rw q)
-answer-end Nothing n e = absurd (none-some refl e)
-answer-end MagicShown n e = absurd (none-some refl e)
-answer-end (ProviderInfoShown id place long) n e = absurd (none-some refl e)
-answer-end (SectionShown id) n e = absurd (none-some refl e)
-answer-end (ProviderEventShown id event) n e = absurd (none-some refl e)
-answer-end (InitializationShown rate) n e = absurd (none-some refl e)
-answer-end (EventShown shown) n e = absurd (none-some refl e)
-answer-end (SkippedShown type size) n e = absurd (none-some refl e)
-
 -- a step answers 0 to 9
 pub step-numbers : (f : Format) (archive tables : List ℕ) (s : State) (n : ℕ) → answerNumber (stepReply f archive tables s .answer) ≡ some n
     → Between 0 9 n
 step-numbers f archive tables s n e =
-    subst (StepEnds archive s (doorOf f archive (length tables))) (answer-end (stepReply f archive tables s .answer) n e .1) (step-ends f archive tables s) .0
+    subst (StepEnds archive s (doorOf f archive (length tables))) (answer-end (stepReply f archive tables s .answer) n e .1)
+    (step-ends f archive tables s) .0
 
 -- and each number with document 01's place
 pub step-places : (f : Format) (archive tables : List ℕ) (s : State) (number place : ℕ)
@@ -240,6 +223,7 @@ abbrev AskedEnds : List ℕ → State → Asked → Type 0
 AskedEnds archive s (AskedRefused number place) = Between 1 4 number × Places archive s number place
 AskedEnds archive s (ArgumentShown a) = Unit {0}
 
+-- so is every argument
 asked-ends : (f : Format) (archive tables : List ℕ) (s : State) (at number : ℕ) → AskedEnds archive s (argumentReply f archive tables s at number)
 unfolding argumentReply askedPlace askedEvent shownArgument
 asked-ends f archive tables s at number =

@@ -1,7 +1,7 @@
 -- A list is read from where `open` leaves off: `ReadsAs`, which names the opening state and tables of zeros, says the same as reading on from the
 -- reply and the tables that the contract of `open` gives, whatever the tables held and however long they are. Assumes nothing.
 use Prim.Native.Nat.{ℕ, _≤_}
-use mathlib.Core.Path.{_≡_, refl, _∙_}
+use mathlib.Core.Path.{_≡_, _∙_}
 use mathlib.Core.List.{List}
 use native.Mathlib.Omega.{arith}
 use borrow.Author.Tests.{eqb-true, eq-eqb}

@@ -101,7 +101,7 @@ elevenEvent =
 -- and thread, "sun" twice, and an argument of two words
 abbrev elevenInline : List ℕ
 elevenInline =
-    archiveOf (0x0016547846040010 ∷ 0x8003800300100084 ∷ 100 ∷ 7 ∷ 8 ∷ 0x00000000006E7573 ∷ 0x00000000006E7573 ∷ 0x0000000080030020 ∷ 0x00000000006E7573 ∷ [])
+    archiveOf (0x0016547846040010 ∷ 0x8003800300100084 ∷ 100 ∷ 7 ∷ 8 ∷ 0x6E7573 ∷ 0x6E7573 ∷ 0x80030020 ∷ 0x6E7573 ∷ [])
 
 -- the same repacked: "sun" is registered under 1 right before the event, and the thread is inline; a line is a word
 abbrev eleven : List ℕ

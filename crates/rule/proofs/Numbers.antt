@@ -2,8 +2,7 @@
 -- archive that step answers 0 or 5 to 9, and the archive is refused by 5 to 12 or not at all. Assumes nothing.
 use Prim.Native.Nat.{ℕ, zero, suc, _+_, _*_, _/_, _≤_, _<_}
 use mathlib.Core.Path.{_≡_, refl, sym, ap, subst, _∙_}
-use mathlib.Core.List.{List, [], _∷_, _++_}
-use mathlib.Core.Bool.{Bool, true, false}
+use mathlib.Core.List.{List, [], _++_}
 use mathlib.Core.Option.{Option, none, some}
 use mathlib.Core.Logic.{_⊎_, inl, inr}
 use native.Mathlib.Omega.{arith}
@@ -26,9 +25,8 @@ use Rattle.reader.specs.Numbers.{answerNumber}
 use Rattle.reader.proofs.Behind.{door-behind}
 use Rattle.reader.proofs.NeverFour.{never-four, event-item}
 use Rattle.reader.proofs.Numbers.{Between, step-numbers, step-places, step-door}
-use Rattle.reader.proofs.Runs.{Sound, fresh-sound, step-sound, run-sound, still, passing, showing}
-use Rattle.reader.proofs.Runs.{Run as Steps}
-use Rattle.rule.specs.Refusal.{Run, ended, passed, keepsAt, runFrom, runOf, Refusal, refusal, orElse, stopRefusal, lossRefusal, itemUnresolved, unresolvedRefusal, passesLimit, itemUses, limitRefusal, refusalOf, itemsOf}
+use Rattle.reader.proofs.Runs.{Sound, fresh-sound, step-sound, run-sound, Run as Steps, still, passing, showing}
+use Rattle.rule.specs.Refusal.{Run, ended, passed, runFrom, runOf, Refusal, refusal, orElse, stopRefusal, lossRefusal, itemUnresolved, unresolvedRefusal, passesLimit, itemUses, limitRefusal, refusalOf, itemsOf}
 use Rattle.rule.proofs.WholeRuns.{nothing-advances, item-advances, run-ends, run-passes, run-shows}
 
 -- the number that a run ends with, and its place
@@ -43,14 +41,16 @@ endPlace (passed place keeps item run) = endPlace run
 -- ---- steps never run out
 
 -- a step ends or is refused, or shows nothing, or shows an item
-Answered : Format → List ℕ → List ℕ → State → Type 0
+abbrev Answered : Format → List ℕ → List ℕ → State → Type 0
 Answered f archive tables s =
     ((number : ℕ) × (place : ℕ) × (stepReply f archive tables s .answer ≡ End number place))
     ⊎ ((stepReply f archive tables s .answer ≡ Nothing)
-    ⊎ ((i : Item) × (itemOf f archive (stepTables f archive tables s) (stepReply f archive tables s .state) (stepReply f archive tables s .answer) ≡ some i)))
+    ⊎ ((i : Item)
+    × (itemOf f archive (stepTables f archive tables s) (stepReply f archive tables s .state) (stepReply f archive tables s .answer) ≡ some i)))
 
+-- from a sound state every step does one of these
 answered : (f : Format) (archive tables : List ℕ) (s : State) → Sound f archive s tables → Answered f archive tables s
-unfolding Answered itemOf
+unfolding itemOf
 answered f archive tables s h = go (stepReply f archive tables s .answer) refl
   where
     go : (a : Answer) → stepReply f archive tables s .answer ≡ a → Answered f archive tables s
@@ -68,11 +68,11 @@ answered f archive tables s h = go (stepReply f archive tables s .answer) refl
 enough-steps : (f : Format) (archive : List ℕ) (steps more : ℕ) (s : State) (tables : List ℕ) → Sound f archive s tables
     → length archive < s .place + 8 * steps → length archive < s .place + 8 * more
     → runFrom f archive more s tables ≡ runFrom f archive steps s tables
-unfolding Answered
 enough-steps f archive zero more s tables h n m = absurd (omega (arith, h .before))
 enough-steps f archive (suc steps) zero s tables h n m = absurd (omega (arith, h .before))
 enough-steps f archive (suc steps) (suc more) s tables h n m =
-    go (λ l. enough-steps f archive steps more s′ tables′ (step-sound f archive tables s h) (omega arith) (omega arith)) (answered f archive tables s h)
+    go (λ l. enough-steps f archive steps more s′ tables′ (step-sound f archive tables s h) (omega arith) (omega arith))
+    (answered f archive tables s h)
   where
     s′ : State
     s′ = stepReply f archive tables s .state
@@ -101,13 +101,13 @@ more-steps f archive k =
 -- a run is made of steps: they lead to a state where a step answers what the run ends with, and show the run's items on the way
 pub record Stops (f : Format) (archive : List ℕ) (s : State) (tables : List ℕ) (run : Run) : Type 0 where
   pub state : State
-  pub words : List ℕ
-  pub steps : Steps f archive s tables (itemsOf run) state words
-  pub last : stepReply f archive words state .answer ≡ End (endNumber run) (endPlace run)
+  pub tables′ : List ℕ
+  pub steps : Steps f archive s tables (itemsOf run) state tables′
+  pub last : stepReply f archive tables′ state .answer ≡ End (endNumber run) (endPlace run)
 
+-- so is a run from a sound state with steps enough for the words left
 run-stops : (f : Format) (archive : List ℕ) (steps : ℕ) (s : State) (tables : List ℕ) → Sound f archive s tables
     → length archive < s .place + 8 * steps → Stops f archive s tables (runFrom f archive steps s tables)
-unfolding Answered
 run-stops f archive zero s tables h n = absurd (omega (arith, h .before))
 run-stops f archive (suc steps) s tables h n =
     go (λ l. run-stops f archive steps s′ tables′ (step-sound f archive tables s h) (omega arith)) (answered f archive tables s h)
@@ -124,15 +124,25 @@ run-stops f archive (suc steps) s tables h n =
     go : (s .place + 8 ≤ s′ .place → Stops f archive s′ tables′ rest) → Answered f archive tables s
         → Stops f archive s tables (runFrom f archive (suc steps) s tables)
     go behind (inl (number, place, e)) =
-        rw (run-ends f archive steps s tables number place e) (record { state = s; words = tables; steps = still s tables; last = e })
+        rw (run-ends f archive steps s tables number place e) (record { state = s; tables′ = tables; steps = still s tables; last = e })
     go behind (inr (inl e)) =
         let r = behind (nothing-advances f archive tables s e) in
         rw (run-passes f archive steps s tables e)
-        (record { state = r .state; words = r .words; steps = passing s tables (itemsOf rest) (r .state) (r .words) e (r .steps); last = r .last })
+        (record {
+          state = r .state;
+          tables′ = r .tables′;
+          steps = passing s tables (itemsOf rest) (r .state) (r .tables′) e (r .steps);
+          last = r .last;
+        })
     go behind (inr (inr (i, e))) =
         let r = behind (item-advances f archive tables s i e) in
         rw (run-shows f archive steps s tables i e)
-        (record { state = r .state; words = r .words; steps = showing s tables i (itemsOf rest) (r .state) (r .words) e (r .steps); last = r .last })
+        (record {
+          state = r .state;
+          tables′ = r .tables′;
+          steps = showing s tables i (itemsOf rest) (r .state) (r .tables′) e (r .steps);
+          last = r .last;
+        })
 
 -- The run of every archive is made of steps from opening, and the number and place that it ends with are the answer of the last one.
 pub run-is-steps : (f : Format) (archive : List ℕ) → Stops f archive opening (replicate (tableWords f) 0) (runOf f archive)
@@ -144,7 +154,7 @@ run-is-steps f archive =
 pub run-end-place : (f : Format) (archive : List ℕ) → endNumber (runOf f archive) ≡ 0 → endPlace (runOf f archive) ≡ length archive
 run-end-place f archive =
     let r = run-is-steps f archive in
-    step-places f archive (r .words) (r .state) (endNumber (runOf f archive)) (endPlace (runOf f archive)) (r .last) .end
+    step-places f archive (r .tables′) (r .state) (endNumber (runOf f archive)) (endPlace (runOf f archive)) (r .last) .end
 
 -- ---- numbers
 
@@ -156,24 +166,24 @@ run-numbers f archive door = go (endNumber (runOf f archive)) (endPlace (runOf f
     r : Stops f archive opening (replicate (tableWords f) 0) (runOf f archive)
     r = run-is-steps f archive
 
-    sound : Sound f archive (r .state) (r .words)
+    sound : Sound f archive (r .state) (r .tables′)
     sound = run-sound f archive (r .steps) (fresh-sound f archive)
 
-    opened : doorOf f archive (length (r .words)) ≡ 0
-    opened = door-behind f archive (length (r .words)) (tableWords f) (sound .room) (omega arith) ∙ door
+    opened : doorOf f archive (length (r .tables′)) ≡ 0
+    opened = door-behind f archive (length (r .tables′)) (tableWords f) (sound .room) (omega arith) ∙ door
 
-    go : (number place : ℕ) → stepReply f archive (r .words) (r .state) .answer ≡ End number place → (number ≡ 0) ⊎ Between 5 9 number
+    go : (number place : ℕ) → stepReply f archive (r .tables′) (r .state) .answer ≡ End number place → (number ≡ 0) ⊎ Between 5 9 number
     go number place e =
         cases (ltb number 1) (λ p. inl (omega (arith, ltb-true number 1 p)))
         (λ p. cases (ltb number 4) (λ q. absurd (omega (arith, ltb-false number 1 p, at-door (ltb-false number 1 p) (ltb-true number 4 q))))
         (λ q. cases (ltb number 5) (λ o. absurd (at-four (omega (arith, ltb-false number 4 q, ltb-true number 5 o))))
-        (λ o. inr (ltb-false number 5 o, step-numbers f archive (r .words) (r .state) number (ap answerNumber e) .1))))
+        (λ o. inr (ltb-false number 5 o, step-numbers f archive (r .tables′) (r .state) number (ap answerNumber e) .1))))
       where
         at-door : 1 ≤ number → number < 4 → number ≡ 0
-        at-door p q = step-door f archive (r .words) (r .state) number place e (p, omega arith) ∙ opened
+        at-door p q = step-door f archive (r .tables′) (r .state) number place e (p, omega arith) ∙ opened
 
         at-four : number ≡ 4 → ⊥
-        at-four q = never-four f archive (r .words) (r .state) sound place (rw q at e)
+        at-four q = never-four f archive (r .tables′) (r .state) sound place (rw q at e)
 
 -- a refusal, if there is one, has such a number
 abbrev Numbered : (ℕ → Type 0) → Option Refusal → Type 0
