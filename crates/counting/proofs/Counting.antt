@@ -32,6 +32,8 @@ use Rattle.tally.proofs.Codes.{last-sound, last-context}
 use Rattle.tally.proofs.Tallied.{empty-tally}
 use Rattle.passes.specs.Follow.{followed, followedTables}
 use Rattle.passes.specs.Item.{itemAt}
+use Rattle.passes.specs.Last.{tablesFrom, tablesOf}
+use Rattle.passes.proofs.Last.{tables-open, tables-turn, tables-stop, tables-end}
 use Rattle.passes.proofs.Turns.{run-turn, run-end, turn-state, turn-tables-step, turn-sound, turn-place, turn-tables}
 use Rattle.counting.specs.declared.Counted.{Counted}
 use Rattle.counting.specs.declared.Finding.{Finding}
@@ -71,8 +73,9 @@ uses-both (i ∷ a) b = ap (λ (l : List Use). usesOf i ++ l) (uses-both a b) �
 
 -- ---- what holds before each record
 
--- `done` are the items up to the state's place, and the rest of the run is read with so many steps from the state on. What is found in all is the
--- graver of what was found and what the rest adds. As long as nothing is found, the slots tell of the uses of `done`, and the words are theirs.
+-- `done` are the items up to the state's place, and the rest of the run is read with so many steps from the state on, which lead to the state and the
+-- tables at its end. What is found in all is the graver of what was found and what the rest adds. As long as nothing is found, the slots tell of the
+-- uses of `done`, and the words are theirs.
 pub record Counting (f : Format) (archive : List ℕ) (s : State) (tables slots₀ slots : List ℕ) (found : Finding) (words : ℕ) : Type 0 where
   pub bytes : AllBytes archive
   pub sound : Sound f archive s tables
@@ -82,6 +85,7 @@ pub record Counting (f : Format) (archive : List ℕ) (s : State) (tables slots�
   pub steps : ℕ
   pub enough : length archive < s .place + 8 * suc steps
   pub last : lastFrom f archive (suc steps) s tables ≡ lastOf f archive
+  pub last-tables : tablesFrom f archive (suc steps) s tables ≡ tablesOf f archive
   pub done : List Item
   pub items : itemsOf (runOf f archive) ≡ done ++ itemsOf (runFrom f archive (suc steps) s tables)
   pub stops : stopRefusal (runOf f archive) ≡ stopRefusal (runFrom f archive (suc steps) s tables)
@@ -122,6 +126,7 @@ counting-start f archive tables slots bytes door long zeros wide clear =
       steps = length archive / 8;
       enough = omega arith;
       last = rw (fresh, n);
+      last-tables = tables-open f archive tables fresh;
       done = [];
       items = rw (fresh, n);
       stops = rw (fresh, n);
@@ -191,7 +196,7 @@ module _ (f : Format) (archive : List ℕ) (s : State) (tables slots₀ slots : 
         (recordAt f archive (s .place) .next) (eqb (found .number) 0) .words)
     unfolding lastFrom
     counting-turn goes =
-        go (h .steps) (h .enough) (h .last) (h .items) (h .stops) (h .finds)
+        go (h .steps) (h .enough) (h .last) (h .last-tables) (h .items) (h .stops) (h .finds)
       where
         next : ℕ
         next = recordAt f archive (s .place) .next
@@ -233,12 +238,13 @@ module _ (f : Format) (archive : List ℕ) (s : State) (tables slots₀ slots : 
         clean = found-clean found (counted .number) (s .place)
 
         go : (steps : ℕ) → length archive < s .place + 8 * suc steps → lastFrom f archive (suc steps) s tables ≡ lastOf f archive
+            → tablesFrom f archive (suc steps) s tables ≡ tablesOf f archive
             → itemsOf (runOf f archive) ≡ h .done ++ itemsOf (runFrom f archive (suc steps) s tables)
             → stopRefusal (runOf f archive) ≡ stopRefusal (runFrom f archive (suc steps) s tables)
             → runRefusal f [] (runOf f archive) ≡ graver (refusalIn found) (runRefusal f before (runFrom f archive (suc steps) s tables))
             → Counting f archive s′ tables′ slots₀ slots′ found′ (words + counted .words)
-        go zero enough last items stops finds = absurd (omega (arith, enough, place-is))
-        go (suc steps) enough last items stops finds =
+        go zero enough last stand items stops finds = absurd (omega (arith, enough, place-is))
+        go (suc steps) enough last stand items stops finds =
             let rest = runFrom f archive (suc steps) s′ tables′ in
             let run = goes-on goes (suc steps) in
             record {
@@ -250,6 +256,7 @@ module _ (f : Format) (archive : List ℕ) (s : State) (tables slots₀ slots : 
               steps = steps;
               enough = omega (arith, enough, place-is);
               last = rw (← turn-state f archive tables s (h .sound) (h .door) more goes, ← turn-tables-step f archive tables s (h .sound) (h .door) more goes) last;
+              last-tables = sym (tables-turn f archive tables s (suc steps) (h .sound) (h .door) more goes) ∙ stand;
               done = done′;
               items = items
                   ∙ (ap (λ (r : Run). h .done ++ itemsOf r) run
@@ -283,9 +290,18 @@ module _ (f : Format) (archive : List ℕ) (s : State) (tables slots₀ slots : 
         let run = run-turn f archive tables s (h .sound) (h .door) more (h .steps) in
         rw (h .stops ∙ ap stopRefusal run, test, test)
 
+    -- and the tables that it is followed in are those that the pass leaves
+    pub stop-tables : (followed f s (recordAt f archive (s .place) .content) (recordAt f archive (s .place) .next) .number ≡ 0 → ⊥)
+        → followedTables f tables s (recordAt f archive (s .place) .content) ≡ tablesOf f archive
+    stop-tables stop = sym (tables-stop f archive tables s (suc (h .steps)) (h .sound) (h .door) more stop) ∙ h .last-tables
+
   -- ---- the end
 
-  -- at the archive's length what was found says whether the archive is refused; if it is not, words and slots are those of all items
+  -- at the archive's length the tables are those that the pass leaves
+  pub end-tables : s .place ≡ length archive → tables ≡ tablesOf f archive
+  end-tables end = sym (tables-end f archive tables s (suc (h .steps)) (h .sound) (h .door) end) ∙ h .last-tables
+
+  -- there what was found says whether the archive is refused; if it is not, words and slots are those of all items
   pub counting-end : s .place ≡ length archive → CountIs f archive slots (concluded found words)
   unfolding concluded refusalOf
   counting-end end =

@@ -18,13 +18,15 @@ use Rattle.reader.specs.Step.{doorOf}
 use Rattle.rule.proofs.Bounds.{AllBytes}
 use Rattle.passes.specs.declared.Followed.{Followed}
 use Rattle.passes.specs.Follow.{followed, followedTables}
+use Rattle.passes.specs.Last.{tablesOf}
 use Rattle.passes.proofs.Turns.{turn-tables, turn-place}
 use Rattle.counting.specs.declared.Counted.{Counted}
 use Rattle.counting.specs.declared.Finding.{Finding}
+use Rattle.counting.specs.declared.Count.{Count}
 use Rattle.counting.specs.declared.Count.the-variants.{Refused}
 use Rattle.counting.specs.Count.{judged, judgedSlots}
 use Rattle.counting.specs.Found.{graverOf, concluded, CountIs}
-use Rattle.counting.proofs.Counting.{Counting, counting-start, counting-short, counting-words, counting-turn, counting-stop, counting-end}
+use Rattle.counting.proofs.Counting.{Counting, counting-start, counting-short, counting-words, counting-turn, counting-stop, stop-tables, end-tables, counting-end}
 use Rattle.counting.proofs.Laws.{room-after}
 
 -- what holds of the room before each record; `start` is the room at first
@@ -36,6 +38,11 @@ pub record RoomCounting (f : Format) (archive start room : List ℕ) (s : State)
 -- the room keeps its length and the words behind tables and tally
 abbrev pub RoomKept : Format → List ℕ → List ℕ → Type 0
 RoomKept f start room = (length room ≡ length start) × (drop (4 * tableWords f) room ≡ drop (4 * tableWords f) start)
+
+-- what the pass says of the room where it stops or ends: what was counted, the tables, and that the rest is kept
+abbrev RoomLeft : Format → List ℕ → List ℕ → List ℕ → Count → Type 0
+RoomLeft f archive start room count =
+    CountIs f archive (drop (tableWords f) room) count × ((take (tableWords f) room ≡ tablesOf f archive) × RoomKept f start room)
 
 -- it holds at first in a room of zeros
 pub room-starts : (f : Format) (archive room : List ℕ) → FormatFits f → AllBytes archive → doorOf f archive (tableWords f) ≡ 0
@@ -75,12 +82,14 @@ module _ (f : Format) (archive start room : List ℕ) (s : State) (found : Findi
   room-kept = (h .long, sym (behind-slots f room) ∙ (h .counting .kept .behind ∙ behind-slots f start))
 
   -- where the pass ends, what was found is what it says
-  pub room-ends : length archive ≤ s .place → CountIs f archive (drop (tableWords f) room) (concluded found words) × RoomKept f start room
-  room-ends end = (
-    counting-end f archive s (take (tableWords f) room) (drop (tableWords f) start) (drop (tableWords f) room) found words (h .counting)
-        (omega (arith, end, h .counting .sound .before)),
-    room-kept,
-  )
+  pub room-ends : length archive ≤ s .place → RoomLeft f archive start room (concluded found words)
+  room-ends end =
+      let tables = take (tableWords f) room in
+      let slots = drop (tableWords f) room in
+      let at-end : s .place ≡ length archive = omega (arith, end, h .counting .sound .before) in (
+        counting-end f archive s tables (drop (tableWords f) start) slots found words (h .counting) at-end,
+        (end-tables f archive s tables (drop (tableWords f) start) slots found words (h .counting) at-end, room-kept),
+      )
 
   -- a record that was read at the state's place and followed in the tables, so that these tables stand in the room before the slots
   module _ (more : s .place < length archive) (r : Record) (reads : r ≡ recordAt f archive (s .place)) (step : Followed)
@@ -110,17 +119,19 @@ module _ (f : Format) (archive start room : List ℕ) (s : State) (found : Findi
         rw (length-append tables (drop stretch room), tables-long, length-drop stretch room) (omega (arith, words-are, room-wide, h .long))
 
     -- a record that stops the pass is what the archive is refused by
-    pub room-stops : (step .number ≡ 0 → ⊥)
-        → CountIs f archive (drop (tableWords f) (tables ++ drop stretch room)) (Refused (step .number) (s .place))
-        × RoomKept f start (tables ++ drop stretch room)
+    pub room-stops : (step .number ≡ 0 → ⊥) → RoomLeft f archive start (tables ++ drop stretch room) (Refused (step .number) (s .place))
     room-stops stop =
-        let number : step .number ≡ followed f s (recordAt f archive (s .place) .content) (recordAt f archive (s .place) .next) .number = rw (steps, reads) in (
-          rw number
-              (counting-stop f archive s (take (tableWords f) room) (drop (tableWords f) start) (drop (tableWords f) room) found words (h .counting) more
-              (λ z. stop (number ∙ z))),
+        let before = take (tableWords f) room in
+        let slots = drop (tableWords f) room in
+        let number : step .number ≡ followed f s (recordAt f archive (s .place) .content) (recordAt f archive (s .place) .next) .number = rw (steps, reads) in
+        let stop′ : followed f s (recordAt f archive (s .place) .content) (recordAt f archive (s .place) .next) .number ≡ 0 → ⊥ = λ z. stop (number ∙ z) in (
+          rw number (counting-stop f archive s before (drop (tableWords f) start) slots found words (h .counting) more stop′),
           (
-            followed-long,
-            sym (behind-slots f (tables ++ drop stretch room)) ∙ (ap (drop (3 * tableWords f)) slots-stay ∙ (behind-slots f room ∙ room-kept .1)),
+            tables-first ∙ stop-tables f archive s before (drop (tableWords f) start) slots found words (h .counting) more stop′,
+            (
+              followed-long,
+              sym (behind-slots f (tables ++ drop stretch room)) ∙ (ap (drop (3 * tableWords f)) slots-stay ∙ (behind-slots f room ∙ room-kept .1)),
+            ),
           ),
         )
 

@@ -15,6 +15,7 @@ ghost use Rattle.reader.specs.Step.{doorOf};
 ghost use Rattle.rule.specs.Refusal.{argumentsUnresolved, itemUnresolved};
 ghost use Rattle.passes.specs.Known.{ReferenceFits};
 ghost use Rattle.passes.specs.Item.{argumentsAt, eventAt};
+ghost use Rattle.passes.specs.Last.{tablesOf};
 ghost use Rattle.counting.specs.Count.{wordsIn, unresolvedIn, countGood, countSlots, argumentGood, argumentSlots, argumentsGood, argumentsSlots, eventGood, eventSlots, eventJudged, plainWords, judged, judgedSlots};
 ghost use Rattle.counting.specs.Found.{graverOf, concluded, CountIs};
 use arguments::Argued;
@@ -472,6 +473,7 @@ fn conclude(found: Finding, words: usize) -> Count
 pub fn count_all(f: Format, archive: &[u8], room: &mut [u32]) -> Count
     requires { ⌜ FormatFits f × (f .longest < 65536) × (doorOf f (now archive) (tableWords f) ≡ 0) × (4 * tableWords f ≤ length (now room)) × ((i : ℕ) → i < 4 * tableWords f → getD (now room) i 0 ≡ 0) ⌝ }
     ensures { λ r. ⌜ CountIs f (now (archive .entry)) (drop (tableWords f) (now (room .exit))) r ⌝ }
+    ensures { λ _. ⌜ take (tableWords f) (now (room .exit)) ≡ tablesOf f (now (archive .entry)) ⌝ }
     ensures { λ _. ⌜ (length (now (room .exit)) ≡ length (now (room .entry))) × (drop (4 * tableWords f) (now (room .exit)) ≡ drop (4 * tableWords f) (now (room .entry))) ⌝ }
 {
     let stretch = tables::table_words(f);

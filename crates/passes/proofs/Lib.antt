@@ -3,3 +3,4 @@ pub mod Bounds
 pub mod Rooms
 pub mod Places
 pub mod Turns
+pub mod Last

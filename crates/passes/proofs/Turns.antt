@@ -96,14 +96,17 @@ record GoesOn (f : Format) (archive tables : List ℕ) (s : State) (c : Content)
   item : itemOf f archive (changed tables (d .change)) (d .state) (d .answer) ≡ itemAt f archive tables s c next
   on : (run : Run) → onAnswer (d .answer) ended run ≡ run
 
--- or it stops as the step does
-record Stops (f : Format) (s : State) (c : Content) (next : ℕ) (d : Decision) : Type 0 where
+-- or it stops as the step does, and neither changes anything
+record Stops (f : Format) (tables : List ℕ) (s : State) (c : Content) (next : ℕ) (d : Decision) : Type 0 where
   number : followed f s c next .number ≡ 0 → ⊥
   answer : d .answer ≡ End (followed f s c next .number) (s .place)
+  state : d .state ≡ s
+  tables′ : changed tables (d .change) ≡ tables
+  keeps : followedTables f tables s c ≡ tables
 
 -- one of the two
 abbrev Turned : Format → List ℕ → List ℕ → State → Content → ℕ → Decision → Type 0
-Turned f archive tables s c next d = GoesOn f archive tables s c next d ⊎ Stops f s c next d
+Turned f archive tables s c next d = GoesOn f archive tables s c next d ⊎ Stops f tables s c next d
 
 module _ (f : Format) (archive tables : List ℕ) (s : State) (sound : Sound f archive s tables) (door : doorOf f archive (length tables) ≡ 0) where
   -- an event is shown with all of its arguments
@@ -145,7 +148,7 @@ module _ (f : Format) (archive tables : List ℕ) (s : State) (sound : Sound f a
   unfolding enteringAs followedEntered stopping changed
   entering-turn c id next answer is keeps item on =
       cases (entering s id next .ninth)
-      (λ e. rw e (inr (record { number = rw (is, e) (λ z. omega arith); answer = rw (is, e) })))
+      (λ e. rw e (inr (record { number = rw (is, e) (λ z. omega arith); answer = rw (is, e); state = refl; tables′ = refl; keeps = keeps })))
       (λ e. rw e (inl (record {
         number = rw (is, e);
         state = rw (is, e);
@@ -162,7 +165,7 @@ module _ (f : Format) (archive tables : List ℕ) (s : State) (sound : Sound f a
       → Turned f archive tables s c next (decisionOf f archive tables s)
   unfolding contentDecision stopping registering changed followed followedTables itemOf itemAt
   content-turn (Refused number) next is fits d =
-      rw d (inr (record { number = λ z. omega (arith, fits .0); answer = refl }))
+      rw d (inr (record { number = λ z. omega (arith, fits .0); answer = refl; state = refl; tables′ = refl; keeps = refl }))
   content-turn Magic next is fits d =
       rw d (inl (record { number = refl; state = refl; place = refl; tables′ = refl; item = refl; on = λ run. refl }))
   content-turn (ProviderInfo id at long) next is fits d =
@@ -201,6 +204,12 @@ goes-on : (f : Format) (archive tables : List ℕ) (s : State) (c : Content) (ne
     → followed f s c next .number ≡ 0 → GoesOn f archive tables s c next d
 goes-on f archive tables s c next d (inl g) z = g
 goes-on f archive tables s c next d (inr h) z = absurd (h .number z)
+
+-- where it is not 0 it stops
+stops : (f : Format) (archive tables : List ℕ) (s : State) (c : Content) (next : ℕ) (d : Decision) → Turned f archive tables s c next d
+    → (followed f s c next .number ≡ 0 → ⊥) → Stops f tables s c next d
+stops f archive tables s c next d (inl g) stop = absurd (stop (g .number))
+stops f archive tables s c next d (inr h) stop = h
 
 -- ---- a turn of a pass
 
@@ -266,6 +275,16 @@ module _ (f : Format) (archive tables : List ℕ) (s : State) (sound : Sound f a
       (ended (followed f s (recordAt f archive (s .place) .content) (recordAt f archive (s .place) .next) .number) (s .place))
   run-turn steps =
       run-by f archive tables s sound door (recordAt f archive (s .place) .content) (recordAt f archive (s .place) .next) steps turned
+
+  -- where the record stops the pass, the step changes nothing, and neither does following the record
+  pub turn-stops : (followed f s (recordAt f archive (s .place) .content) (recordAt f archive (s .place) .next) .number ≡ 0 → ⊥)
+      → (stepReply f archive tables s .state ≡ s)
+      × (stepTables f archive tables s ≡ tables)
+      × (followedTables f tables s (recordAt f archive (s .place) .content) ≡ tables)
+  turn-stops stop =
+      let r = recordAt f archive (s .place) in
+      let h = stops f archive tables s (r .content) (r .next) (decisionOf f archive tables s) turned stop in
+      (h .state, h .tables′, h .keeps)
 
   module _ (goes : followed f s (recordAt f archive (s .place) .content) (recordAt f archive (s .place) .next) .number ≡ 0) where
     -- the step goes on

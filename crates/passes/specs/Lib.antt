@@ -1,3 +1,4 @@
 pub mod Follow
 pub mod Item
 pub mod Known
+pub mod Last
