@@ -1,12 +1,11 @@
 -- What the second pass writes for a record is what the rule gives for its item: the registrations that are new, and the item's record. It fits, and the
 -- slots then hold the rule's table.
 -- Assumes nothing.
-use Prim.Native.Nat.{ℕ, _*_, _≤_, _<_}
+use Prim.Native.Nat.{ℕ, _≤_, _<_}
 use mathlib.Core.Path.{_≡_, refl, sym}
 use mathlib.Core.List.{List, [], _∷_, append-nil}
 use mathlib.Core.Bool.{Bool}
 use mathlib.Core.Option.{Option, none, some}
-use lib.ListN.{length, drop}
 use Rattle.format.specs.declared.Format.{Format}
 use Rattle.records.specs.declared.Event.{Event as ReadEvent}
 use Rattle.records.specs.declared.Content.{Content}
@@ -23,12 +22,13 @@ use Rattle.rule.specs.Rule.{usesAll, Entry, indexIn, tableAfter, written, chose
 use Rattle.rule.proofs.Bounds.{AllBytes}
 use Rattle.rule.proofs.ReadBack.{AllFit}
 use Rattle.writers.specs.Part.{plainRecord}
-use Rattle.tally.specs.Codes.{contextIn}
+use Rattle.tally.specs.Codes.{contextIn, codes}
 use Rattle.tally.proofs.Codes.{UsesPlain}
 use Rattle.passes.specs.Item.{eventAt, itemAt}
 use Rattle.passes.proofs.Places.{event-references-stand, event-arguments-stand}
 use Rattle.writing.specs.Write.{eventGivenSlots, contentBytes, contentSlots}
 use Rattle.writing.specs.Fits.{ContentFits}
+use Rattle.writing.proofs.Kept.{KeysKept, kept-same}
 use Rattle.writing.proofs.IndexCodes.{Indexing}
 use Rattle.writing.proofs.Given.{Small, UsesReady}
 use Rattle.writing.proofs.Registrations.{event-gives}
@@ -45,8 +45,7 @@ pub record Wrote (f : Format) (archive : List ℕ) (last : State) (uses : List U
   pub bytes-are : contentBytes f archive tables slots s c next ≡ written (chosenIn uses) table (itemList (itemAt f archive tables s c next))
   pub indexing : Indexing f archive last uses (contentSlots f archive tables slots s c next)
       (tableAfter (chosenIn uses) table (usesAll (itemList (itemAt f archive tables s c next))))
-  pub long : length (contentSlots f archive tables slots s c next) ≡ length slots
-  pub behind : drop (3 * tableWords f) (contentSlots f archive tables slots s c next) ≡ drop (3 * tableWords f) slots
+  pub kept : KeysKept archive (tableWords f) (codes last uses) slots (contentSlots f archive tables slots s c next)
   pub fits : ContentFits f archive tables slots s c next
 
 module _ (f : Format) (archive : List ℕ) (last : State) (uses : List Use) (few : last .count ≤ 8) (plain : UsesPlain uses) (small : Small f)
@@ -59,6 +58,10 @@ module _ (f : Format) (archive : List ℕ) (last : State) (uses : List Use) (few
   -- where the record ends
   abbrev next : ℕ
   next = recordAt f archive (s .place) .next
+
+  -- slots that stay are kept
+  same : KeysKept archive (tableWords f) (codes last uses) slots slots
+  same = kept-same archive (tableWords f) (codes last uses) slots
 
   -- an event
   event-written : (e : ReadEvent) → 0 < s .place → recordAt f archive (s .place) .content ≡ EventRead e
@@ -82,8 +85,7 @@ module _ (f : Format) (archive : List ℕ) (last : State) (uses : List Use) (few
           append-nil own,
         );
         indexing = rw (append-nil us) (g .indexing);
-        long = g .long;
-        behind = g .behind;
+        kept = g .kept;
         fits = (g .fits, event-fits f archive last uses few plain bytes slots′ after (g .indexing) tables s e next here stands inside (fit .1));
       }
 
@@ -92,25 +94,24 @@ module _ (f : Format) (archive : List ℕ) (last : State) (uses : List Use) (few
       → recordAt f archive (s .place) .content ≡ c → UsesReady f uses table (usesAll (itemList (itemAt f archive tables s c next)))
       → AllFit f chosen table (itemList (itemAt f archive tables s c next)) → Wrote f archive last uses tables slots s table c next
   unfolding itemAt
-  content-written (Refused number) later is ready fit = record { bytes-are = refl; indexing = I; long = refl; behind = refl; fits = tt }
+  content-written (Refused number) later is ready fit = record { bytes-are = refl; indexing = I; kept = same; fits = tt }
   content-written Magic later is ready fit =
-      record { bytes-are = sym (append-nil (plainRecord magic)); indexing = I; long = refl; behind = refl; fits = tt }
+      record { bytes-are = sym (append-nil (plainRecord magic)); indexing = I; kept = same; fits = tt }
   content-written (ProviderInfo id place long) later is ready fit =
       record {
         bytes-are = sym (append-nil (plainRecord (providerInfo id (partOf archive place long))));
         indexing = I;
-        long = refl;
-        behind = refl;
+        kept = same;
         fits = fit .1 .1;
       }
   content-written (Section id) later is ready fit =
-      record { bytes-are = sym (append-nil (plainRecord (section id))); indexing = I; long = refl; behind = refl; fits = tt }
+      record { bytes-are = sym (append-nil (plainRecord (section id))); indexing = I; kept = same; fits = tt }
   content-written (ProviderEvent id e) later is ready fit =
-      record { bytes-are = sym (append-nil (plainRecord (providerEvent id e))); indexing = I; long = refl; behind = refl; fits = fit .1 .1 }
+      record { bytes-are = sym (append-nil (plainRecord (providerEvent id e))); indexing = I; kept = same; fits = fit .1 .1 }
   content-written (Initialization rate) later is ready fit =
-      record { bytes-are = sym (append-nil (plainRecord (initialization rate))); indexing = I; long = refl; behind = refl; fits = tt }
-  content-written (String index place long) later is ready fit = record { bytes-are = refl; indexing = I; long = refl; behind = refl; fits = tt }
-  content-written (Thread index place) later is ready fit = record { bytes-are = refl; indexing = I; long = refl; behind = refl; fits = tt }
+      record { bytes-are = sym (append-nil (plainRecord (initialization rate))); indexing = I; kept = same; fits = tt }
+  content-written (String index place long) later is ready fit = record { bytes-are = refl; indexing = I; kept = same; fits = tt }
+  content-written (Thread index place) later is ready fit = record { bytes-are = refl; indexing = I; kept = same; fits = tt }
   content-written (EventRead e) later is ready fit = event-written e (later e is) is ready fit
-  content-written Ignored later is ready fit = record { bytes-are = refl; indexing = I; long = refl; behind = refl; fits = tt }
-  content-written (Skipped type size) later is ready fit = record { bytes-are = refl; indexing = I; long = refl; behind = refl; fits = tt }
+  content-written Ignored later is ready fit = record { bytes-are = refl; indexing = I; kept = same; fits = tt }
+  content-written (Skipped type size) later is ready fit = record { bytes-are = refl; indexing = I; kept = same; fits = tt }

@@ -7,7 +7,6 @@ use mathlib.Core.List.{List, [], _∷_, _++_, append-assoc}
 use mathlib.Core.Bool.{Bool, true, cond, _&&_}
 use native.Mathlib.Omega.{arith}
 use lib.Dec.{eqb}
-use lib.ListN.{length, drop}
 use Rattle.words.specs.Stream.{sameBytes}
 use Rattle.format.specs.declared.Format.{Format}
 use Rattle.arguments.proofs.Arguments.{cases}
@@ -24,10 +23,10 @@ use Rattle.tally.specs.Slots.{keyOf, keyMark, findOf, newIndex, indexed}
 use Rattle.tally.specs.Tally.{Indexes, chosenKey}
 use Rattle.tally.specs.Codes.{codeIn, codes}
 use Rattle.tally.proofs.Codes.{KeyPlain, UsesPlain, count-codes}
-use Rattle.tally.proofs.Frames.{indexed-length, indexed-behind}
-use Rattle.tally.proofs.Probing.{found-low}
 use Rattle.tally.proofs.Indexed.{give-index}
-use Rattle.writing.proofs.IndexCodes.{indexCode, givenCode, TablePlain, index-code, given-code, chosen-code, Indexing}
+use Rattle.writing.specs.Numbered.{indexCode, givenCode}
+use Rattle.writing.proofs.Kept.{KeysKept, kept-same, kept-then, kept-indexed}
+use Rattle.writing.proofs.IndexCodes.{TablePlain, index-code, given-code, chosen-code, Indexing}
 
 -- the limits of the small format
 pub record Small (f : Format) : Type 0 where
@@ -70,8 +69,7 @@ module _ (f : Format) (archive : List ℕ) (last : State) (uses : List Use) (few
   pub record GivenUse (slots : List ℕ) (table : List Entry) (u : Use) (index : ℕ) (slots′ : List ℕ) : Type 0 where
     pub index-is : index ≡ cond (isNew (chosenIn uses) table u) (nextIndex table u) 0
     pub indexing : Indexing f archive last uses slots′ (withUse (chosenIn uses) table u)
-    pub long : length slots′ ≡ length slots
-    pub behind : drop (3 * tableWords f) slots′ ≡ drop (3 * tableWords f) slots
+    pub kept : KeysKept archive (tableWords f) (codes last uses) slots slots′
 
   module _ (slots : List ℕ) (table : List Entry) (u : Use) (place label : ℕ) (I : Indexing f archive last uses slots table) (h : KeyPlain (u .key))
       (ready : UseReady f uses table u) (is : keyOf archive place label ≡ codeIn last u) (mark : label / 65536 < 18) where
@@ -114,9 +112,7 @@ module _ (f : Format) (archive : List ℕ) (last : State) (uses : List Use) (few
             seen = u ∷ I .seen;
             registered = use-registered chosen table (I .seen) u (I .registered);
           };
-          long = indexed-length (tableWords f) slots label (findOf archive (tableWords f) slots key);
-          behind = indexed-behind (tableWords f) slots label (findOf archive (tableWords f) slots key) mark
-              (found-low archive (tableWords f) slots key (I .indexes .wide .some) (findOf archive (tableWords f) slots key) refl);
+          kept = kept-indexed archive (tableWords f) (codes last uses) (I .indexes .wide .some) slots key label counted mark;
         }
       where
         kept : TablePlain (withUse chosen table u)
@@ -146,8 +142,7 @@ pub record Gave (f : Format) (archive : List ℕ) (last : State) (uses : List Us
     : Type 0 where
   pub bytes-are : bytes ≡ registrations (chosenIn uses) table us
   pub indexing : Indexing f archive last uses slots′ (tableAfter (chosenIn uses) table us)
-  pub long : length slots′ ≡ length slots
-  pub behind : drop (3 * tableWords f) slots′ ≡ drop (3 * tableWords f) slots
+  pub kept : KeysKept archive (tableWords f) (codes last uses) slots slots′
   pub fits : Fits
 
 -- so it is from every table that the slots hold
@@ -175,20 +170,19 @@ ready-both f uses table (u ∷ us) vs h = let rest = ready-both f uses (withUse 
 module _ (f : Format) (archive : List ℕ) (last : State) (uses : List Use) where
   -- no use asks for nothing
   pub gives-none : (slots : List ℕ) {Fits : Type 0} → Fits → Gives f archive last uses [] slots [] slots Fits
-  gives-none slots fit table I ready = record { bytes-are = refl; indexing = I; long = refl; behind = refl; fits = fit }
+  gives-none slots fit table I ready = record { bytes-are = refl; indexing = I; kept = kept-same archive (tableWords f) (codes last uses) slots; fits = fit }
 
   -- one part of uses, and then another
   pub gives-both : {us vs : List Use} {slots bytes slots′ bytes′ slots″ : List ℕ} {Fits Fits′ : Type 0} → Gives f archive last uses us slots bytes slots′ Fits
       → Gives f archive last uses vs slots′ bytes′ slots″ Fits′ → Gives f archive last uses (us ++ vs) slots (bytes ++ bytes′) slots″ (Fits × Fits′)
-  gives-both {us} {vs} first second table I ready =
+  gives-both {us} {vs} {slots} {slots′ = slots′} {slots″ = slots″} first second table I ready =
       let both = ready-both f uses table us vs ready in
       let a = first table I (both .0) in
       let b = second (tableAfter (chosenIn uses) table us) (a .indexing) (both .1) in
       record {
         bytes-are = rw (a .bytes-are, b .bytes-are) (sym (registrations-both (chosenIn uses) table us vs));
         indexing = rw (after-both (chosenIn uses) table us vs) (b .indexing);
-        long = b .long ∙ a .long;
-        behind = b .behind ∙ a .behind;
+        kept = kept-then archive (tableWords f) (codes last uses) (I .indexes .wide .some) slots slots′ slots″ (a .kept) (b .kept);
         fits = (a .fits, b .fits);
       }
 
@@ -197,4 +191,4 @@ module _ (f : Format) (archive : List ℕ) (last : State) (uses : List Use) wher
       → Gives f archive last uses us slots bytes slots′ Fits′
   gives-fits turn gives table I ready =
       let g = gives table I ready in
-      record { bytes-are = g .bytes-are; indexing = g .indexing; long = g .long; behind = g .behind; fits = turn (g .fits) }
+      record { bytes-are = g .bytes-are; indexing = g .indexing; kept = g .kept; fits = turn (g .fits) }

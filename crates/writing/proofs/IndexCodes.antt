@@ -23,18 +23,9 @@ use Rattle.tally.specs.Tally.{Indexes, chosenKey}
 use Rattle.tally.specs.Codes.{contextIn, codeIn, codes}
 use Rattle.tally.proofs.Codes.{KeyPlain, UsesPlain, code-words, same-codes, count-codes, alike-distinct}
 use Rattle.tally.proofs.Indexed.{index-found, index-missing}
+use Rattle.writing.specs.Numbered.{indexCode, givenCode}
 
 -- ---- a table by codes
-
--- the index of the first entry whose use has this code, 0 where none has
-abbrev pub indexCode : State → List Entry → List ℕ → ℕ
-indexCode last [] key = 0
-indexCode last (e ∷ table) key = let rest = indexCode last table key in cond (sameBytes key (codeIn last (e .use-of))) (e .index) rest
-
--- how many entries have a code of this mark
-abbrev pub givenCode : State → List Entry → ℕ → ℕ
-givenCode last [] mark = 0
-givenCode last (e ∷ table) mark = cond (eqb mark (keyMark (codeIn last (e .use-of)))) 1 0 + givenCode last table mark
 
 -- entries whose keys are plain
 abbrev pub TablePlain : List Entry → Type 0

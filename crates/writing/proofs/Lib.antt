@@ -1,3 +1,4 @@
+pub mod Kept
 pub mod IndexCodes
 pub mod ReferenceCodes
 pub mod Given

@@ -9,7 +9,7 @@ use native.Mathlib.Numerals.{add-one}
 use native.Mathlib.Omega.{arith}
 use borrow.Author.Tests.{eq-eqb, eqb-true}
 use lib.Dec.{eqb}
-use lib.ListN.{length, getD, drop, replicate, length-append, length-replicate, getD-replicate}
+use lib.ListN.{length, getD, replicate, length-append, length-replicate, getD-replicate}
 use lib.Seq.{ext-getD}
 use Rattle.words.specs.Word.{pick}
 use Rattle.format.specs.declared.Format.{Format}
@@ -29,16 +29,23 @@ use Rattle.rule.specs.Rule.{usesAll, Entry, indexIn, tableAfter, registrations,
 use Rattle.rule.specs.Refusal.{Run, ended, passed, keepsAt, runFrom, runOf, stopRefusal, refusalOf, itemsOf, Accepted}
 use Rattle.rule.proofs.Bounds.{AllBytes}
 use Rattle.rule.proofs.Length.{none-registered}
+use Rattle.rule.proofs.Limits.{after-both}
 use Rattle.rule.proofs.ReadBack.{AllFit}
 use Rattle.rule.proofs.WholeRuns.{not-refused-passes}
+use Rattle.tally.specs.declared.Slot.the-variants.{Here}
+use Rattle.tally.specs.Tally.{Indexes, chosenKey}
 use Rattle.tally.specs.Codes.{lastFrom, lastOf, Chosen}
 use Rattle.tally.proofs.Codes.{UsesPlain, last-sound, last-context}
 use Rattle.passes.specs.Follow.{followed, followedTables}
 use Rattle.passes.specs.Item.{itemAt}
+use Rattle.passes.specs.Last.{tablesFrom, tablesOf}
+use Rattle.passes.proofs.Last.{tables-open, tables-turn, tables-end}
 use Rattle.passes.proofs.Places.{door-event}
 use Rattle.passes.proofs.Turns.{turn-tables, run-end, run-turn, turn-state, turn-tables-step, turn-sound, turn-place}
 use Rattle.writing.specs.Write.{contentBytes, contentSlots}
 use Rattle.writing.specs.Fits.{ContentFits}
+use Rattle.writing.specs.Numbered.{indexCode, givenCode, keysOf, registeredOf, Numbered}
+use Rattle.writing.proofs.Kept.{KeysKept, kept-same, kept-found, kept-then}
 use Rattle.writing.proofs.IndexCodes.{Indexing}
 use Rattle.writing.proofs.Given.{Small, UsesReady, ready-both}
 use Rattle.writing.proofs.Contents.{itemList, Wrote, content-written}
@@ -83,24 +90,59 @@ pub record Writing (f : Format) (archive : List ℕ) (s : State) (tables slots�
   pub steps : ℕ
   pub enough : length archive < s .place + 8 * suc steps
   pub last-is : lastFrom f archive (suc steps) s tables ≡ lastOf f archive
+  pub last-tables : tablesFrom f archive (suc steps) s tables ≡ tablesOf f archive
   pub stop : stopRefusal (runFrom f archive (suc steps) s tables) ≡ none
   pub plain : UsesPlain (usesAll (itemsOf (runOf f archive)))
   pub table : List Entry
+  pub table-is : registeredOf f archive
+      ≡ tableAfter (chosenIn (usesAll (itemsOf (runOf f archive)))) table (usesAll (itemsOf (runFrom f archive (suc steps) s tables)))
   pub indexing : Indexing f archive (lastOf f archive) (usesAll (itemsOf (runOf f archive))) slots table
   pub ready : UsesReady f (usesAll (itemsOf (runOf f archive))) table (usesAll (itemsOf (runFrom f archive (suc steps) s tables)))
   pub fit : AllFit f (chosenIn (usesAll (itemsOf (runOf f archive)))) table (itemsOf (runFrom f archive (suc steps) s tables))
   pub rule-is : rule (itemsOf (runOf f archive))
       ≡ sofar ++ written (chosenIn (usesAll (itemsOf (runOf f archive)))) table (itemsOf (runFrom f archive (suc steps) s tables))
-  pub long : length slots ≡ length slots₀
-  pub behind : drop (3 * tableWords f) slots ≡ drop (3 * tableWords f) slots₀
+  pub kept : KeysKept archive (tableWords f) (keysOf f archive) slots₀ slots
 
 -- ---- the end
 
--- at the archive's end all bytes of the rule are written
-pub writing-end : (f : Format) (archive : List ℕ) (s : State) (tables slots₀ slots sofar : List ℕ) → Writing f archive s tables slots₀ slots sofar
-    → s .place ≡ length archive → rule (itemsOf (runOf f archive)) ≡ sofar
-writing-end f archive s tables slots₀ slots sofar w e =
-    w .rule-is ∙ rw (run-end f archive tables s (w .steps) (w .sound) (w .door) e) (append-nil sofar)
+-- a slot is one
+here-same : (a b : ℕ) → Here a ≡ Here b → a ≡ b
+here-same a b e = cc
+
+module _ (f : Format) (archive : List ℕ) (s : State) (tables slots₀ slots sofar : List ℕ) (w : Writing f archive s tables slots₀ slots sofar)
+    (e : s .place ≡ length archive) where
+  -- at the archive's end the run ends
+  ends : runFrom f archive (suc (w .steps)) s tables ≡ ended 0 (s .place)
+  ends = run-end f archive tables s (w .steps) (w .sound) (w .door) e
+
+  -- all bytes of the rule are written
+  pub writing-end : rule (itemsOf (runOf f archive)) ≡ sofar
+  writing-end = w .rule-is ∙ rw ends (append-nil sofar)
+
+  -- the tables are those at the end
+  pub writing-tables : tables ≡ tablesOf f archive
+  writing-tables = sym (tables-end f archive tables s (suc (w .steps)) (w .sound) (w .door) e) ∙ w .last-tables
+
+  -- the rule's table is that of all registrations
+  table-whole : w .table ≡ registeredOf f archive
+  table-whole = sym (w .table-is ∙ rw ends)
+
+  -- whose indexes the slots hold
+  slots-index : Indexes archive (tableWords f) slots (keysOf f archive) (chosenKey (keysOf f archive)) (indexCode (lastOf f archive) (registeredOf f archive))
+      (givenCode (lastOf f archive) (registeredOf f archive))
+  slots-index = rw table-whole at (w .indexing .indexes)
+
+  -- with places and labels as they were, and the third words of other slots
+  pub writing-numbered : Numbered f archive slots₀ slots
+  writing-numbered =
+      let found = kept-found archive (tableWords f) (keysOf f archive) (slots-index .wide .some) slots₀ slots (w .kept .keys) in
+      record {
+        keys = w .kept .keys;
+        indexes = slots-index;
+        others = λ s low none.
+            w .kept .others s low
+            (λ key used q. let r = slots-index .found key used in none key used (here-same (r .0) s (sym (r .2) ∙ found key ∙ q)));
+      }
 
 -- ---- one turn
 
@@ -196,6 +238,10 @@ module _ (f : Format) (archive : List ℕ) (s : State) (tables slots₀ slots so
         ← (turn-tables-step f archive tables s (w .sound) (w .door) more goes),
       ) (w .last-is)
 
+  -- so are the tables at the end
+  tables-follow : tablesFrom f archive (w .steps) state tables′ ≡ tablesOf f archive
+  tables-follow = sym (tables-turn f archive tables s (w .steps) (w .sound) (w .door) more goes) ∙ w .last-tables
+
   -- the uses of the record, and those behind it
   ready : UsesReady f uses (w .table) (usesAll (itemList item)) × UsesReady f uses (tableAfter chosen (w .table) (usesAll (itemList item))) (usesAll (itemsOf rest))
   ready =
@@ -221,6 +267,11 @@ module _ (f : Format) (archive : List ℕ) (s : State) (tables slots₀ slots so
   abbrev table′ : List Entry
   table′ = tableAfter chosen (w .table) (usesAll (itemList item))
 
+  -- from which the rule makes the same registrations in all
+  table-follows : registeredOf f archive ≡ tableAfter chosen table′ (usesAll (itemsOf rest))
+  table-follows =
+      w .table-is ∙ rw (shown, uses-both (itemList item) (itemsOf rest)) (after-both chosen (w .table) (usesAll (itemList item)) (usesAll (itemsOf rest)))
+
   -- with them the bytes of the rule go on
   rule-follows : rule (itemsOf (runOf f archive)) ≡ (sofar ++ bytes) ++ written chosen table′ (itemsOf rest)
   rule-follows =
@@ -241,15 +292,16 @@ module _ (f : Format) (archive : List ℕ) (s : State) (tables slots₀ slots so
       steps = w .steps - 1;
       enough = omega (arith, turn-place f archive tables s (w .sound) (w .door) more goes, w .enough, again);
       last-is = rw again last-follows;
+      last-tables = rw again tables-follow;
       stop = rw again (rw passes at (w .stop));
       plain = w .plain;
       table = table′;
+      table-is = rw again table-follows;
       indexing = wrote .indexing;
       ready = rw again (ready .1);
       fit = rw again (fit .1);
       rule-is = rw again rule-follows;
-      long = wrote .long ∙ w .long;
-      behind = wrote .behind ∙ w .behind;
+      kept = kept-then archive (tableWords f) (keysOf f archive) (w .indexing .indexes .wide .some) slots₀ slots _ (w .kept) (wrote .kept);
     };
     room = omega (arith, ap length rule-follows, length-append (sofar ++ bytes) (written chosen table′ (itemsOf rest)));
   }
@@ -297,13 +349,14 @@ writing-start f archive tables slots is bytes door passes long zeros chosen =
       steps = length archive / 8;
       enough = omega arith;
       last-is = whole-last f archive tables zeroed;
+      last-tables = tables-open f archive tables zeroed;
       stop = rw run (not-refused-passes f (runOf f archive) passes .stop);
       plain = items-plain f (chosenIn (usesAll items)) [] items fit;
       table = [];
+      table-is = rw run;
       indexing = record { indexes = chosen; plain = tt; seen = []; registered = none-registered (chosenIn (usesAll items)) };
       ready = rw run (accepted-ready f archive is accepted bytes);
       fit = rw run fit;
       rule-is = rw run;
-      long = refl;
-      behind = refl;
+      kept = kept-same archive (tableWords f) (keysOf f archive) slots;
     }

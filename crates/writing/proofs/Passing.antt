@@ -24,10 +24,12 @@ use Rattle.rule.specs.Refusal.{runOf, refusalOf, itemsOf}
 use Rattle.rule.proofs.Bounds.{AllBytes}
 use Rattle.tally.specs.Codes.{Chosen}
 use Rattle.passes.specs.Follow.{IndexFits, followed, followedTables}
+use Rattle.passes.specs.Last.{tablesOf}
 use Rattle.passes.proofs.Turns.{turn-tables, turn-place, record-index}
 use Rattle.writing.specs.Write.{contentBytes, contentSlots}
 use Rattle.writing.specs.Fits.{ContentFits}
-use Rattle.writing.proofs.Pass.{Writing, Turned, writing-start, writing-turn, writing-end}
+use Rattle.writing.specs.Numbered.{Numbered}
+use Rattle.writing.proofs.Pass.{Writing, Turned, writing-start, writing-turn, writing-end, writing-tables, writing-numbered}
 
 -- ---- what is asked
 
@@ -83,21 +85,33 @@ pub output-long : {f : Format} {archive room₀ out₀ room out : List ℕ} {s :
 output-long {out₀ = out₀} asks p =
     rw (p .out-is) (length-written out₀ 0 (p .sofar) (omega (arith, asks .5, sofar-short (p .sofar) _ _ (p .writing .rule-is))))
 
--- at the archive's end the bytes of the rule are written, and the room behind the tables and the slots is as it was
+-- at the archive's end the bytes of the rule are written, the tables are those at the end, the slots hold the indexes, and the room behind them is as
+-- it was
 pub passing-end : {f : Format} {archive room₀ out₀ room out : List ℕ} {s : State} {at : ℕ} → Passing f archive room₀ out₀ room out s at
     → length archive ≤ s .place
     → (out ≡ written out₀ 0 (rule (itemsOf (runOf f archive))))
-    × ((length room ≡ length room₀) × (drop (4 * tableWords f) room ≡ drop (4 * tableWords f) room₀))
+    × ((take (tableWords f) room ≡ tablesOf f archive)
+    × (Numbered f archive (drop (tableWords f) room₀) (drop (tableWords f) room)
+    × ((length room ≡ length room₀) × (drop (4 * tableWords f) room ≡ drop (4 * tableWords f) room₀))))
 passing-end {f} {archive} {room₀} {out₀} {room} {out} {s} p ends =
-    let all =
-    writing-end f archive s (take (tableWords f) room) (drop (tableWords f) room₀) (drop (tableWords f) room) (p .sofar) (p .writing)
-    (omega (arith, p .writing .sound .before)) in
+    let tables = take (tableWords f) room in
+    let slots₀ = drop (tableWords f) room₀ in
+    let slots = drop (tableWords f) room in
+    let w = p .writing in
+    let at-end : s .place ≡ length archive = omega (arith, w .sound .before) in
+    let all = writing-end f archive s tables slots₀ slots (p .sofar) w at-end in
     let on : tableWords f + 3 * tableWords f ≡ 4 * tableWords f = omega arith in (
       p .out-is ∙ ap (written out₀ 0) (sym all),
       (
-        p .long,
-        rw on at
-            (sym (drop-drop (3 * tableWords f) (tableWords f) room) ∙ p .writing .behind ∙ drop-drop (3 * tableWords f) (tableWords f) room₀),
+        writing-tables f archive s tables slots₀ slots (p .sofar) w at-end,
+        (
+          writing-numbered f archive s tables slots₀ slots (p .sofar) w at-end,
+          (
+            p .long,
+            rw on at
+                (sym (drop-drop (3 * tableWords f) (tableWords f) room) ∙ w .kept .behind ∙ drop-drop (3 * tableWords f) (tableWords f) room₀),
+          ),
+        ),
       ),
     )
 
@@ -191,7 +205,7 @@ module _ {f : Format} {archive room₀ out₀ room out : List ℕ} {s : State} {
       record {
         sofar = p .sofar ++ bytes;
         writing = rw (a, take-at tables′ slots′ (tableWords f) tables-long, drop-at tables′ slots′ (tableWords f) tables-long) w;
-        long = rw a (omega (arith, asks .3, length-append tables′ slots′, tables-long, w .long, length-drop (tableWords f) room₀));
+        long = rw a (omega (arith, asks .3, length-append tables′ slots′, tables-long, w .kept .long, length-drop (tableWords f) room₀));
         out-is = l
             ∙ ap (λ (o : List ℕ). written o at bytes) (p .out-is)
             ∙ ap (λ (n : ℕ). written (written out₀ 0 (p .sofar)) n bytes) from

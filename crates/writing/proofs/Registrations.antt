@@ -139,8 +139,7 @@ module _ (f : Format) (archive : List ℕ) (last : State) (uses : List Use) (few
         bytes-are = text-registered chosen table provider (b ∷ bs) (givenIndex f archive slots context 2 (Known place long)) index
             ∙ sym (append-nil (useBytes chosen table u));
         indexing = rw (k .1) (g .indexing);
-        long = rw (k .1) (g .long);
-        behind = rw (k .1) (g .behind);
+        kept = rw (k .1) (g .kept);
         fits = record {
           low = given-low table u (givenIndex f archive slots context 2 (Known place long)) (2 ^ 15) index (omega arith) (λ e. ready .0 .fits e .index-bits);
           thread-low = λ e. absurd (omega arith);
@@ -180,8 +179,7 @@ module _ (f : Format) (archive : List ℕ) (last : State) (uses : List Use) (few
         bytes-are = thread-registered chosen table provider (partOf archive place long) p t (givenIndex f archive slots context 3 (Known place long)) index
             (rw sixteen (words .0)) (rw sixteen (words .1)) ∙ sym (append-nil (useBytes chosen table u));
         indexing = rw (k .1) (g .indexing);
-        long = rw (k .1) (g .long);
-        behind = rw (k .1) (g .behind);
+        kept = rw (k .1) (g .kept);
         fits = record {
           low = given-low table u (givenIndex f archive slots context 3 (Known place long)) (2 ^ 15) index (omega arith) (λ e. omega (arith, ready .0 .fits e .1));
           thread-low = λ e. given-low table u (givenIndex f archive slots context 3 (Known place long)) (2 ^ 8) index (omega arith) (λ e. ready .0 .fits e .1);

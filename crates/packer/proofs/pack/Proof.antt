@@ -65,14 +65,14 @@ write-requires c κs =
     let known = c .before .before .before .before .before .before .before .before .before .before .before .before .before .before .before .shared-slice-known in
     let n = rw (the-count2 .given .1) at (the-count-all .ensures .0) in
     let m = lent-measured (a .f) (a .archive .now) (the-count-all .last .1 .1 .0) (the-count2 .given .0 .0) (the-measure .result) (the-table-words .result) (asked .0) (λ i. omega (arith, known .given i)) (asked .1) (n .0) (n .2) (n .1) (the-table-words .ensures) (the-measure .ensures .0) in
-    ((asked .0, asked .1, n .0, m .0), (omega (arith, asked .2, the-count-all .ensures .1 .0), n .2))
+    ((asked .0, asked .1, n .0, m .0), (omega (arith, asked .2, the-count-all .ensures .1 .1 .0), n .2))
 
 returns : tie.Need-returns
 returns c =
     let the-count = c .before .count in
     let the-count-all = c .before .before .before .before .before .count-all in
     let n = rw (the-count .given .1) at (the-count-all .ensures .0) in
-    rw n (refl, (refl, the-count-all .ensures .1))
+    rw n (refl, (refl, the-count-all .ensures .1 .1))
 
 returns-2 : tie.Need-returns-2
 returns-2 c =
@@ -86,7 +86,7 @@ returns-2 c =
     let the-write = c .before .before .before .before .write in
     let n = rw (the-count2 .given .1) at (the-count-all .ensures .0) in
     let m = lent-measured (a .f) (a .archive .now) (the-count-all .last .1 .1 .0) (the-count2 .given .0 .0) (the-measure .result) (the-table-words .result) (asked .0) (λ i. omega (arith, known .given i)) (asked .1) (n .0) (n .2) (n .1) (the-table-words .ensures) (the-measure .ensures .0) in
-    rw (n .0, ← (m .0)) (the-write .ensures .0, (the-write .ensures .1 .0, (the-write .ensures .1 .1 .0 ∙ the-count-all .ensures .1 .0, the-write .ensures .1 .1 .1 ∙ the-count-all .ensures .1 .1)))
+    rw (n .0, ← (m .0)) (the-write .ensures .0, (the-write .ensures .1 .0, (the-write .ensures .1 .1 .0 ∙ the-count-all .ensures .1 .1 .0, the-write .ensures .1 .1 .1 ∙ the-count-all .ensures .1 .1 .1)))
 
 pub pack-spec : {M : Type 1} → statement M
 pack-spec =

@@ -40,7 +40,7 @@ returns-2 c =
     let the-if1 = c .before .before .before .before .before .before .before .before .before .before .before .before .before .before .before .before .if1 in
     let the-write-all = c .before .before .before .before .write-all in
     let r = choices-ready (a .f) (a .archive .now) (a .room .now) (the-choose .last .0) (the-clear .last .0) (the-table-words .result) (the-table-words .ensures) (asked .1 .0) (asked .1 .1) (the-choose .ensures) (the-clear .ensures) in
-    rw (le-ltb _ _ (the-if1 .left)) (refl, (the-write-all .ensures .0, (the-write-all .ensures .1 .0 ∙ r .same-length, the-write-all .ensures .1 .1 ∙ r .behind)))
+    rw (le-ltb _ _ (the-if1 .left)) (refl, (the-write-all .ensures .0, (the-write-all .ensures .1 .1 .1 .0 ∙ r .same-length, the-write-all .ensures .1 .1 .1 .1 ∙ r .behind)))
 
 pub write-spec : {M : Type 1} → statement M
 write-spec =
