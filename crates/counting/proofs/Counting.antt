@@ -2,13 +2,13 @@
 -- the pass and at the archive's end.
 -- Assumes nothing.
 use Prim.Native.Nat.{ℕ, zero, suc, _+_, _*_, _/_, _^_, _≤_, _<_}
-use mathlib.Core.Path.{_≡_, refl, sym, ap, _∙_}
+use mathlib.Core.Path.{_≡_, refl, sym, ap, subst, _∙_}
 use mathlib.Core.List.{List, [], _∷_, _++_, append-assoc, append-nil}
 use mathlib.Core.Bool.{Bool}
 use mathlib.Core.Option.{Option, none, some}
 use native.Mathlib.Omega.{arith}
 use native.Mathlib.Numerals.{add-one}
-use borrow.Author.Tests.{eqb-true, eq-eqb, ne-eqb}
+use borrow.Author.Tests.{eqb-true, eqb-false, eq-eqb, ne-eqb}
 use lib.Dec.{eqb}
 use lib.ListN.{length, getD, replicate, length-append}
 use Rattle.format.specs.declared.Format.{Format}
@@ -23,11 +23,11 @@ use Rattle.reader.proofs.Runs.{Sound, fresh-sound}
 use Rattle.reader.proofs.Steps.{admitted}
 use Rattle.rule.specs.Counting.{sumBy}
 use Rattle.rule.specs.Rule.{usesAll}
-use Rattle.rule.specs.Refusal.{Run, passed, keepsAt, runFrom, runOf, Refusal, refusal, stopRefusal, itemUses, refusalOf, itemsOf}
+use Rattle.rule.specs.Refusal.{Run, ended, passed, keepsAt, runFrom, runOf, Refusal, refusal, stopRefusal, itemUses, refusalOf, itemsOf}
 use Rattle.rule.proofs.Best.{sum-append}
 use Rattle.rule.proofs.Bounds.{AllBytes}
-use Rattle.tally.specs.Tally.{Wide}
-use Rattle.tally.specs.Codes.{lastFrom, lastOf}
+use Rattle.tally.specs.Tally.{Wide, Tallies}
+use Rattle.tally.specs.Codes.{codes, lastFrom, lastOf}
 use Rattle.tally.proofs.Codes.{last-sound, last-context}
 use Rattle.tally.proofs.Tallied.{empty-tally}
 use Rattle.passes.specs.Follow.{followed, followedTables}
@@ -39,9 +39,10 @@ use Rattle.counting.specs.declared.Counted.{Counted}
 use Rattle.counting.specs.declared.Finding.{Finding}
 use Rattle.counting.specs.Count.{judged, judgedSlots}
 use Rattle.counting.specs.Found.{graverOf, concluded, CountIs}
-use Rattle.counting.proofs.Findings.{refusalIn, graver, graver-none, graver-three, recordRefusal, runRefusal, passed-refusal, found-low, found-turn, found-clean}
+use Rattle.counting.specs.Left.{countedFrom, countedOf, FreeClear, SlotsLeft}
+use Rattle.counting.proofs.Findings.{refusalIn, graver, graver-none, graver-clean, graver-three, or-else-none, recordRefusal, runRefusal, passed-refusal, found-low, found-turn, found-clean, found-none, counted-on, counted-last, says-none, says-some}
 use Rattle.counting.proofs.Judged.{itemWords, RecordCounted, record-counted}
-use Rattle.counting.proofs.Kept.{SlotsKept, kept-same, kept-then}
+use Rattle.counting.proofs.Kept.{SlotsKept, kept-same, kept-then, kept-wide, kept-clear}
 use Rattle.counting.proofs.Told.{Told}
 
 -- ---- items one behind the other
@@ -71,11 +72,34 @@ uses-both : (a b : List Item) → usesAll (a ++ b) ≡ usesAll a ++ usesAll b
 uses-both [] b = refl
 uses-both (i ∷ a) b = ap (λ (l : List Use). usesOf i ++ l) (uses-both a b) ∙ sym (append-assoc (usesOf i) (usesAll a) (usesAll b))
 
+-- a run that adds no refusal is counted with the uses of all its items
+counted-items : (f : Format) (uses : List Use) (run : Run) → runRefusal f uses run ≡ none → countedFrom f uses run ≡ uses ++ usesAll (itemsOf run)
+unfolding countedFrom
+counted-items f uses (ended number place) e = sym (append-nil uses)
+counted-items f uses (passed place keeps item run) e =
+    let first = recordRefusal f keeps item (uses ++ itemUses item) place in
+    let both = graver-clean first (runRefusal f (uses ++ itemUses item) run) (sym (passed-refusal f uses place keeps item run) ∙ e) in
+    let shows : usesAll (itemsOf (passed place keeps item run)) ≡ itemUses item ++ usesAll (itemsOf run) =
+    ap usesAll (shown-items place keeps item run) ∙ (uses-both (shown item) (itemsOf run) ∙ ap (λ (l : List Use). l ++ usesAll (itemsOf run)) (shown-uses item)) in
+    counted-on f uses place keeps item run (both .0)
+    ∙ (counted-items f (uses ++ itemUses item) run (both .1)
+    ∙ (append-assoc uses (itemUses item) (usesAll (itemsOf run)) ∙ ap (λ (l : List Use). uses ++ l) (sym shows)))
+
+-- so of an archive that is not refused all uses are counted
+pub counted-whole : (f : Format) (archive : List ℕ) → refusalOf f (runOf f archive) ≡ none → countedOf f archive ≡ usesAll (itemsOf (runOf f archive))
+unfolding refusalOf
+counted-whole f archive e = counted-items f [] (runOf f archive) (or-else-none (stopRefusal (runOf f archive)) _ e)
+
+-- and the slots that the pass leaves tell of them
+pub left-tally : (f : Format) (archive slots : List ℕ) → refusalOf f (runOf f archive) ≡ none → SlotsLeft f archive slots
+    → Tallies archive (tableWords f) slots (codes (lastOf f archive) (usesAll (itemsOf (runOf f archive))))
+left-tally f archive slots e left = rw (counted-whole f archive e) at (left .tally)
+
 -- ---- what holds before each record
 
 -- `done` are the items up to the state's place, and the rest of the run is read with so many steps from the state on, which lead to the state and the
 -- tables at its end. What is found in all is the graver of what was found and what the rest adds. As long as nothing is found, the slots tell of the
--- uses of `done`, and the words are theirs.
+-- uses of `done`, and the words are theirs; afterwards, of all uses that are counted.
 pub record Counting (f : Format) (archive : List ℕ) (s : State) (tables slots₀ slots : List ℕ) (found : Finding) (words : ℕ) : Type 0 where
   pub bytes : AllBytes archive
   pub sound : Sound f archive s tables
@@ -93,6 +117,9 @@ pub record Counting (f : Format) (archive : List ℕ) (s : State) (tables slots�
   pub low : found .number ≤ 12
   pub told : found .number ≡ 0 → Told f archive (lastOf f archive) slots (usesAll done)
   pub counted : found .number ≡ 0 → words ≡ sumBy fixedWords done
+  pub clear : FreeClear (tableWords f) slots
+  pub counts-on : found .number ≡ 0 → countedOf f archive ≡ countedFrom f (usesAll done) (runFrom f archive (suc steps) s tables)
+  pub counts-told : (found .number ≡ 0 → ⊥) → Told f archive (lastOf f archive) slots (countedOf f archive)
   pub few-uses : length (usesAll done) ≤ 8 * s .place
   pub few-words : words ≤ 8 * s .place
 
@@ -139,12 +166,24 @@ counting-start f archive tables slots bytes door long zeros wide clear =
         within = λ mark l. omega arith;
       };
       counted = λ z. refl;
+      clear = λ s low e. (clear (tableWords f + s) (omega arith), λ l. clear (2 * tableWords f + s) (omega arith));
+      counts-on = λ z. rw (fresh, n);
+      counts-told = λ other. absurd (other refl);
       few-uses = omega arith;
       few-words = omega arith;
     }
 
 module _ (f : Format) (archive : List ℕ) (s : State) (tables slots₀ slots : List ℕ) (found : Finding) (words : ℕ)
     (h : Counting f archive s tables slots₀ slots found words) where
+  -- where the rest of the run adds no uses, the slots are those that the pass leaves
+  slots-left : countedFrom f (usesAll (h .done)) (runFrom f archive (suc (h .steps)) s tables) ≡ usesAll (h .done) → SlotsLeft f archive slots
+  slots-left rest = record {
+    tally = cases (eqb (found .number) 0)
+        (λ e. let z = eqb-true (found .number) 0 e in rw (h .counts-on z ∙ rest) (h .told z .tally))
+        (λ e. h .counts-told (eqb-false (found .number) 0 e) .tally);
+    free = h .clear;
+  }
+
   -- ---- one record
 
   -- the archive is one that opening takes, so it is short
@@ -196,7 +235,7 @@ module _ (f : Format) (archive : List ℕ) (s : State) (tables slots₀ slots : 
         (recordAt f archive (s .place) .next) (eqb (found .number) 0) .words)
     unfolding lastFrom
     counting-turn goes =
-        go (h .steps) (h .enough) (h .last) (h .last-tables) (h .items) (h .stops) (h .finds)
+        go (h .steps) (h .enough) (h .last) (h .last-tables) (h .items) (h .stops) (h .finds) (h .counts-on)
       where
         next : ℕ
         next = recordAt f archive (s .place) .next
@@ -242,16 +281,17 @@ module _ (f : Format) (archive : List ℕ) (s : State) (tables slots₀ slots : 
             → itemsOf (runOf f archive) ≡ h .done ++ itemsOf (runFrom f archive (suc steps) s tables)
             → stopRefusal (runOf f archive) ≡ stopRefusal (runFrom f archive (suc steps) s tables)
             → runRefusal f [] (runOf f archive) ≡ graver (refusalIn found) (runRefusal f before (runFrom f archive (suc steps) s tables))
+            → (found .number ≡ 0 → countedOf f archive ≡ countedFrom f before (runFrom f archive (suc steps) s tables))
             → Counting f archive s′ tables′ slots₀ slots′ found′ (words + counted .words)
-        go zero enough last stand items stops finds = absurd (omega (arith, enough, place-is))
-        go (suc steps) enough last stand items stops finds =
+        go zero enough last stand items stops finds on = absurd (omega (arith, enough, place-is))
+        go (suc steps) enough last stand items stops finds on =
             let rest = runFrom f archive (suc steps) s′ tables′ in
             let run = goes-on goes (suc steps) in
             record {
               bytes = h .bytes;
               sound = turn-sound f archive tables s (h .sound) (h .door) more goes;
               door = rw (turn-tables f tables s (recordAt f archive (s .place) .content)) (h .door);
-              wide = record { some = h .wide .some; low = h .wide .low; long = rw (here .kept .long) (h .wide .long) };
+              wide = kept-wide (here .kept .long) (h .wide);
               kept = kept-then f slots₀ slots slots′ (h .kept) (here .kept);
               steps = steps;
               enough = omega (arith, enough, place-is);
@@ -274,6 +314,22 @@ module _ (f : Format) (archive : List ℕ) (s : State) (tables slots₀ slots : 
               counted = λ z.
                   let own = here .words (clean z .0) (clean z .1) in
                   omega (arith, own, h .counted (clean z .0), sum-append fixedWords (h .done) (shown item), shown-words item);
+              clear = kept-clear (here .kept) (h .wide) (h .clear);
+              counts-on = λ z.
+                  on (clean z .0)
+                  ∙ (ap (countedFrom f before) run
+                  ∙ (counted-on f before (s .place) keeps item rest (says-none found (counted .number) (s .place) _ (clean z .0) (here .says) (clean z .1))
+                  ∙ ap (λ (l : List Use). countedFrom f l rest) (sym uses-are)));
+              counts-told = λ other.
+                  cases (eqb (found .number) 0)
+                  (λ e. let z = eqb-true (found .number) 0 e in
+                  let some-number : counted .number ≡ 0 → ⊥ = λ q. other (found-none found (counted .number) (s .place) z q) in
+                  rw (on z
+                  ∙ (ap (countedFrom f before) run
+                  ∙ counted-last f before (s .place) keeps item rest (says-some found (counted .number) (s .place) _ z (here .says) some-number)))
+                  (here .tells-of z))
+                  (λ e. let n = eqb-false (found .number) 0 e in
+                  subst (λ (l : List ℕ). Told f archive (lastOf f archive) l (countedOf f archive)) (sym (here .rests n)) (h .counts-told n));
               few-uses = rw uses-are (omega (arith, length-append before (itemUses item), here .few-uses, h .few-uses, place-is));
               few-words = omega (arith, here .few-words, h .few-words, place-is);
             }
@@ -290,6 +346,13 @@ module _ (f : Format) (archive : List ℕ) (s : State) (tables slots₀ slots : 
         let run = run-turn f archive tables s (h .sound) (h .door) more (h .steps) in
         rw (h .stops ∙ ap stopRefusal run, test, test)
 
+    -- the slots are those that the pass leaves
+    pub stop-slots : (followed f s (recordAt f archive (s .place) .content) (recordAt f archive (s .place) .next) .number ≡ 0 → ⊥) → SlotsLeft f archive slots
+    unfolding countedFrom
+    stop-slots stop =
+        let test = ne-eqb (followed f s (recordAt f archive (s .place) .content) (recordAt f archive (s .place) .next) .number) 0 stop in
+        slots-left (rw (run-turn f archive tables s (h .sound) (h .door) more (h .steps), test))
+
     -- and the tables that it is followed in are those that the pass leaves
     pub stop-tables : (followed f s (recordAt f archive (s .place) .content) (recordAt f archive (s .place) .next) .number ≡ 0 → ⊥)
         → followedTables f tables s (recordAt f archive (s .place) .content) ≡ tablesOf f archive
@@ -301,8 +364,13 @@ module _ (f : Format) (archive : List ℕ) (s : State) (tables slots₀ slots : 
   pub end-tables : s .place ≡ length archive → tables ≡ tablesOf f archive
   end-tables end = sym (tables-end f archive tables s (suc (h .steps)) (h .sound) (h .door) end) ∙ h .last-tables
 
-  -- there what was found says whether the archive is refused; if it is not, words and slots are those of all items
-  pub counting-end : s .place ≡ length archive → CountIs f archive slots (concluded found words)
+  -- so are the slots
+  pub end-slots : s .place ≡ length archive → SlotsLeft f archive slots
+  unfolding countedFrom
+  end-slots end = slots-left (rw (run-end f archive tables s (h .steps) (h .sound) (h .door) end))
+
+  -- there what was found says whether the archive is refused; if it is not, the words are those of all items
+  pub counting-end : s .place ≡ length archive → CountIs f archive (concluded found words)
   unfolding concluded refusalOf
   counting-end end =
       let run = run-end f archive tables s (h .steps) (h .sound) (h .door) end in
@@ -312,5 +380,5 @@ module _ (f : Format) (archive : List ℕ) (s : State) (tables slots₀ slots : 
       let items : itemsOf (runOf f archive) ≡ h .done = h .items ∙ (ap (λ (r : Run). h .done ++ itemsOf r) run ∙ append-nil (h .done)) in
       cases (eqb (found .number) 0)
       (λ e. let z = eqb-true (found .number) 0 e in
-      rw e (rw stops (finds ∙ rw e), rw items (h .counted z), rw items (h .told z .tally)))
+      rw e (rw stops (finds ∙ rw e), rw items (h .counted z)))
       (λ e. rw e (rw stops (finds ∙ rw e)))

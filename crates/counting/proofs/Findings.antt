@@ -3,7 +3,7 @@
 use Prim.Native.Nat.{ℕ, _≤_}
 use mathlib.Core.Path.{_≡_, refl, sym, ap, _∙_}
 use mathlib.Core.List.{List, _++_}
-use mathlib.Core.Bool.{Bool, true, false}
+use mathlib.Core.Bool.{Bool, true, false, _||_}
 use mathlib.Core.Option.{Option, none, some}
 use mathlib.Core.Logic.{_⊎_, inl, inr}
 use native.Mathlib.Omega.{arith}
@@ -17,6 +17,7 @@ use Rattle.records.specs.Item.{Item, Use}
 use Rattle.rule.specs.Refusal.{Run, ended, passed, Refusal, refusal, orElse, lossRefusal, itemUnresolved, unresolvedRefusal, passesLimit, itemUses, limitRefusal}
 use Rattle.counting.specs.declared.Finding.{Finding}
 use Rattle.counting.specs.Found.{graverOf}
+use Rattle.counting.specs.Left.{countedUses, countedFrom}
 
 -- ---- the graver of two
 
@@ -34,6 +35,20 @@ graver (some (refusal n p)) (some (refusal m q)) = pick (ltb m n) (some (refusal
 pub graver-none : (a : Option Refusal) → graver a none ≡ a
 graver-none none = refl
 graver-none (some (refusal n p)) = refl
+
+-- where the graver of two is none, both are
+pub graver-clean : (a b : Option Refusal) → graver a b ≡ none → (a ≡ none) × (b ≡ none)
+graver-clean none b e = (refl, e)
+graver-clean (some (refusal n p)) none e = let z : _≡_ {A = ℕ} 0 1 = cc in absurd (omega arith)
+graver-clean (some (refusal n p)) (some (refusal m q)) e =
+    cases (ltb m n)
+    (λ l. let e′ = rw l at e in let z : _≡_ {A = ℕ} 0 1 = cc in absurd (omega arith))
+    (λ l. let e′ = rw l at e in let z : _≡_ {A = ℕ} 0 1 = cc in absurd (omega arith))
+
+-- where the first of two that is not none is none, so is the second
+pub or-else-none : (a b : Option Refusal) → orElse a b ≡ none → b ≡ none
+or-else-none none b e = e
+or-else-none (some r) b e = let z : _≡_ {A = ℕ} 0 1 = cc in absurd (omega arith)
 
 -- three are compared from either end
 pub graver-three : (a b c : Option Refusal) → graver a (graver b c) ≡ graver (graver a b) c
@@ -158,3 +173,60 @@ found-clean found number place =
     (λ e. let n = eqb-false number 0 e in
     cases (eqb (found .number) 0) (λ d. rw (e, d) (λ z. absurd (n z)))
     (λ d. cases (ltb number (found .number)) (λ l. rw (e, d, l) (λ z. absurd (n z))) (λ l. rw (e, d, l) (λ z. absurd (eqb-false (found .number) 0 d z)))))
+
+-- ---- the uses that are counted
+
+module _ (f : Format) (uses : List Use) (place : ℕ) (keeps : Bool) (item : Option Item) (run : Run) where
+  -- behind a record that adds nothing the uses of the others are counted too
+  pub counted-on : recordRefusal f keeps item (uses ++ itemUses item) place ≡ none
+      → countedFrom f uses (passed place keeps item run) ≡ countedFrom f (uses ++ itemUses item) run
+  unfolding countedFrom
+  counted-on = go keeps (itemUnresolved item) (passesLimit f (uses ++ itemUses item) (uses ++ itemUses item))
+    where
+      go : (k u l : Bool) → pick k (pick u (some (refusal 11 place)) (pick l (some (refusal 12 place)) none)) (some (refusal 10 place)) ≡ none
+          → pick k (pick (u || l) (countedUses f uses (itemUses item)) (countedFrom f (uses ++ itemUses item) run)) uses
+          ≡ countedFrom f (uses ++ itemUses item) run
+      go true false false e = refl
+      go true false true e = let z : _≡_ {A = ℕ} 0 1 = cc in absurd (omega arith)
+      go true true l e = let z : _≡_ {A = ℕ} 0 1 = cc in absurd (omega arith)
+      go false u l e = let z : _≡_ {A = ℕ} 0 1 = cc in absurd (omega arith)
+
+  -- behind one that adds something none are, and of its own those that pass no limit, if it loses nothing
+  pub counted-last : (recordRefusal f keeps item (uses ++ itemUses item) place ≡ none → ⊥)
+      → countedFrom f uses (passed place keeps item run) ≡ pick keeps (countedUses f uses (itemUses item)) uses
+  unfolding countedFrom
+  counted-last = go keeps (itemUnresolved item) (passesLimit f (uses ++ itemUses item) (uses ++ itemUses item))
+    where
+      go : (k u l : Bool) → (pick k (pick u (some (refusal 11 place)) (pick l (some (refusal 12 place)) none)) (some (refusal 10 place)) ≡ none → ⊥)
+          → pick k (pick (u || l) (countedUses f uses (itemUses item)) (countedFrom f (uses ++ itemUses item) run)) uses
+          ≡ pick k (countedUses f uses (itemUses item)) uses
+      go true false false n = absurd (n refl)
+      go true false true n = refl
+      go true true l n = refl
+      go false u l n = refl
+
+-- where nothing was found before a record, it adds nothing if its number is 0
+pub says-none : (found : Finding) (number place : ℕ) (own : Option Refusal) → found .number ≡ 0 → Says found number place own → number ≡ 0 → own ≡ none
+says-none found number place own before says zero-is = go (says .tells)
+  where
+    go : (own ≡ refusalIn (record { number = number; place = place })) ⊎ ((found .number ≡ 0 → ⊥) × (number ≡ 0) × (own ≡ some (refusal 12 place)))
+        → own ≡ none
+    go (inl e) = e ∙ rw (eq-eqb number 0 zero-is)
+    go (inr (n, _, _)) = absurd (n before)
+
+-- and something if it is not
+pub says-some : (found : Finding) (number place : ℕ) (own : Option Refusal) → found .number ≡ 0 → Says found number place own → (number ≡ 0 → ⊥)
+    → own ≡ none → ⊥
+says-some found number place own before says other none-is = go (says .tells)
+  where
+    go : (own ≡ refusalIn (record { number = number; place = place })) ⊎ ((found .number ≡ 0 → ⊥) × (number ≡ 0) × (own ≡ some (refusal 12 place)))
+        → ⊥
+    go (inl e) =
+        let is : own ≡ some (refusal number place) = e ∙ rw (ne-eqb number 0 other) in
+        let z : _≡_ {A = ℕ} 0 1 = cc in omega arith
+    go (inr (n, _, _)) = absurd (n before)
+
+-- where nothing is found up to a record, nor in it, nothing is found
+pub found-none : (found : Finding) (number place : ℕ) → found .number ≡ 0 → number ≡ 0 → graverOf found number place .number ≡ 0
+unfolding graverOf
+found-none found number place before zero-is = rw (eq-eqb number 0 zero-is) before

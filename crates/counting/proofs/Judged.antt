@@ -1,6 +1,6 @@
 -- What the first pass makes of one record: the number that it adds, its words, and the slots after it, against the record's item.
 -- Assumes nothing.
-use Prim.Native.Nat.{ℕ, _+_, _-_, _*_, _≤_}
+use Prim.Native.Nat.{ℕ, _+_, _-_, _*_, _^_, _≤_, _<_}
 use mathlib.Core.Path.{_≡_, refl, sym}
 use mathlib.Core.List.{List, [], _++_, append-nil}
 use mathlib.Core.Bool.{Bool, true, false, true≢false}
@@ -35,6 +35,8 @@ use Rattle.passes.proofs.Places.{event-references-stand, event-arguments-stand,
 use Rattle.counting.specs.declared.Counted.{Counted}
 use Rattle.counting.specs.declared.Finding.{Finding}
 use Rattle.counting.specs.Count.{eventGood, eventSlots, counts, eventJudged, plainWords, keepsTo, judged, judgedSlots}
+use Rattle.counting.specs.Left.{countedUses}
+use Rattle.counting.proofs.Counts.{event-counts}
 use Rattle.counting.proofs.Findings.{recordRefusal, Says}
 use Rattle.counting.proofs.Kept.{SlotsKept, kept-same, event-kept}
 use Rattle.counting.proofs.References.{event-outcome}
@@ -47,7 +49,8 @@ itemWords none = 0
 itemWords (some i) = fixedWords i
 
 -- what is counted at a record says what the record adds, keeps what is behind the tally, and is small; where nothing is found up to it and in it,
--- the slots tell of its uses too, and its words are those of its item
+-- the slots tell of its uses too, and its words are those of its item. Where something is found in it first, they tell of those that pass no limit,
+-- and where something was found before, they stay.
 pub record RecordCounted (f : Format) (archive : List ℕ) (last : State) (place : ℕ) (found : Finding) (before : List Use) (keeps : Bool)
     (item : Option Item) (slots slots′ : List ℕ) (counted : Counted) : Type 0 where
   pub says : Says found (counted .number) place (recordRefusal f keeps item (before ++ itemUses item) place)
@@ -55,6 +58,8 @@ pub record RecordCounted (f : Format) (archive : List ℕ) (last : State) (place
   pub few-words : counted .words ≤ 33
   pub few-uses : length (itemUses item) ≤ 33
   pub told : found .number ≡ 0 → counted .number ≡ 0 → Told f archive last slots′ (before ++ itemUses item)
+  pub tells-of : found .number ≡ 0 → Told f archive last slots′ (pick keeps (countedUses f before (itemUses item)) before)
+  pub rests : (found .number ≡ 0 → ⊥) → slots′ ≡ slots
   pub words : found .number ≡ 0 → counted .number ≡ 0 → counted .words ≡ itemWords item
 
 module _ (f : Format) (archive : List ℕ) (last : State) (few : last .count ≤ 8) (place : ℕ) (found : Finding) (before : List Use) (slots : List ℕ) where
@@ -69,6 +74,8 @@ module _ (f : Format) (archive : List ℕ) (last : State) (few : last .count ≤
         few-words = omega arith;
         few-uses = rw no-uses (omega arith);
         told = λ z q. absurd (omega arith);
+        tells-of = told;
+        rests = λ n. refl;
         words = λ z q. absurd (omega arith);
       }
   plain-counted true item words told no-uses resolved low fixed =
@@ -84,6 +91,8 @@ module _ (f : Format) (archive : List ℕ) (last : State) (few : last .count ≤
         few-words = low;
         few-uses = rw no-uses (omega arith);
         told = λ z q. rw all (told z);
+        tells-of = λ z. rw no-uses (told z);
+        rests = λ n. refl;
         words = λ z q. fixed refl;
       }
     where
@@ -92,34 +101,37 @@ module _ (f : Format) (archive : List ℕ) (last : State) (few : last .count ≤
 
   -- an event
   event-counted : (keeps good : Bool) (item : Option Item) (words : ℕ) (slots′ : List ℕ)
-      → (found .number ≡ 0 → Outcome f archive last slots′ (before ++ itemUses item) good (itemUnresolved item)) → SlotsKept f slots slots′
-      → length (itemUses item) ≤ 33 → words ≤ 33 → words ≡ itemWords item
+      → (found .number ≡ 0 → Outcome f archive last slots′ (before ++ itemUses item) good (itemUnresolved item))
+      → (found .number ≡ 0 → Told f archive last slots before) → (found .number ≡ 0 → Told f archive last slots′ (countedUses f before (itemUses item)))
+      → SlotsKept f slots slots′ → length (itemUses item) ≤ 33 → words ≤ 33 → words ≡ itemWords item
       → RecordCounted f archive last place found before keeps item slots (pick keeps (pick (eqb (found .number) 0) slots′ slots) slots)
       (pick keeps
       (pick (eqb (found .number) 0) (pick good (counts 0 words) (pick (itemUnresolved item) (counts 11 0) (counts 12 0)))
       (pick (itemUnresolved item) (counts 11 0) (counts 0 0)))
       (counts 10 0))
-  event-counted false good item words slots′ outcome kept uses-low low fixed =
+  event-counted false good item words slots′ outcome told counts-of kept uses-low low fixed =
       record {
         says = record { low = omega arith; tells = inl refl };
         kept = kept-same f slots;
         few-words = omega arith;
         few-uses = uses-low;
         told = λ z q. absurd (omega arith);
+        tells-of = told;
+        rests = λ n. refl;
         words = λ z q. absurd (omega arith);
       }
-  event-counted true good item words slots′ outcome kept uses-low low fixed =
+  event-counted true good item words slots′ outcome told counts-of kept uses-low low fixed =
       cases (eqb (found .number) 0)
-      (λ e. rw e (clean good (outcome (eqb-true (found .number) 0 e))))
+      (λ e. rw e (clean (eqb-true (found .number) 0 e) good (outcome (eqb-true (found .number) 0 e))))
       (λ e. rw e (found-before (eqb-false (found .number) 0 e)))
     where
       all : List Use
       all = before ++ itemUses item
 
-      clean : (good : Bool) → Outcome f archive last slots′ all good (itemUnresolved item)
+      clean : found .number ≡ 0 → (good : Bool) → Outcome f archive last slots′ all good (itemUnresolved item)
           → RecordCounted f archive last place found before true item slots slots′
           (pick good (counts 0 words) (pick (itemUnresolved item) (counts 11 0) (counts 12 0)))
-      clean true o =
+      clean none-before true o =
           let c = o .clean refl in
           record {
             says = record { low = omega arith; tells = rw (c .0, told-limits f archive last few slots′ all (c .1)) (inl refl) };
@@ -127,9 +139,11 @@ module _ (f : Format) (archive : List ℕ) (last : State) (few : last .count ≤
             few-words = low;
             few-uses = uses-low;
             told = λ z q. c .1;
+            tells-of = counts-of;
+            rests = λ n. absurd (n none-before);
             words = λ z q. fixed;
           }
-      clean false o =
+      clean none-before false o =
           cases (itemUnresolved item)
           (λ e. rw e (record {
             says = record { low = omega arith; tells = rw e (inl refl) };
@@ -137,6 +151,8 @@ module _ (f : Format) (archive : List ℕ) (last : State) (few : last .count ≤
             few-words = omega arith;
             few-uses = uses-low;
             told = λ z q. absurd (omega arith);
+            tells-of = counts-of;
+            rests = λ n. absurd (n none-before);
             words = λ z q. absurd (omega arith);
           }))
           (λ e. rw e (record {
@@ -145,6 +161,8 @@ module _ (f : Format) (archive : List ℕ) (last : State) (few : last .count ≤
             few-words = omega arith;
             few-uses = uses-low;
             told = λ z q. absurd (omega arith);
+            tells-of = counts-of;
+            rests = λ n. absurd (n none-before);
             words = λ z q. absurd (omega arith);
           }))
 
@@ -158,6 +176,8 @@ module _ (f : Format) (archive : List ℕ) (last : State) (few : last .count ≤
             few-words = omega arith;
             few-uses = uses-low;
             told = λ z q. absurd (n z);
+            tells-of = λ z. absurd (n z);
+            rests = λ q. refl;
             words = λ z q. absurd (n z);
           }))
           (λ e. rw e (record {
@@ -169,6 +189,8 @@ module _ (f : Format) (archive : List ℕ) (last : State) (few : last .count ≤
             few-words = omega arith;
             few-uses = uses-low;
             told = λ z q. absurd (n z);
+            tells-of = λ z. absurd (n z);
+            rests = λ q. refl;
             words = λ z q. absurd (n z);
           }))
 
@@ -207,11 +229,14 @@ record-counted f archive last few bytes tables s door small inside low here foun
         let stands = event-references-stand f archive (s .place) e later k in
         let behind = event-arguments-stand f archive (s .place) e later k in
         let uses-few = event-few f archive tables s e next count in
+        let own = usesOf (event (eventAt f archive tables s e next)) in
+        let few-all : length (before ++ own) < 2 ^ 32 = omega (arith, uses-few, length-append before own) in
         event-counted f archive last few (s .place) found before slots (keepsTo f archive s (EventRead e) next)
         (eventGood f archive tables slots s e next) (some (event (eventAt f archive tables s e next)))
         (fixedWords (event (eventAt f archive tables s e next))) (eventSlots f archive tables slots s e next)
         (λ z. event-outcome f archive last few bytes tables s here low e next stands behind slots before (told z)
-        (omega (arith, uses-few, length-append before (usesOf (event (eventAt f archive tables s e next))))))
+        few-all)
+        told (λ z. event-counts f archive last few bytes tables s here low e next stands behind slots before (told z) few-all)
         (event-kept f archive tables s low e next stands behind slots) uses-few (event-words f archive tables s e next count) refl
 
     go : (c : Content) → recordAt f archive (s .place) .content ≡ c → ContentBound f c → ContentInside (s .place) next c

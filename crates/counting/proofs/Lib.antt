@@ -1,6 +1,7 @@
 pub mod Limits
 pub mod Told
 pub mod References
+pub mod Counts
 pub mod Kept
 pub mod Sizes
 pub mod Findings

@@ -46,22 +46,22 @@ either-either true b c = refl
 either-either false b c = refl
 
 -- a text that is not empty is one use
-text-use : (provider : Option ℕ) (bytes : List ℕ) → 0 < length bytes → textUses provider (known bytes) ≡ record { provider = provider; key = textKey bytes } ∷ []
+pub text-use : (provider : Option ℕ) (bytes : List ℕ) → 0 < length bytes → textUses provider (known bytes) ≡ record { provider = provider; key = textKey bytes } ∷ []
 text-use provider [] h = absurd (omega arith)
 text-use provider (b ∷ bs) h = refl
 
 -- an empty text is none
-no-use : (provider : Option ℕ) (bytes : List ℕ) → length bytes ≡ 0 → textUses provider (known bytes) ≡ []
+pub no-use : (provider : Option ℕ) (bytes : List ℕ) → length bytes ≡ 0 → textUses provider (known bytes) ≡ []
 no-use provider [] h = refl
 no-use provider (b ∷ bs) h = absurd (omega arith)
 
 -- a string's highest index
-string-limit : (f : Format) → highestOf f 2 ≡ f .highest
+pub string-limit : (f : Format) → highestOf f 2 ≡ f .highest
 unfolding highestOf
 string-limit f = refl
 
 -- a thread's highest index
-thread-limit : (f : Format) → highestOf f 3 ≡ 255
+pub thread-limit : (f : Format) → highestOf f 3 ≡ 255
 unfolding highestOf
 thread-limit f = refl
 

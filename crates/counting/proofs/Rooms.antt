@@ -26,7 +26,8 @@ use Rattle.counting.specs.declared.Count.{Count}
 use Rattle.counting.specs.declared.Count.the-variants.{Refused}
 use Rattle.counting.specs.Count.{judged, judgedSlots}
 use Rattle.counting.specs.Found.{graverOf, concluded, CountIs}
-use Rattle.counting.proofs.Counting.{Counting, counting-start, counting-short, counting-words, counting-turn, counting-stop, stop-tables, end-tables, counting-end}
+use Rattle.counting.specs.Left.{SlotsLeft}
+use Rattle.counting.proofs.Counting.{Counting, counting-start, counting-short, counting-words, counting-turn, counting-stop, stop-slots, stop-tables, end-tables, end-slots, counting-end}
 use Rattle.counting.proofs.Laws.{room-after}
 
 -- what holds of the room before each record; `start` is the room at first
@@ -39,10 +40,11 @@ pub record RoomCounting (f : Format) (archive start room : List ℕ) (s : State)
 abbrev pub RoomKept : Format → List ℕ → List ℕ → Type 0
 RoomKept f start room = (length room ≡ length start) × (drop (4 * tableWords f) room ≡ drop (4 * tableWords f) start)
 
--- what the pass says of the room where it stops or ends: what was counted, the tables, and that the rest is kept
+-- what the pass says of the room where it stops or ends: what it found, the tables, the slots, and that the rest is kept
 abbrev RoomLeft : Format → List ℕ → List ℕ → List ℕ → Count → Type 0
 RoomLeft f archive start room count =
-    CountIs f archive (drop (tableWords f) room) count × ((take (tableWords f) room ≡ tablesOf f archive) × RoomKept f start room)
+    CountIs f archive count
+    × ((take (tableWords f) room ≡ tablesOf f archive) × (SlotsLeft f archive (drop (tableWords f) room) × RoomKept f start room))
 
 -- it holds at first in a room of zeros
 pub room-starts : (f : Format) (archive room : List ℕ) → FormatFits f → AllBytes archive → doorOf f archive (tableWords f) ≡ 0
@@ -88,7 +90,10 @@ module _ (f : Format) (archive start room : List ℕ) (s : State) (found : Findi
       let slots = drop (tableWords f) room in
       let at-end : s .place ≡ length archive = omega (arith, end, h .counting .sound .before) in (
         counting-end f archive s tables (drop (tableWords f) start) slots found words (h .counting) at-end,
-        (end-tables f archive s tables (drop (tableWords f) start) slots found words (h .counting) at-end, room-kept),
+        (
+          end-tables f archive s tables (drop (tableWords f) start) slots found words (h .counting) at-end,
+          (end-slots f archive s tables (drop (tableWords f) start) slots found words (h .counting) at-end, room-kept),
+        ),
       )
 
   -- a record that was read at the state's place and followed in the tables, so that these tables stand in the room before the slots
@@ -129,8 +134,11 @@ module _ (f : Format) (archive start room : List ℕ) (s : State) (found : Findi
           (
             tables-first ∙ stop-tables f archive s before (drop (tableWords f) start) slots found words (h .counting) more stop′,
             (
-              followed-long,
-              sym (behind-slots f (tables ++ drop stretch room)) ∙ (ap (drop (3 * tableWords f)) slots-stay ∙ (behind-slots f room ∙ room-kept .1)),
+              rw slots-stay (stop-slots f archive s before (drop (tableWords f) start) slots found words (h .counting) more stop′),
+              (
+                followed-long,
+                sym (behind-slots f (tables ++ drop stretch room)) ∙ (ap (drop (3 * tableWords f)) slots-stay ∙ (behind-slots f room ∙ room-kept .1)),
+              ),
             ),
           ),
         )

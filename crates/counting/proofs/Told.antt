@@ -18,12 +18,15 @@ use Rattle.rule.specs.Counting.{count, keys}
 use Rattle.rule.specs.Rule.{sameUse}
 use Rattle.rule.specs.Refusal.{alike, limitOf, passesLimit}
 use Rattle.rule.proofs.Best.{count-append}
+use Rattle.tally.specs.declared.Slot.{Slot}
+use Rattle.tally.specs.declared.Slot.the-variants.{Here, Free, Full}
 use Rattle.tally.specs.Slots.{keyOf, keyMark, findOf, isAdded, added}
 use Rattle.tally.specs.Tally.{distinct, Tallies}
 use Rattle.tally.specs.Codes.{contextIn, codeIn, codes}
 use Rattle.tally.proofs.Codes.{KeyPlain, UsesPlain, plain-both, codes-both, codes-length, kindMark, code-mark, alike-distinct}
 use Rattle.tally.proofs.Sums.{distinct-alike}
 use Rattle.tally.proofs.Tallied.{tally-alike, add-tally, added-limits, not-added}
+use Rattle.counting.specs.Left.{withinLimit}
 use Rattle.counting.proofs.Limits.{limitsOf, mark-limit, limits-sum, limit-more, limit-last}
 
 -- ---- uses of open contexts
@@ -70,6 +73,13 @@ pub record Told (f : Format) (archive : List ℕ) (last : State) (slots : List �
 pub record Outcome (f : Format) (archive : List ℕ) (last : State) (slots : List ℕ) (uses : List Use) (good bad : Bool) : Type 0 where
   pub clean : good ≡ true → (bad ≡ false) × Told f archive last slots uses
   pub over : good ≡ false → bad ≡ false → passesLimit f uses uses ≡ true
+
+-- a use that is not counted leaves the slots
+not-added-same : (stretch : ℕ) (table : List ℕ) (place label limit : ℕ) (slot : Slot) → isAdded stretch table label limit slot ≡ false
+    → added stretch table place label limit slot ≡ table
+not-added-same stretch table place label limit (Here s) e = absurd (true≢false e)
+not-added-same stretch table place label limit (Free s) e = rw e
+not-added-same stretch table place label limit Full e = refl
 
 -- neither of two tests that fail together holds
 either-false : (a b : Bool) → (a || b) ≡ false → (a ≡ false) × (b ≡ false)
@@ -179,3 +189,11 @@ module _ (f : Format) (archive : List ℕ) (last : State) where
       pub outcome-use : Outcome f archive last (added stretch slots place label limit (findOf archive stretch slots (keyOf archive place label))) all
           (isAdded stretch slots label limit (findOf archive stretch slots (keyOf archive place label))) false
       outcome-use = record { clean = λ e. (refl, use-told e); over = λ e q. use-over e }
+
+      -- whatever comes of it, the slots tell of it where it passes no limit
+      pub use-counted : Told f archive last (added stretch slots place label limit (findOf archive stretch slots (keyOf archive place label))) (withinLimit f uses u)
+      use-counted =
+          let slot = findOf archive stretch slots (keyOf archive place label) in
+          cases (isAdded stretch slots label limit slot)
+          (λ e. let now = use-told e in rw (told-limits (added stretch slots place label limit slot) all now) now)
+          (λ e. rw (use-over e, not-added-same stretch slots place label limit slot e) told)

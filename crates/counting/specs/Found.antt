@@ -7,12 +7,8 @@ use lib.Dec.{eqb, ltb}
 use Rattle.words.specs.Word.{pick}
 use Rattle.format.specs.declared.Format.{Format}
 use Rattle.records.specs.Item.{fixedWords}
-use Rattle.tables.specs.Table.{tableWords}
 use Rattle.rule.specs.Counting.{sumBy}
-use Rattle.rule.specs.Rule.{usesAll}
 use Rattle.rule.specs.Refusal.{runOf, refusal, refusalOf, itemsOf}
-use Rattle.tally.specs.Tally.{Tallies}
-use Rattle.tally.specs.Codes.{codes, lastOf}
 use Rattle.counting.specs.declared.Finding.{Finding}
 use Rattle.counting.specs.declared.Count.{Count}
 use Rattle.counting.specs.declared.Count.the-variants.{Refused, Words}
@@ -28,11 +24,7 @@ graverOf found number place =
 unfoldable pub concluded : Finding → ℕ → Count
 concluded found words = pick (eqb (found .number) 0) (Words words) (Refused (found .number) (found .place))
 
--- the archive is refused by this number at this place; or it is not, its items take so many words without texts and threads, and the slots count
--- their uses
-abbrev pub CountIs : Format → List ℕ → List ℕ → Count → Type 0
-CountIs f archive slots (Refused number place) = refusalOf f (runOf f archive) ≡ some (refusal number place)
-CountIs f archive slots (Words n) =
-    (refusalOf f (runOf f archive) ≡ none)
-    × (n ≡ sumBy fixedWords (itemsOf (runOf f archive)))
-    × Tallies archive (tableWords f) slots (codes (lastOf f archive) (usesAll (itemsOf (runOf f archive))))
+-- the archive is refused by this number at this place; or it is not, and its items take so many words without texts and threads
+abbrev pub CountIs : Format → List ℕ → Count → Type 0
+CountIs f archive (Refused number place) = refusalOf f (runOf f archive) ≡ some (refusal number place)
+CountIs f archive (Words n) = (refusalOf f (runOf f archive) ≡ none) × (n ≡ sumBy fixedWords (itemsOf (runOf f archive)))

@@ -18,6 +18,7 @@ ghost use Rattle.passes.specs.Item.{argumentsAt, eventAt};
 ghost use Rattle.passes.specs.Last.{tablesOf};
 ghost use Rattle.counting.specs.Count.{wordsIn, unresolvedIn, countGood, countSlots, argumentGood, argumentSlots, argumentsGood, argumentsSlots, eventGood, eventSlots, eventJudged, plainWords, judged, judgedSlots};
 ghost use Rattle.counting.specs.Found.{graverOf, concluded, CountIs};
+ghost use Rattle.counting.specs.Left.{SlotsLeft};
 use arguments::Argued;
 use arguments::Argument;
 use arguments::Scalar;
@@ -472,8 +473,9 @@ fn conclude(found: Finding, words: usize) -> Count
 // Passes over the whole archive.
 pub fn count_all(f: Format, archive: &[u8], room: &mut [u32]) -> Count
     requires { ⌜ FormatFits f × (f .longest < 65536) × (doorOf f (now archive) (tableWords f) ≡ 0) × (4 * tableWords f ≤ length (now room)) × ((i : ℕ) → i < 4 * tableWords f → getD (now room) i 0 ≡ 0) ⌝ }
-    ensures { λ r. ⌜ CountIs f (now (archive .entry)) (drop (tableWords f) (now (room .exit))) r ⌝ }
+    ensures { λ r. ⌜ CountIs f (now (archive .entry)) r ⌝ }
     ensures { λ _. ⌜ take (tableWords f) (now (room .exit)) ≡ tablesOf f (now (archive .entry)) ⌝ }
+    ensures { λ _. ⌜ SlotsLeft f (now (archive .entry)) (drop (tableWords f) (now (room .exit))) ⌝ }
     ensures { λ _. ⌜ (length (now (room .exit)) ≡ length (now (room .entry))) × (drop (4 * tableWords f) (now (room .exit)) ≡ drop (4 * tableWords f) (now (room .entry))) ⌝ }
 {
     let stretch = tables::table_words(f);

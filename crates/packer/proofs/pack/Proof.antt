@@ -1,6 +1,7 @@
 -- `packer::pack` meets its contract: what the first pass counted is the written length (lent-measured), so the second pass writes exactly that.
 use native.Mathlib.Omega.{arith}
 use mathlib.Core.Path.{refl, _∙_}
+use Rattle.counting.proofs.Counting.{left-tally}
 use Rattle.packer.proofs.Room.{small-format, lent-wide, lent-measured}
 use borrow.Author.Needs.{needs}
 use Rattle.packer.proofs.pack.Statement.{statement}
@@ -26,7 +27,8 @@ measure-requires c κs =
     let a = c .before .before .before .before .before .before .before .before .before .before .before .before .before .args in
     let the-table-words = c .before .before .before .before .before .before .before .before .before .table-words in
     let n = rw (the-count2 .given .1) at (the-count-all .ensures .0) in
-    lent-wide (a .f) (a .archive .now) (the-count-all .last .1 .1 .0) _ (the-table-words .result) (the-table-words .ensures) (n .2)
+    let tallies = left-tally (a .f) (a .archive .now) _ (n .0) (the-count-all .ensures .1 .1 .0) in
+    lent-wide (a .f) (a .archive .now) (the-count-all .last .1 .1 .0) _ (the-table-words .result) (the-table-words .ensures) tallies
 
 add-write : tie.Need-add-write
 add-write c =
@@ -38,7 +40,8 @@ add-write c =
     let asked = c .before .before .before .before .before .before .before .before .before .before .before .before .before .before .before .before .pre in
     let known = c .before .before .before .before .before .before .before .before .before .before .before .before .before .before .before .shared-slice-known in
     let n = rw (the-count2 .given .1) at (the-count-all .ensures .0) in
-    let m = lent-measured (a .f) (a .archive .now) (the-count-all .last .1 .1 .0) (the-count2 .given .0 .0) (the-measure .result) (the-table-words .result) (asked .0) (λ i. omega (arith, known .given i)) (asked .1) (n .0) (n .2) (n .1) (the-table-words .ensures) (the-measure .ensures .0) in
+    let tallies = left-tally (a .f) (a .archive .now) _ (n .0) (the-count-all .ensures .1 .1 .0) in
+    let m = lent-measured (a .f) (a .archive .now) (the-count-all .last .1 .1 .0) (the-count2 .given .0 .0) (the-measure .result) (the-table-words .result) (asked .0) (λ i. omega (arith, known .given i)) (asked .1) (n .0) tallies (n .1) (the-table-words .ensures) (the-measure .ensures .0) in
     omega (arith, m .1)
 
 mul-write : tie.Need-mul-write
@@ -51,7 +54,8 @@ mul-write c =
     let asked = c .before .before .before .before .before .before .before .before .before .before .before .before .before .before .before .before .pre in
     let known = c .before .before .before .before .before .before .before .before .before .before .before .before .before .before .before .shared-slice-known in
     let n = rw (the-count2 .given .1) at (the-count-all .ensures .0) in
-    let m = lent-measured (a .f) (a .archive .now) (the-count-all .last .1 .1 .0) (the-count2 .given .0 .0) (the-measure .result) (the-table-words .result) (asked .0) (λ i. omega (arith, known .given i)) (asked .1) (n .0) (n .2) (n .1) (the-table-words .ensures) (the-measure .ensures .0) in
+    let tallies = left-tally (a .f) (a .archive .now) _ (n .0) (the-count-all .ensures .1 .1 .0) in
+    let m = lent-measured (a .f) (a .archive .now) (the-count-all .last .1 .1 .0) (the-count2 .given .0 .0) (the-measure .result) (the-table-words .result) (asked .0) (λ i. omega (arith, known .given i)) (asked .1) (n .0) tallies (n .1) (the-table-words .ensures) (the-measure .ensures .0) in
     omega (arith, m .1)
 
 write-requires : tie.Need-write-requires
@@ -64,15 +68,16 @@ write-requires c κs =
     let asked = c .before .before .before .before .before .before .before .before .before .before .before .before .before .before .before .before .pre in
     let known = c .before .before .before .before .before .before .before .before .before .before .before .before .before .before .before .shared-slice-known in
     let n = rw (the-count2 .given .1) at (the-count-all .ensures .0) in
-    let m = lent-measured (a .f) (a .archive .now) (the-count-all .last .1 .1 .0) (the-count2 .given .0 .0) (the-measure .result) (the-table-words .result) (asked .0) (λ i. omega (arith, known .given i)) (asked .1) (n .0) (n .2) (n .1) (the-table-words .ensures) (the-measure .ensures .0) in
-    ((asked .0, asked .1, n .0, m .0), (omega (arith, asked .2, the-count-all .ensures .1 .1 .0), n .2))
+    let tallies = left-tally (a .f) (a .archive .now) _ (n .0) (the-count-all .ensures .1 .1 .0) in
+    let m = lent-measured (a .f) (a .archive .now) (the-count-all .last .1 .1 .0) (the-count2 .given .0 .0) (the-measure .result) (the-table-words .result) (asked .0) (λ i. omega (arith, known .given i)) (asked .1) (n .0) tallies (n .1) (the-table-words .ensures) (the-measure .ensures .0) in
+    ((asked .0, asked .1, n .0, m .0), (omega (arith, asked .2, the-count-all .ensures .1 .1 .1 .0), tallies))
 
 returns : tie.Need-returns
 returns c =
     let the-count = c .before .count in
     let the-count-all = c .before .before .before .before .before .count-all in
     let n = rw (the-count .given .1) at (the-count-all .ensures .0) in
-    rw n (refl, (refl, the-count-all .ensures .1 .1))
+    rw n (refl, (refl, the-count-all .ensures .1 .1 .1))
 
 returns-2 : tie.Need-returns-2
 returns-2 c =
@@ -85,8 +90,9 @@ returns-2 c =
     let known = c .before .before .before .before .before .before .before .before .before .before .before .before .before .before .before .before .before .before .before .before .shared-slice-known in
     let the-write = c .before .before .before .before .write in
     let n = rw (the-count2 .given .1) at (the-count-all .ensures .0) in
-    let m = lent-measured (a .f) (a .archive .now) (the-count-all .last .1 .1 .0) (the-count2 .given .0 .0) (the-measure .result) (the-table-words .result) (asked .0) (λ i. omega (arith, known .given i)) (asked .1) (n .0) (n .2) (n .1) (the-table-words .ensures) (the-measure .ensures .0) in
-    rw (n .0, ← (m .0)) (the-write .ensures .0, (the-write .ensures .1 .0, (the-write .ensures .1 .1 .0 ∙ the-count-all .ensures .1 .1 .0, the-write .ensures .1 .1 .1 ∙ the-count-all .ensures .1 .1 .1)))
+    let tallies = left-tally (a .f) (a .archive .now) _ (n .0) (the-count-all .ensures .1 .1 .0) in
+    let m = lent-measured (a .f) (a .archive .now) (the-count-all .last .1 .1 .0) (the-count2 .given .0 .0) (the-measure .result) (the-table-words .result) (asked .0) (λ i. omega (arith, known .given i)) (asked .1) (n .0) tallies (n .1) (the-table-words .ensures) (the-measure .ensures .0) in
+    rw (n .0, ← (m .0)) (the-write .ensures .0, (the-write .ensures .1 .0, (the-write .ensures .1 .1 .0 ∙ the-count-all .ensures .1 .1 .1 .0, the-write .ensures .1 .1 .1 ∙ the-count-all .ensures .1 .1 .1 .1)))
 
 pub pack-spec : {M : Type 1} → statement M
 pack-spec =
