@@ -80,7 +80,8 @@ counted-items f uses (passed place keeps item run) e =
     let first = recordRefusal f keeps item (uses ++ itemUses item) place in
     let both = graver-clean first (runRefusal f (uses ++ itemUses item) run) (sym (passed-refusal f uses place keeps item run) ∙ e) in
     let shows : usesAll (itemsOf (passed place keeps item run)) ≡ itemUses item ++ usesAll (itemsOf run) =
-    ap usesAll (shown-items place keeps item run) ∙ (uses-both (shown item) (itemsOf run) ∙ ap (λ (l : List Use). l ++ usesAll (itemsOf run)) (shown-uses item)) in
+    ap usesAll (shown-items place keeps item run)
+    ∙ (uses-both (shown item) (itemsOf run) ∙ ap (λ (l : List Use). l ++ usesAll (itemsOf run)) (shown-uses item)) in
     counted-on f uses place keeps item run (both .0)
     ∙ (counted-items f (uses ++ itemUses item) run (both .1)
     ∙ (append-assoc uses (itemUses item) (usesAll (itemsOf run)) ∙ ap (λ (l : List Use). uses ++ l) (sym shows)))
@@ -316,9 +317,10 @@ module _ (f : Format) (archive : List ℕ) (s : State) (tables slots₀ slots : 
                   omega (arith, own, h .counted (clean z .0), sum-append fixedWords (h .done) (shown item), shown-words item);
               clear = kept-clear (here .kept) (h .wide) (h .clear);
               counts-on = λ z.
+                  let none-added = says-none found (counted .number) (s .place) _ (clean z .0) (here .says) (clean z .1) in
                   on (clean z .0)
                   ∙ (ap (countedFrom f before) run
-                  ∙ (counted-on f before (s .place) keeps item rest (says-none found (counted .number) (s .place) _ (clean z .0) (here .says) (clean z .1))
+                  ∙ (counted-on f before (s .place) keeps item rest none-added
                   ∙ ap (λ (l : List Use). countedFrom f l rest) (sym uses-are)));
               counts-told = λ other.
                   cases (eqb (found .number) 0)
@@ -347,7 +349,8 @@ module _ (f : Format) (archive : List ℕ) (s : State) (tables slots₀ slots : 
         rw (h .stops ∙ ap stopRefusal run, test, test)
 
     -- the slots are those that the pass leaves
-    pub stop-slots : (followed f s (recordAt f archive (s .place) .content) (recordAt f archive (s .place) .next) .number ≡ 0 → ⊥) → SlotsLeft f archive slots
+    pub stop-slots : (followed f s (recordAt f archive (s .place) .content) (recordAt f archive (s .place) .next) .number ≡ 0 → ⊥)
+        → SlotsLeft f archive slots
     unfolding countedFrom
     stop-slots stop =
         let test = ne-eqb (followed f s (recordAt f archive (s .place) .content) (recordAt f archive (s .place) .next) .number) 0 stop in

@@ -116,7 +116,8 @@ module _ (f : Format) (archive : List ℕ) (last : State) (few : last .count ≤
         → Counts f archive last (textUses provider (textAt f archive tables context limit r)) slots
         (countSlots f archive slots context 2 (resolved f archive tables context 2 limit r))
     reference-counts r stands =
-        text-counts (resolved f archive tables context 2 limit r) (λ place long e. known-stands f archive tables context 2 limit r place long stands e)
+        text-counts (resolved f archive tables context 2 limit r)
+        (λ place long e. known-stands f archive tables context 2 limit r place long stands e)
 
     -- what is said of so many arguments
     abbrev ArgumentsCount : ℕ → List ℕ → ℕ → Type 0
@@ -148,7 +149,8 @@ module _ (f : Format) (archive : List ℕ) (last : State) (few : last .count ≤
         go (λ size h. arguments-count count (drop size rest) (place + size) h) (argumentOf f rest place) refl stands
       where
         go : ((size : ℕ) → ArgumentsStand f archive count (drop size rest) (place + size) → ArgumentsCount count (drop size rest) (place + size))
-            → (x : Argued) → argumentOf f rest place ≡ x → ArgumentStands archive x (λ size. ArgumentsStand f archive count (drop size rest) (place + size))
+            → (x : Argued) → argumentOf f rest place ≡ x
+            → ArgumentStands archive x (λ size. ArgumentsStand f archive count (drop size rest) (place + size))
             → ArgumentsCount (suc count) rest place
         go more (ArgumentRefused number) e h = absurd h
         go more (ArgumentRead a size) e h = argument-counts count rest place a size e (h .0) (h .1) (more size (h .2))
@@ -176,4 +178,5 @@ event-counts f archive last few bytes tables s here low e next stands behind slo
     )) slots)
     (counts-both category (name ++ others) (text (e .category) (stands .category) (threadSlots f archive tables slots s e))
     (counts-both name others (text (e .name) (stands .name) (categorySlots f archive tables slots s e))
-    (arguments-count f archive last few bytes p context here low tables next (e .count) part (e .arguments) behind (nameSlots f archive tables slots s e))))
+    (arguments-count f archive last few bytes p context here low tables next (e .count) part (e .arguments) behind
+    (nameSlots f archive tables slots s e))))

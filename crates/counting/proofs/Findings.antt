@@ -206,7 +206,8 @@ module _ (f : Format) (uses : List Use) (place : ℕ) (keeps : Bool) (item : Opt
       go false u l n = refl
 
 -- where nothing was found before a record, it adds nothing if its number is 0
-pub says-none : (found : Finding) (number place : ℕ) (own : Option Refusal) → found .number ≡ 0 → Says found number place own → number ≡ 0 → own ≡ none
+pub says-none : (found : Finding) (number place : ℕ) (own : Option Refusal) → found .number ≡ 0 → Says found number place own → number ≡ 0
+    → own ≡ none
 says-none found number place own before says zero-is = go (says .tells)
   where
     go : (own ≡ refusalIn (record { number = number; place = place })) ⊎ ((found .number ≡ 0 → ⊥) × (number ≡ 0) × (own ≡ some (refusal 12 place)))

@@ -102,7 +102,8 @@ module _ (f : Format) (archive : List ℕ) (last : State) (few : last .count ≤
   -- an event
   event-counted : (keeps good : Bool) (item : Option Item) (words : ℕ) (slots′ : List ℕ)
       → (found .number ≡ 0 → Outcome f archive last slots′ (before ++ itemUses item) good (itemUnresolved item))
-      → (found .number ≡ 0 → Told f archive last slots before) → (found .number ≡ 0 → Told f archive last slots′ (countedUses f before (itemUses item)))
+      → (found .number ≡ 0 → Told f archive last slots before)
+      → (found .number ≡ 0 → Told f archive last slots′ (countedUses f before (itemUses item)))
       → SlotsKept f slots slots′ → length (itemUses item) ≤ 33 → words ≤ 33 → words ≡ itemWords item
       → RecordCounted f archive last place found before keeps item slots (pick keeps (pick (eqb (found .number) 0) slots′ slots) slots)
       (pick keeps

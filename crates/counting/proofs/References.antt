@@ -46,7 +46,8 @@ either-either true b c = refl
 either-either false b c = refl
 
 -- a text that is not empty is one use
-pub text-use : (provider : Option ℕ) (bytes : List ℕ) → 0 < length bytes → textUses provider (known bytes) ≡ record { provider = provider; key = textKey bytes } ∷ []
+pub text-use : (provider : Option ℕ) (bytes : List ℕ) → 0 < length bytes
+    → textUses provider (known bytes) ≡ record { provider = provider; key = textKey bytes } ∷ []
 text-use provider [] h = absurd (omega arith)
 text-use provider (b ∷ bs) h = refl
 

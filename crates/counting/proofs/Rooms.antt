@@ -128,8 +128,10 @@ module _ (f : Format) (archive start room : List ℕ) (s : State) (found : Findi
     room-stops stop =
         let before = take (tableWords f) room in
         let slots = drop (tableWords f) room in
-        let number : step .number ≡ followed f s (recordAt f archive (s .place) .content) (recordAt f archive (s .place) .next) .number = rw (steps, reads) in
-        let stop′ : followed f s (recordAt f archive (s .place) .content) (recordAt f archive (s .place) .next) .number ≡ 0 → ⊥ = λ z. stop (number ∙ z) in (
+        let content = recordAt f archive (s .place) .content in
+        let next = recordAt f archive (s .place) .next in
+        let number : step .number ≡ followed f s content next .number = rw (steps, reads) in
+        let stop′ : followed f s content next .number ≡ 0 → ⊥ = λ z. stop (number ∙ z) in (
           rw number (counting-stop f archive s before (drop (tableWords f) start) slots found words (h .counting) more stop′),
           (
             tables-first ∙ stop-tables f archive s before (drop (tableWords f) start) slots found words (h .counting) more stop′,

@@ -191,7 +191,8 @@ module _ (f : Format) (archive : List ℕ) (last : State) where
       outcome-use = record { clean = λ e. (refl, use-told e); over = λ e q. use-over e }
 
       -- whatever comes of it, the slots tell of it where it passes no limit
-      pub use-counted : Told f archive last (added stretch slots place label limit (findOf archive stretch slots (keyOf archive place label))) (withinLimit f uses u)
+      pub use-counted : Told f archive last (added stretch slots place label limit (findOf archive stretch slots (keyOf archive place label)))
+          (withinLimit f uses u)
       use-counted =
           let slot = findOf archive stretch slots (keyOf archive place label) in
           cases (isAdded stretch slots label limit slot)

@@ -21,8 +21,8 @@ abbrev pub countedUses : Format → List Use → List Use → List Use
 countedUses f uses [] = uses
 countedUses f uses (u ∷ us) = countedUses f (withinLimit f uses u) us
 
--- the uses counted along a run, behind those before it: none of a record that loses something, and none behind the first record that is refused by 10,
--- 11 or 12
+-- the uses counted along a run, behind those before it: none of a record that loses something, and none behind the first record at which 10, 11 or
+-- 12 is found
 unfoldable pub countedFrom : Format → List Use → Run → List Use
 countedFrom f uses (ended number place) = uses
 countedFrom f uses (passed place keeps item run) =

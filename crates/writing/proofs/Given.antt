@@ -24,7 +24,7 @@ use Rattle.tally.specs.Tally.{Indexes, chosenKey}
 use Rattle.tally.specs.Codes.{codeIn, codes}
 use Rattle.tally.proofs.Codes.{KeyPlain, UsesPlain, count-codes}
 use Rattle.tally.proofs.Indexed.{give-index}
-use Rattle.writing.specs.Numbered.{indexCode, givenCode}
+use Rattle.writing.specs.Indexed.{indexCode, givenCode}
 use Rattle.writing.proofs.Kept.{KeysKept, kept-same, kept-then, kept-indexed}
 use Rattle.writing.proofs.IndexCodes.{TablePlain, index-code, given-code, chosen-code, Indexing}
 
@@ -170,7 +170,8 @@ ready-both f uses table (u ∷ us) vs h = let rest = ready-both f uses (withUse 
 module _ (f : Format) (archive : List ℕ) (last : State) (uses : List Use) where
   -- no use asks for nothing
   pub gives-none : (slots : List ℕ) {Fits : Type 0} → Fits → Gives f archive last uses [] slots [] slots Fits
-  gives-none slots fit table I ready = record { bytes-are = refl; indexing = I; kept = kept-same archive (tableWords f) (codes last uses) slots; fits = fit }
+  gives-none slots fit table I ready =
+      record { bytes-are = refl; indexing = I; kept = kept-same archive (tableWords f) (codes last uses) slots; fits = fit }
 
   -- one part of uses, and then another
   pub gives-both : {us vs : List Use} {slots bytes slots′ bytes′ slots″ : List ℕ} {Fits Fits′ : Type 0} → Gives f archive last uses us slots bytes slots′ Fits

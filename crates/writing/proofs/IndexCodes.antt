@@ -23,7 +23,7 @@ use Rattle.tally.specs.Tally.{Indexes, chosenKey}
 use Rattle.tally.specs.Codes.{contextIn, codeIn, codes}
 use Rattle.tally.proofs.Codes.{KeyPlain, UsesPlain, code-words, same-codes, count-codes, alike-distinct}
 use Rattle.tally.proofs.Indexed.{index-found, index-missing}
-use Rattle.writing.specs.Numbered.{indexCode, givenCode}
+use Rattle.writing.specs.Indexed.{indexCode, givenCode}
 
 -- ---- a table by codes
 

@@ -1,5 +1,5 @@
--- Giving an index writes only the counter of its mark and the third word of its key's slot: what that leaves of the words of the tally, step after step.
--- Assumes nothing.
+-- Giving an index writes only the counter of its mark and the third word of its key's slot: what that leaves of the words of the tally, one index
+-- after the other. Assumes nothing.
 use Prim.Native.Nat.{ℕ, _+_, _-_, _*_, _/_, _<_}
 use mathlib.Core.Path.{_≡_, refl, sym, ap, _∙_}
 use mathlib.Core.List.{List}

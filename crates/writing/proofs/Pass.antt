@@ -44,7 +44,7 @@ use Rattle.passes.proofs.Places.{door-event}
 use Rattle.passes.proofs.Turns.{turn-tables, run-end, run-turn, turn-state, turn-tables-step, turn-sound, turn-place}
 use Rattle.writing.specs.Write.{contentBytes, contentSlots}
 use Rattle.writing.specs.Fits.{ContentFits}
-use Rattle.writing.specs.Numbered.{indexCode, givenCode, keysOf, registeredOf, Numbered}
+use Rattle.writing.specs.Indexed.{indexCode, givenCode, keysOf, registeredOf, SlotsIndexed}
 use Rattle.writing.proofs.Kept.{KeysKept, kept-same, kept-found, kept-then}
 use Rattle.writing.proofs.IndexCodes.{Indexing}
 use Rattle.writing.proofs.Given.{Small, UsesReady, ready-both}
@@ -128,13 +128,13 @@ module _ (f : Format) (archive : List ℕ) (s : State) (tables slots₀ slots so
   table-whole = sym (w .table-is ∙ rw ends)
 
   -- whose indexes the slots hold
-  slots-index : Indexes archive (tableWords f) slots (keysOf f archive) (chosenKey (keysOf f archive)) (indexCode (lastOf f archive) (registeredOf f archive))
-      (givenCode (lastOf f archive) (registeredOf f archive))
+  slots-index : Indexes archive (tableWords f) slots (keysOf f archive) (chosenKey (keysOf f archive))
+      (indexCode (lastOf f archive) (registeredOf f archive)) (givenCode (lastOf f archive) (registeredOf f archive))
   slots-index = rw table-whole at (w .indexing .indexes)
 
   -- with places and labels as they were, and the third words of other slots
-  pub writing-numbered : Numbered f archive slots₀ slots
-  writing-numbered =
+  pub writing-indexed : SlotsIndexed f archive slots₀ slots
+  writing-indexed =
       let found = kept-found archive (tableWords f) (keysOf f archive) (slots-index .wide .some) slots₀ slots (w .kept .keys) in
       record {
         keys = w .kept .keys;
@@ -270,7 +270,8 @@ module _ (f : Format) (archive : List ℕ) (s : State) (tables slots₀ slots so
   -- from which the rule makes the same registrations in all
   table-follows : registeredOf f archive ≡ tableAfter chosen table′ (usesAll (itemsOf rest))
   table-follows =
-      w .table-is ∙ rw (shown, uses-both (itemList item) (itemsOf rest)) (after-both chosen (w .table) (usesAll (itemList item)) (usesAll (itemsOf rest)))
+      w .table-is
+      ∙ rw (shown, uses-both (itemList item) (itemsOf rest)) (after-both chosen (w .table) (usesAll (itemList item)) (usesAll (itemsOf rest)))
 
   -- with them the bytes of the rule go on
   rule-follows : rule (itemsOf (runOf f archive)) ≡ (sofar ++ bytes) ++ written chosen table′ (itemsOf rest)

@@ -28,8 +28,8 @@ use Rattle.passes.specs.Last.{tablesOf}
 use Rattle.passes.proofs.Turns.{turn-tables, turn-place, record-index}
 use Rattle.writing.specs.Write.{contentBytes, contentSlots}
 use Rattle.writing.specs.Fits.{ContentFits}
-use Rattle.writing.specs.Numbered.{Numbered}
-use Rattle.writing.proofs.Pass.{Writing, Turned, writing-start, writing-turn, writing-end, writing-tables, writing-numbered}
+use Rattle.writing.specs.Indexed.{SlotsIndexed}
+use Rattle.writing.proofs.Pass.{Writing, Turned, writing-start, writing-turn, writing-end, writing-tables, writing-indexed}
 
 -- ---- what is asked
 
@@ -91,7 +91,7 @@ pub passing-end : {f : Format} {archive room₀ out₀ room out : List ℕ} {s :
     → length archive ≤ s .place
     → (out ≡ written out₀ 0 (rule (itemsOf (runOf f archive))))
     × ((take (tableWords f) room ≡ tablesOf f archive)
-    × (Numbered f archive (drop (tableWords f) room₀) (drop (tableWords f) room)
+    × (SlotsIndexed f archive (drop (tableWords f) room₀) (drop (tableWords f) room)
     × ((length room ≡ length room₀) × (drop (4 * tableWords f) room ≡ drop (4 * tableWords f) room₀))))
 passing-end {f} {archive} {room₀} {out₀} {room} {out} {s} p ends =
     let tables = take (tableWords f) room in
@@ -105,7 +105,7 @@ passing-end {f} {archive} {room₀} {out₀} {room} {out} {s} p ends =
       (
         writing-tables f archive s tables slots₀ slots (p .sofar) w at-end,
         (
-          writing-numbered f archive s tables slots₀ slots (p .sofar) w at-end,
+          writing-indexed f archive s tables slots₀ slots (p .sofar) w at-end,
           (
             p .long,
             rw on at

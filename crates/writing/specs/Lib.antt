@@ -1,3 +1,3 @@
 pub mod Write
 pub mod Fits
-pub mod Numbered
+pub mod Indexed

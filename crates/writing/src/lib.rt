@@ -21,7 +21,7 @@ ghost use Rattle.tally.specs.Tally.{Settled};
 ghost use Rattle.tally.specs.Codes.{Chosen};
 ghost use Rattle.writing.specs.Write.{registrationBytes, givenSlots, givenBytes, argumentsGivenSlots, argumentsGivenBytes, eventGivenSlots, eventGivenBytes, spelledOf, spelledThread, argumentBytes, argumentsBytes, extraBytesOf, eventBytes, contentBytes, contentSlots};
 ghost use Rattle.writing.specs.Fits.{GivenFits, ArgumentsGivenFit, ArgumentFits, ArgumentsFit, ThreadFits, EventGivenFits, EventFits, ContentFits};
-ghost use Rattle.writing.specs.Numbered.{Numbered};
+ghost use Rattle.writing.specs.Indexed.{SlotsIndexed};
 use arguments::Argued;
 use arguments::Argument;
 use arguments::Scalar;
@@ -457,7 +457,7 @@ pub fn write_all(f: Format, archive: &[u8], room: &mut [u32], out: &mut [u8])
     requires { ⌜ Chosen f (now archive) (drop (tableWords f) (now room)) ⌝ }
     ensures { λ _. ⌜ now (out .exit) ≡ written (now (out .entry)) 0 (ruleOf (itemsOf (runOf f (now (archive .entry))))) ⌝ }
     ensures { λ _. ⌜ take (tableWords f) (now (room .exit)) ≡ tablesOf f (now (archive .entry)) ⌝ }
-    ensures { λ _. ⌜ Numbered f (now (archive .entry)) (drop (tableWords f) (now (room .entry))) (drop (tableWords f) (now (room .exit))) ⌝ }
+    ensures { λ _. ⌜ SlotsIndexed f (now (archive .entry)) (drop (tableWords f) (now (room .entry))) (drop (tableWords f) (now (room .exit))) ⌝ }
     ensures { λ _. ⌜ (length (now (room .exit)) ≡ length (now (room .entry))) × (drop (4 * tableWords f) (now (room .exit)) ≡ drop (4 * tableWords f) (now (room .entry))) ⌝ }
 {
     let stretch = tables::table_words(f);

@@ -21,7 +21,8 @@ loop-holds : tie.Need-loop-holds Inv-loop μ-loop
 loop-holds c =
     let a = c .before .before .before .before .args in
     let p = c .before .before .before .before .pre in
-    rw (c .opening-state .ensures) (room-starts (a .f) (a .archive .now) (a .room .now) (p .0) (λ i. c .before .before .before .shared-slice-known .given i .fits) (p .2) (p .3) (p .4))
+    rw (c .opening-state .ensures) (room-starts (a .f) (a .archive .now) (a .room .now) (p .0)
+    (λ i. c .before .before .before .shared-slice-known .given i .fits) (p .2) (p .3) (p .4))
 
 record-at-requires : tie.Need-record-at-requires Inv-loop μ-loop
 record-at-requires c κs =
@@ -31,62 +32,131 @@ record-at-requires c κs =
 
 slice-relend-prefix-follow : tie.Need-slice-relend-prefix-follow Inv-loop μ-loop
 slice-relend-prefix-follow c =
+    let table-words = c .before .before .before .before .before .table-words in
     let a = c .before .before .before .before .before .before .before .before .args in
     let l = c .before .before .before .loop in
-    omega (arith, c .before .before .before .before .before .table-words .ensures, room-wide (a .f) (a .archive .now) (a .room .now) (l .room) (l .s) (l .found) (l .words) (l .inv))
+    omega (arith, table-words .ensures, room-wide (a .f) (a .archive .now) (a .room .now) (l .room) (l .s) (l .found) (l .words) (l .inv))
 
 slice-aggregate-follow : tie.Need-slice-aggregate-follow Inv-loop μ-loop
 slice-aggregate-follow c =
-    let a = c .before .before .before .before .before .before .before .before .before .args in
     let l = c .before .before .before .before .loop in
-    sym (length-take-le (c .before .before .before .before .before .before .table-words .result) (l .room) (omega (arith, c .before .before .before .before .before .before .table-words .ensures, room-wide (a .f) (a .archive .now) (a .room .now) (l .room) (l .s) (l .found) (l .words) (l .inv))))
+    let table-words = c .before .before .before .before .before .before .table-words in
+    let a = c .before .before .before .before .before .before .before .before .before .args in
+    sym (length-take-le (table-words .result) (l .room) (omega (
+      arith,
+      table-words .ensures,
+      room-wide (a .f) (a .archive .now) (a .room .now)
+          (l .room) (l .s) (l .found) (l .words) (l .inv),
+    )))
 
 follow-requires : tie.Need-follow-requires Inv-loop μ-loop
 follow-requires c κs =
-    let a = c .before .before .before .before .before .before .before .before .before .args in
     let l = c .before .before .before .before .loop in
+    let a = c .before .before .before .before .before .before .before .before .before .args in
+    let pre = c .before .before .before .before .before .before .before .before .before .pre in
     let q = room-state (a .f) (a .archive .now) (a .room .now) (l .room) (l .s) (l .found) (l .words) (l .inv) in
-    (c .before .before .before .before .before .before .before .before .before .pre .0, q .1, q .2, q .4, rw (c .before .record-at .ensures) (record-index (a .f) (a .archive .now) (l .s .place)))
+    (pre .0, q .1, q .2, q .4, rw (c .before .record-at .ensures) (record-index (a .f) (a .archive .now) (l .s .place)))
 
 same-length : tie.Need-same-length Inv-loop μ-loop
 same-length c =
-    let a = c .before .before .before .before .before .before .before .before .before .before .before .before .before .before .args in
+    let back = c .before .before .before .before .before .before .before .before .before .before in
+    let follow = c .before .before .before .before .follow in
+    let record-at = c .before .before .before .before .before .before .record-at in
+    let if1 = c .before .before .before .before .before .before .before .if1 in
     let l = c .before .before .before .before .before .before .before .before .before .loop in
-    followed-long (a .f) (a .archive .now) (a .room .now) (l .room) (l .s) (l .found) (l .words) (l .inv) (c .before .before .before .before .before .before .before .if1 .taken) (c .before .before .before .before .before .before .record-at .result) (c .before .before .before .before .before .before .record-at .ensures) (c .before .before .before .before .follow .result) (c .before .before .before .before .follow .ensures .0) (c .before .before .before .before .before .before .before .before .before .before .before .table-words .result) (c .before .before .before .before .before .before .before .before .before .before .before .table-words .ensures) (c .before .before .before .before .follow .last .1 .0) (c .before .before .before .before .follow .ensures .1)
+    let table-words = back .before .table-words in
+    let a = back .before .before .before .before .args in
+    followed-long (a .f) (a .archive .now) (a .room .now) (l .room) (l .s) (l .found) (l .words) (l .inv) (if1 .taken) (record-at .result)
+    (record-at .ensures) (follow .result) (follow .ensures .0) (table-words .result) (table-words .ensures) (follow .last .1 .0) (follow .ensures .1)
 
 returns : tie.Need-returns Inv-loop μ-loop
 returns c =
-    let a = c .before .before .before .before .before .before .before .before .before .before .before .before .before .before .args in
+    let back = c .before .before .before .before .before .before .before .before .before .before in
+    let follow = c .before .before .before .before .follow in
+    let record-at = c .before .before .before .before .before .before .record-at in
+    let if1 = c .before .before .before .before .before .before .before .if1 in
     let l = c .before .before .before .before .before .before .before .before .before .loop in
-    room-stops (a .f) (a .archive .now) (a .room .now) (l .room) (l .s) (l .found) (l .words) (l .inv) (c .before .before .before .before .before .before .before .if1 .taken) (c .before .before .before .before .before .before .record-at .result) (c .before .before .before .before .before .before .record-at .ensures) (c .before .before .before .before .follow .result) (c .before .before .before .before .follow .ensures .0) (c .before .before .before .before .before .before .before .before .before .before .before .table-words .result) (c .before .before .before .before .before .before .before .before .before .before .before .table-words .ensures) (c .before .before .before .before .follow .last .1 .0) (c .before .before .before .before .follow .ensures .1) (c .if2 .taken)
+    let table-words = back .before .table-words in
+    let a = back .before .before .before .before .args in
+    room-stops (a .f) (a .archive .now) (a .room .now) (l .room) (l .s) (l .found) (l .words) (l .inv) (if1 .taken) (record-at .result)
+    (record-at .ensures) (follow .result) (follow .ensures .0) (table-words .result) (table-words .ensures) (follow .last .1 .0) (follow .ensures .1)
+    (c .if2 .taken)
 
 judge-requires : tie.Need-judge-requires Inv-loop μ-loop
 judge-requires c κs =
-    let a = c .before .before .before .before .before .before .before .before .before .before .before .before .before .before .before .before .args in
-    let l = c .before .before .before .before .before .before .before .before .before .before .before .loop in
-    let p = c .before .before .before .before .before .before .before .before .before .before .before .before .before .before .before .before .pre in
+    let back = c .before .before .before .before .before .before .before .before .before .before in
+    let follow = c .before .before .before .before .before .before .follow in
+    let record-at = c .before .before .before .before .before .before .before .before .record-at in
+    let if1 = c .before .before .before .before .before .before .before .before .before .if1 in
+    let l = back .before .loop in
+    let table-words = back .before .before .before .table-words in
+    let a = back .before .before .before .before .before .before .args in
+    let p = back .before .before .before .before .before .before .pre in
     let q = room-state (a .f) (a .archive .now) (a .room .now) (l .room) (l .s) (l .found) (l .words) (l .inv) in
-    let long = followed-long (a .f) (a .archive .now) (a .room .now) (l .room) (l .s) (l .found) (l .words) (l .inv) (c .before .before .before .before .before .before .before .before .before .if1 .taken) (c .before .before .before .before .before .before .before .before .record-at .result) (c .before .before .before .before .before .before .before .before .record-at .ensures) (c .before .before .before .before .before .before .follow .result) (c .before .before .before .before .before .before .follow .ensures .0) (c .before .before .before .before .before .before .before .before .before .before .before .before .before .table-words .result) (c .before .before .before .before .before .before .before .before .before .before .before .before .before .table-words .ensures) (c .before .before .before .before .before .before .follow .last .1 .0) (c .before .before .before .before .before .before .follow .ensures .1) in
-    let e = record-ends (a .f) (a .archive .now) (a .room .now) (l .room) (l .s) (l .found) (l .words) (l .inv) (c .before .before .before .before .before .before .before .before .before .if1 .taken) (c .before .before .before .before .before .before .before .before .record-at .result) (c .before .before .before .before .before .before .before .before .record-at .ensures) (c .before .before .before .before .before .before .follow .result) (c .before .before .before .before .before .before .follow .ensures .0) (c .before .before .before .before .before .before .before .before .before .before .before .before .before .table-words .result) (c .before .before .before .before .before .before .before .before .before .before .before .before .before .table-words .ensures) (c .before .before .before .before .before .before .follow .last .1 .0) (c .before .before .before .before .before .before .follow .ensures .1) (c .before .before .if2 .left) in
-    (rw long (p .3), p .0, q .0, q .2, e .1, e .2, sym (c .before .before .before .before .before .before .before .before .record-at .ensures))
+    let long =
+    followed-long (a .f) (a .archive .now) (a .room .now) (l .room) (l .s) (l .found) (l .words) (l .inv) (if1 .taken) (record-at .result)
+    (record-at .ensures) (follow .result) (follow .ensures .0) (table-words .result) (table-words .ensures) (follow .last .1 .0)
+    (follow .ensures .1) in
+    let e =
+    record-ends (a .f) (a .archive .now) (a .room .now) (l .room) (l .s) (l .found) (l .words) (l .inv) (if1 .taken) (record-at .result)
+    (record-at .ensures) (follow .result) (follow .ensures .0) (table-words .result) (table-words .ensures) (follow .last .1 .0) (follow .ensures .1)
+    (c .before .before .if2 .left) in
+    (rw long (p .3), p .0, q .0, q .2, e .1, e .2, sym (record-at .ensures))
 
 add-words : tie.Need-add-words Inv-loop μ-loop
 add-words c =
-    let a = c .before .before .before .before .before .before .before .before .before .before .before .before .before .before .before .before .before .before .before .before .before .args in
-    let l = c .before .before .before .before .before .before .before .before .before .before .before .before .before .before .before .before .loop in
-    omega (arith, room-words (a .f) (a .archive .now) (a .room .now) (l .room) (l .s) (l .found) (l .words) (l .inv) (c .before .before .before .before .before .before .before .before .before .before .before .before .before .before .if1 .taken) (c .before .before .before .before .before .before .before .before .before .before .before .before .before .record-at .result) (c .before .before .before .before .before .before .before .before .before .before .before .before .before .record-at .ensures) (c .before .before .before .before .before .before .before .before .before .before .before .follow .result) (c .before .before .before .before .before .before .before .before .before .before .before .follow .ensures .0) (c .before .before .before .before .before .before .before .before .before .before .before .before .before .before .before .before .before .before .table-words .result) (c .before .before .before .before .before .before .before .before .before .before .before .before .before .before .before .before .before .before .table-words .ensures) (c .before .before .before .before .before .before .before .before .before .before .before .follow .last .1 .0) (c .before .before .before .before .before .before .before .before .before .before .before .follow .ensures .1) (c .before .before .before .before .before .before .before .if2 .left) (c .before .before .before .before .judge .result) (c .before .before .before .before .judge .ensures .0))
+    let back = c .before .before .before .before .before .before .before .before .before .before in
+    let judge = c .before .before .before .before .judge in
+    let if2′ = c .before .before .before .before .before .before .before .if2 in
+    let follow = back .before .follow in
+    let record-at = back .before .before .before .record-at in
+    let if1 = back .before .before .before .before .if1 in
+    let l = back .before .before .before .before .before .before .loop in
+    let table-words = back .before .before .before .before .before .before .before .before .table-words in
+    let a = back .before .before .before .before .before .before .before .before .before .before .before .args in
+    omega (
+      arith,
+      room-words (a .f) (a .archive .now) (a .room .now) (l .room) (l .s) (l .found) (l .words) (l .inv) (if1 .taken) (record-at .result)
+          (record-at .ensures) (follow .result) (follow .ensures .0) (table-words .result) (table-words .ensures) (follow .last .1 .0) (follow .ensures .1)
+          (if2′ .left) (judge .result) (judge .ensures .0),
+    )
 
 loop-less : tie.Need-loop-less Inv-loop μ-loop
 loop-less c =
-    let a = c .before .before .before .before .before .before .before .before .before .before .before .before .before .before .before .before .before .before .before .before .before .before .args in
-    let l = c .before .before .before .before .before .before .before .before .before .before .before .before .before .before .before .before .before .loop in
-    omega (arith, c .before .before .before .before .before .before .before .before .before .before .before .before .before .before .before .if1 .taken, record-ends (a .f) (a .archive .now) (a .room .now) (l .room) (l .s) (l .found) (l .words) (l .inv) (c .before .before .before .before .before .before .before .before .before .before .before .before .before .before .before .if1 .taken) (c .before .before .before .before .before .before .before .before .before .before .before .before .before .before .record-at .result) (c .before .before .before .before .before .before .before .before .before .before .before .before .before .before .record-at .ensures) (c .before .before .before .before .before .before .before .before .before .before .before .before .follow .result) (c .before .before .before .before .before .before .before .before .before .before .before .before .follow .ensures .0) (c .before .before .before .before .before .before .before .before .before .before .before .before .before .before .before .before .before .before .before .table-words .result) (c .before .before .before .before .before .before .before .before .before .before .before .before .before .before .before .before .before .before .before .table-words .ensures) (c .before .before .before .before .before .before .before .before .before .before .before .before .follow .last .1 .0) (c .before .before .before .before .before .before .before .before .before .before .before .before .follow .ensures .1) (c .before .before .before .before .before .before .before .before .if2 .left))
+    let back = c .before .before .before .before .before .before .before .before .before .before in
+    let further = back .before .before .before .before .before .before .before .before .before .before in
+    let if2′ = c .before .before .before .before .before .before .before .before .if2 in
+    let follow = back .before .before .follow in
+    let record-at = back .before .before .before .before .record-at in
+    let if1 = back .before .before .before .before .before .if1 in
+    let l = back .before .before .before .before .before .before .before .loop in
+    let table-words = back .before .before .before .before .before .before .before .before .before .table-words in
+    let a = further .before .before .args in
+    omega (
+      arith,
+      if1 .taken,
+      record-ends (a .f) (a .archive .now) (a .room .now) (l .room) (l .s) (l .found) (l .words) (l .inv) (if1 .taken)
+          (record-at .result) (record-at .ensures) (follow .result) (follow .ensures .0) (table-words .result) (table-words .ensures) (follow .last .1 .0)
+          (follow .ensures .1) (if2′ .left),
+    )
 
 loop-again : tie.Need-loop-again Inv-loop μ-loop
 loop-again c =
-    let a = c .before .before .before .before .before .before .before .before .before .before .before .before .before .before .before .before .before .before .before .before .before .before .args in
-    let l = c .before .before .before .before .before .before .before .before .before .before .before .before .before .before .before .before .before .loop in
-    room-turns (a .f) (a .archive .now) (a .room .now) (l .room) (l .s) (l .found) (l .words) (l .inv) (c .before .before .before .before .before .before .before .before .before .before .before .before .before .before .before .if1 .taken) (c .before .before .before .before .before .before .before .before .before .before .before .before .before .before .record-at .result) (c .before .before .before .before .before .before .before .before .before .before .before .before .before .before .record-at .ensures) (c .before .before .before .before .before .before .before .before .before .before .before .before .follow .result) (c .before .before .before .before .before .before .before .before .before .before .before .before .follow .ensures .0) (c .before .before .before .before .before .before .before .before .before .before .before .before .before .before .before .before .before .before .before .table-words .result) (c .before .before .before .before .before .before .before .before .before .before .before .before .before .before .before .before .before .before .before .table-words .ensures) (c .before .before .before .before .before .before .before .before .before .before .before .before .follow .last .1 .0) (c .before .before .before .before .before .before .before .before .before .before .before .before .follow .ensures .1) (c .before .before .before .before .before .before .before .before .if2 .left) (c .before .before .before .before .before .judge .result) (c .before .before .before .before .before .judge .ensures .0) (c .before .before .before .before .before .judge .last .1 .1 .0) (c .before .before .graver .result) (c .before .before .before .before .room2 .given) (c .before .before .before .before .before .judge .ensures .1) (c .before .before .graver .ensures)
+    let back = c .before .before .before .before .before .before .before .before .before .before in
+    let further = back .before .before .before .before .before .before .before .before .before .before in
+    let graver = c .before .before .graver in
+    let room2 = c .before .before .before .before .room2 in
+    let judge = c .before .before .before .before .before .judge in
+    let if2′ = c .before .before .before .before .before .before .before .before .if2 in
+    let follow = back .before .before .follow in
+    let record-at = back .before .before .before .before .record-at in
+    let if1 = back .before .before .before .before .before .if1 in
+    let l = back .before .before .before .before .before .before .before .loop in
+    let table-words = back .before .before .before .before .before .before .before .before .before .table-words in
+    let a = further .before .before .args in
+    room-turns (a .f) (a .archive .now) (a .room .now) (l .room) (l .s) (l .found) (l .words) (l .inv) (if1 .taken) (record-at .result)
+    (record-at .ensures) (follow .result) (follow .ensures .0) (table-words .result) (table-words .ensures) (follow .last .1 .0) (follow .ensures .1)
+    (if2′ .left) (judge .result) (judge .ensures .0) (judge .last .1 .1 .0) (graver .result) (room2 .given) (judge .ensures .1) (graver .ensures)
 
 same-length-2 : tie.Need-same-length-2 Inv-loop μ-loop
 same-length-2 c = c .before .before .before .loop .inv .long
@@ -95,7 +165,8 @@ returns-2 : tie.Need-returns-2 Inv-loop μ-loop
 returns-2 c =
     let a = c .before .before .before .before .before .before .before .before .args in
     let l = c .before .before .before .loop in
-    rw (c .conclude .ensures) (room-ends (a .f) (a .archive .now) (a .room .now) (l .room) (l .s) (l .found) (l .words) (l .inv) (c .before .if1 .left))
+    rw (c .conclude .ensures) (room-ends (a .f) (a .archive .now) (a .room .now) (l .room) (l .s) (l .found) (l .words) (l .inv)
+    (c .before .if1 .left))
 
 pub count-all-spec : {M : Type 1} → statement M
 count-all-spec =

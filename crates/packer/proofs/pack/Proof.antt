@@ -22,9 +22,10 @@ count-all-requires c κs =
 
 measure-requires : tie.Need-measure-requires
 measure-requires c κs =
+    let back = c .before .before .before .before .before .before .before .before .before .before in
     let the-count2 = c .before .before .before .count2 in
     let the-count-all = c .before .before .before .before .before .before .before .count-all in
-    let a = c .before .before .before .before .before .before .before .before .before .before .before .before .before .args in
+    let a = back .before .before .before .args in
     let the-table-words = c .before .before .before .before .before .before .before .before .before .table-words in
     let n = rw (the-count2 .given .1) at (the-count-all .ensures .0) in
     let tallies = left-tally (a .f) (a .archive .now) _ (n .0) (the-count-all .ensures .1 .1 .0) in
@@ -32,44 +33,53 @@ measure-requires c κs =
 
 add-write : tie.Need-add-write
 add-write c =
+    let back = c .before .before .before .before .before .before .before .before .before .before in
     let the-count2 = c .before .before .before .before .before .before .count2 in
-    let the-count-all = c .before .before .before .before .before .before .before .before .before .before .count-all in
-    let a = c .before .before .before .before .before .before .before .before .before .before .before .before .before .before .before .before .args in
+    let the-count-all = back .count-all in
+    let a = back .before .before .before .before .before .before .args in
     let the-measure = c .before .before .measure in
-    let the-table-words = c .before .before .before .before .before .before .before .before .before .before .before .before .table-words in
-    let asked = c .before .before .before .before .before .before .before .before .before .before .before .before .before .before .before .before .pre in
-    let known = c .before .before .before .before .before .before .before .before .before .before .before .before .before .before .before .shared-slice-known in
+    let the-table-words = back .before .before .table-words in
+    let asked = back .before .before .before .before .before .before .pre in
+    let known = back .before .before .before .before .before .shared-slice-known in
     let n = rw (the-count2 .given .1) at (the-count-all .ensures .0) in
     let tallies = left-tally (a .f) (a .archive .now) _ (n .0) (the-count-all .ensures .1 .1 .0) in
-    let m = lent-measured (a .f) (a .archive .now) (the-count-all .last .1 .1 .0) (the-count2 .given .0 .0) (the-measure .result) (the-table-words .result) (asked .0) (λ i. omega (arith, known .given i)) (asked .1) (n .0) tallies (n .1) (the-table-words .ensures) (the-measure .ensures .0) in
+    let m =
+    lent-measured (a .f) (a .archive .now) (the-count-all .last .1 .1 .0) (the-count2 .given .0 .0) (the-measure .result) (the-table-words .result)
+    (asked .0) (λ i. omega (arith, known .given i)) (asked .1) (n .0) tallies (n .1) (the-table-words .ensures) (the-measure .ensures .0) in
     omega (arith, m .1)
 
 mul-write : tie.Need-mul-write
 mul-write c =
+    let back = c .before .before .before .before .before .before .before .before .before .before in
     let the-count2 = c .before .before .before .before .before .before .count2 in
-    let the-count-all = c .before .before .before .before .before .before .before .before .before .before .count-all in
-    let a = c .before .before .before .before .before .before .before .before .before .before .before .before .before .before .before .before .args in
+    let the-count-all = back .count-all in
+    let a = back .before .before .before .before .before .before .args in
     let the-measure = c .before .before .measure in
-    let the-table-words = c .before .before .before .before .before .before .before .before .before .before .before .before .table-words in
-    let asked = c .before .before .before .before .before .before .before .before .before .before .before .before .before .before .before .before .pre in
-    let known = c .before .before .before .before .before .before .before .before .before .before .before .before .before .before .before .shared-slice-known in
+    let the-table-words = back .before .before .table-words in
+    let asked = back .before .before .before .before .before .before .pre in
+    let known = back .before .before .before .before .before .shared-slice-known in
     let n = rw (the-count2 .given .1) at (the-count-all .ensures .0) in
     let tallies = left-tally (a .f) (a .archive .now) _ (n .0) (the-count-all .ensures .1 .1 .0) in
-    let m = lent-measured (a .f) (a .archive .now) (the-count-all .last .1 .1 .0) (the-count2 .given .0 .0) (the-measure .result) (the-table-words .result) (asked .0) (λ i. omega (arith, known .given i)) (asked .1) (n .0) tallies (n .1) (the-table-words .ensures) (the-measure .ensures .0) in
+    let m =
+    lent-measured (a .f) (a .archive .now) (the-count-all .last .1 .1 .0) (the-count2 .given .0 .0) (the-measure .result) (the-table-words .result)
+    (asked .0) (λ i. omega (arith, known .given i)) (asked .1) (n .0) tallies (n .1) (the-table-words .ensures) (the-measure .ensures .0) in
     omega (arith, m .1)
 
 write-requires : tie.Need-write-requires
 write-requires c κs =
+    let back = c .before .before .before .before .before .before .before .before .before .before in
     let the-count2 = c .before .before .before .before .before .before .count2 in
-    let the-count-all = c .before .before .before .before .before .before .before .before .before .before .count-all in
-    let a = c .before .before .before .before .before .before .before .before .before .before .before .before .before .before .before .before .args in
+    let the-count-all = back .count-all in
+    let a = back .before .before .before .before .before .before .args in
     let the-measure = c .before .before .measure in
-    let the-table-words = c .before .before .before .before .before .before .before .before .before .before .before .before .table-words in
-    let asked = c .before .before .before .before .before .before .before .before .before .before .before .before .before .before .before .before .pre in
-    let known = c .before .before .before .before .before .before .before .before .before .before .before .before .before .before .before .shared-slice-known in
+    let the-table-words = back .before .before .table-words in
+    let asked = back .before .before .before .before .before .before .pre in
+    let known = back .before .before .before .before .before .shared-slice-known in
     let n = rw (the-count2 .given .1) at (the-count-all .ensures .0) in
     let tallies = left-tally (a .f) (a .archive .now) _ (n .0) (the-count-all .ensures .1 .1 .0) in
-    let m = lent-measured (a .f) (a .archive .now) (the-count-all .last .1 .1 .0) (the-count2 .given .0 .0) (the-measure .result) (the-table-words .result) (asked .0) (λ i. omega (arith, known .given i)) (asked .1) (n .0) tallies (n .1) (the-table-words .ensures) (the-measure .ensures .0) in
+    let m =
+    lent-measured (a .f) (a .archive .now) (the-count-all .last .1 .1 .0) (the-count2 .given .0 .0) (the-measure .result) (the-table-words .result)
+    (asked .0) (λ i. omega (arith, known .given i)) (asked .1) (n .0) tallies (n .1) (the-table-words .ensures) (the-measure .ensures .0) in
     ((asked .0, asked .1, n .0, m .0), (omega (arith, asked .2, the-count-all .ensures .1 .1 .1 .0), tallies))
 
 returns : tie.Need-returns
@@ -81,18 +91,23 @@ returns c =
 
 returns-2 : tie.Need-returns-2
 returns-2 c =
-    let the-count2 = c .before .before .before .before .before .before .before .before .before .before .before .count2 in
-    let the-count-all = c .before .before .before .before .before .before .before .before .before .before .before .before .before .before .before .count-all in
-    let a = c .before .before .before .before .before .before .before .before .before .before .before .before .before .before .before .before .before .before .before .before .before .args in
+    let back = c .before .before .before .before .before .before .before .before .before .before in
+    let the-count2 = back .before .count2 in
+    let the-count-all = back .before .before .before .before .before .count-all in
+    let a = back .before .before .before .before .before .before .before .before .before .before .before .args in
     let the-measure = c .before .before .before .before .before .before .before .measure in
-    let the-table-words = c .before .before .before .before .before .before .before .before .before .before .before .before .before .before .before .before .before .table-words in
-    let asked = c .before .before .before .before .before .before .before .before .before .before .before .before .before .before .before .before .before .before .before .before .before .pre in
-    let known = c .before .before .before .before .before .before .before .before .before .before .before .before .before .before .before .before .before .before .before .before .shared-slice-known in
+    let the-table-words = back .before .before .before .before .before .before .before .table-words in
+    let asked = back .before .before .before .before .before .before .before .before .before .before .before .pre in
+    let known = back .before .before .before .before .before .before .before .before .before .before .shared-slice-known in
     let the-write = c .before .before .before .before .write in
     let n = rw (the-count2 .given .1) at (the-count-all .ensures .0) in
     let tallies = left-tally (a .f) (a .archive .now) _ (n .0) (the-count-all .ensures .1 .1 .0) in
-    let m = lent-measured (a .f) (a .archive .now) (the-count-all .last .1 .1 .0) (the-count2 .given .0 .0) (the-measure .result) (the-table-words .result) (asked .0) (λ i. omega (arith, known .given i)) (asked .1) (n .0) tallies (n .1) (the-table-words .ensures) (the-measure .ensures .0) in
-    rw (n .0, ← (m .0)) (the-write .ensures .0, (the-write .ensures .1 .0, (the-write .ensures .1 .1 .0 ∙ the-count-all .ensures .1 .1 .1 .0, the-write .ensures .1 .1 .1 ∙ the-count-all .ensures .1 .1 .1 .1)))
+    let m =
+    lent-measured (a .f) (a .archive .now) (the-count-all .last .1 .1 .0) (the-count2 .given .0 .0) (the-measure .result) (the-table-words .result)
+    (asked .0) (λ i. omega (arith, known .given i)) (asked .1) (n .0) tallies (n .1) (the-table-words .ensures) (the-measure .ensures .0) in
+    let written = the-write .ensures .1 in
+    let counted = the-count-all .ensures .1 .1 .1 in
+    rw (n .0, ← (m .0)) (the-write .ensures .0, (written .0, (written .1 .0 ∙ counted .0, written .1 .1 ∙ counted .1)))
 
 pub pack-spec : {M : Type 1} → statement M
 pack-spec =

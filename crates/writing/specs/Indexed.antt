@@ -34,12 +34,12 @@ keysOf f archive = codes (lastOf f archive) (usesAll (itemsOf (runOf f archive))
 abbrev pub registeredOf : Format → List ℕ → List Entry
 registeredOf f archive = let uses = usesAll (itemsOf (runOf f archive)) in tableAfter (chosenIn uses) [] uses
 
--- the words of the tally before and after the pass: places and labels stay; each key that was used has its index where the rule registers it, and each
--- counter the number of its mark's registrations; a slot that is no such key's keeps its third word
-pub record Numbered (f : Format) (archive before after : List ℕ) : Type 0 where
+-- the words of the tally before and after the pass: places and labels stay; each key that was used has its index where the rule registers it, and
+-- each counter the number of its mark's registrations; a slot that is no such key's keeps its third word
+pub record SlotsIndexed (f : Format) (archive before after : List ℕ) : Type 0 where
   pub keys : take (2 * tableWords f) after ≡ take (2 * tableWords f) before
-  pub indexes : Indexes archive (tableWords f) after (keysOf f archive) (chosenKey (keysOf f archive)) (indexCode (lastOf f archive) (registeredOf f archive))
-      (givenCode (lastOf f archive) (registeredOf f archive))
+  pub indexes : Indexes archive (tableWords f) after (keysOf f archive) (chosenKey (keysOf f archive))
+      (indexCode (lastOf f archive) (registeredOf f archive)) (givenCode (lastOf f archive) (registeredOf f archive))
   pub others : (s : ℕ) → s < tableWords f - 18
       → ((key : List ℕ) (used : 0 < count sameBytes key (keysOf f archive)) → indexes .found key used .0 ≡ s → ⊥)
       → usesAt (tableWords f) after s ≡ usesAt (tableWords f) before s
