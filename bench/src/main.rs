@@ -11,7 +11,9 @@ mod repack;
 mod replies;
 
 use make::{Long, Random};
+use ours::Ours;
 use plain::{State, TABLE_WORDS};
+use replies::{replies, Plain, Reader, REPLY, STATE};
 use std::hint::black_box;
 
 // What both readers answer for a whole archive, with tables of so many words that are filled at random; how many replies.
@@ -19,31 +21,22 @@ fn compare(archive: &[u8], room: usize, seed: u64) -> Result<u64, String> {
     let mut random = Random(seed | 1);
     let mut our_tables: Vec<u32> = (0..room).map(|_| random.next() as u32).collect();
     let mut plain_tables = our_tables.clone();
-    let expected = replies::replies(archive, &mut plain_tables);
-    let mut got = vec![0; expected.len() + 3 * replies::BLOCK];
-    let n = ours::replies(archive, &mut our_tables, &mut got);
-    got.truncate(n);
+    let got = replies::<Ours>(archive, &mut our_tables);
+    let expected = replies::<Plain>(archive, &mut plain_tables);
     if got != expected {
         let at = got.iter().zip(&expected).position(|(a, b)| a != b).unwrap_or(got.len().min(expected.len()));
-        let start = at / replies::BLOCK * replies::BLOCK;
-        let end = |v: &Vec<u64>| (start + replies::BLOCK).min(v.len());
-        return Err(format!(
-            "block {}: ours {:?}, plain {:?}",
-            start / replies::BLOCK,
-            &got[start.min(n)..end(&got)],
-            &expected[start.min(expected.len())..end(&expected)]
-        ));
+        return Err(format!("reply {at}: ours {:?}, plain {:?}", got.get(at), expected.get(at)));
     }
     if our_tables != plain_tables {
         return Err("the tables differ".into());
     }
-    if ours::read(archive, &mut our_tables) != digest::read(archive, &mut plain_tables) {
+    if digest::read::<Ours>(archive, &mut our_tables) != digest::read::<Plain>(archive, &mut plain_tables) {
         return Err("the digests differ".into());
     }
-    if ours::steps(archive, &mut our_tables) != digest::steps(archive, &mut plain_tables) {
+    if digest::steps::<Ours>(archive, &mut our_tables) != digest::steps::<Plain>(archive, &mut plain_tables) {
         return Err("the digests of the steps differ".into());
     }
-    Ok((n / replies::BLOCK) as u64)
+    Ok(got.len() as u64)
 }
 
 // The number of the last reply of a step: which refusals the cases reach.
@@ -60,26 +53,46 @@ fn outcome(archive: &[u8]) -> u8 {
     }
 }
 
-// A step and questions from one state with any tables.
-fn compare_at(archive: &[u8], tables: &[u32], state: State, event: usize, number: usize) -> Result<(), String> {
-    let given = replies::state_numbers(&state);
-    let mut got = [0; 2 * replies::BLOCK];
-    let mut expected = vec![];
-    replies::put_asked(&mut expected, plain::argument(archive, &state, tables, event, number));
-    let n = ours::argument(archive, tables, &given, event, number, &mut got);
-    if got[..n] != expected[..] {
-        return Err(format!("argument {number} at {event} in {state:?}: ours {:?}, plain {expected:?}", &got[..n]));
+// One call of each kind from numbers that stand for a state: what the lent words hold afterwards, those behind the reply too.
+#[derive(Debug, PartialEq)]
+struct Calls {
+    asked: (u64, Vec<u64>),
+    stepped: (u64, Vec<u64>),
+    opened: (u64, Vec<u64>),
+    step_tables: Vec<u32>,
+    open_tables: Vec<u32>,
+}
+
+fn calls<R: Reader>(archive: &[u8], tables: &[u32], numbers: &[u64], event: usize, number: usize, space: usize) -> Calls {
+    let lent: Vec<u64> = (0..space as u64).map(|i| 1000 + i).collect();
+    let (mut step_tables, mut open_tables) = (tables.to_vec(), tables.to_vec());
+    let put = |call: &mut dyn FnMut(&mut [u64]) -> u64| {
+        let mut out = lent.clone();
+        (call(&mut out), out)
+    };
+    Calls {
+        asked: put(&mut |out| R::argument(archive, tables, numbers, event, number, out)),
+        stepped: put(&mut |out| R::step(archive, &mut step_tables, numbers, out)),
+        opened: put(&mut |out| R::open(archive, &mut open_tables, out)),
+        step_tables,
+        open_tables,
     }
-    let (mut our_tables, mut plain_tables) = (tables.to_vec(), tables.to_vec());
-    let mut next = state;
-    expected.clear();
-    let reply = plain::step(archive, &mut next, &mut plain_tables);
-    replies::put_reply(&mut expected, reply, &next);
-    let n = ours::step(archive, &mut our_tables, &given, &mut got);
-    if got[..n] != expected[..] {
-        return Err(format!("a step in {state:?}: ours {:?}, plain {expected:?}", &got[..n]));
+}
+
+// A step, a question and an opening with any numbers, any tables and any words lent for the replies.
+fn compare_at(archive: &[u8], tables: &[u32], numbers: &[u64], event: usize, number: usize, space: usize) -> Result<(), String> {
+    let ours = calls::<Ours>(archive, tables, numbers, event, number, space);
+    let plain = calls::<Plain>(archive, tables, numbers, event, number, space);
+    if ours.asked != plain.asked {
+        return Err(format!("argument {number} at {event} in {numbers:?}: ours {:?}, plain {:?}", ours.asked, plain.asked));
     }
-    if our_tables != plain_tables {
+    if ours.stepped != plain.stepped {
+        return Err(format!("a step in {numbers:?}: ours {:?}, plain {:?}", ours.stepped, plain.stepped));
+    }
+    if ours.opened != plain.opened {
+        return Err(format!("an opening: ours {:?}, plain {:?}", ours.opened, plain.opened));
+    }
+    if ours != plain {
         return Err("the tables differ".into());
     }
     Ok(())
@@ -134,7 +147,15 @@ fn compare_states(random: &mut Random, archive: &[u8]) -> Result<u64, String> {
         if random.chance(1) {
             (state.place, event) = (usize::MAX - random.below(40), usize::MAX - random.below(40));
         }
-        compare_at(archive, &some, state, event, random.below(8))?;
+        let mut numbers = replies::state_numbers(&state).to_vec();
+        if random.chance(10) {
+            numbers[2 + random.below(8)] |= random.next() << 32;
+        }
+        if random.chance(5) {
+            numbers.resize(random.below(STATE + 3), 7);
+        }
+        let space = if random.chance(10) { random.below(REPLY + 5) } else { REPLY };
+        compare_at(archive, &some, &numbers, event, random.below(8), space)?;
     }
     Ok(turns)
 }
@@ -150,7 +171,8 @@ fn compare_planted(random: &mut Random) -> Result<u64, (Vec<u8>, String)> {
     let after = State { place: planted.end, ..State::default() };
     for number in 0..7 {
         for state in [state, after] {
-            compare_at(&planted.archive, &tables, state, planted.event, number).map_err(|what| (planted.archive.clone(), what))?;
+            let numbers = replies::state_numbers(&state);
+            compare_at(&planted.archive, &tables, &numbers, planted.event, number, REPLY).map_err(|what| (planted.archive.clone(), what))?;
         }
     }
     Ok(14)
@@ -165,7 +187,7 @@ pub fn save(archive: &[u8], what: &str) -> ! {
 
 fn test(many: usize) {
     let mut random = Random(0x5eed);
-    let (mut blocks, mut calls, mut outcomes) = (0, 0, [0; 10]);
+    let (mut answers, mut calls, mut outcomes) = (0, 0, [0; 10]);
     for i in 0..many {
         let records = make::records(&mut random);
         let archive = match i % 4 {
@@ -178,7 +200,7 @@ fn test(many: usize) {
             _ => TABLE_WORDS,
         };
         match compare(&archive, room, random.next()) {
-            Ok(n) => blocks += n,
+            Ok(n) => answers += n,
             Err(what) => save(&archive, &what),
         }
         match compare_states(&mut random, &archive) {
@@ -191,7 +213,7 @@ fn test(many: usize) {
         }
         outcomes[outcome(&archive) as usize] += 1;
     }
-    println!("{many} archives, whole, cut and damaged: {blocks} replies and {calls} calls with any state and tables, no difference");
+    println!("{many} archives, whole, cut and damaged: {answers} replies and {calls} calls with any state and tables, no difference");
     println!("they ended by number (0 to 9): {outcomes:?}");
     // every cut of one archive
     let archive = make::bytes_of(&make::records(&mut Random(77)).concat());
@@ -206,7 +228,7 @@ fn test(many: usize) {
         let mut long = make::long(n, 5, Long::new(50, 3));
         long.truncate(n);
         long.resize(n, 0);
-        if ours::read(&long, &mut [0; TABLE_WORDS]) != digest::read(&long, &mut [0; TABLE_WORDS]) {
+        if digest::read::<Ours>(&long, &mut [0; TABLE_WORDS]) != digest::read::<Plain>(&long, &mut [0; TABLE_WORDS]) {
             save(&long, "the digests differ");
         }
     }
@@ -226,13 +248,13 @@ fn corpus(path: &str) {
     let bytes = std::fs::read(path).unwrap();
     let expected = std::fs::read(path.replace(".bin", ".expected")).unwrap_or_default();
     let mut rest = &expected[..];
-    let (mut at, mut case, mut blocks, mut calls) = (0, 0, 0, 0);
+    let (mut at, mut case, mut answers, mut calls) = (0, 0, 0, 0);
     while at < bytes.len() {
         let n = word32(&bytes, at);
         let archive = &bytes[at + 4..at + 4 + n];
         at += 4 + n;
         match compare(archive, TABLE_WORDS, case) {
-            Ok(n) => blocks += n,
+            Ok(n) => answers += n,
             Err(what) => save(archive, &format!("case {case}: {what}")),
         }
         match packing::compare_all(&mut Random(case | 1), archive) {
@@ -249,7 +271,7 @@ fn corpus(path: &str) {
         case += 1;
     }
     let listed = if expected.is_empty() { "" } else { ", and the plain listings and repackings are the expected ones" };
-    println!("{case} cases of the corpus, {blocks} replies and {calls} repackings: no difference{listed}");
+    println!("{case} cases of the corpus, {answers} replies and {calls} repackings: no difference{listed}");
 }
 
 // The calls of probes.bin, likewise.
@@ -276,7 +298,7 @@ fn probes(path: &str) {
             current: word64(header, 64) as usize,
         };
         let (event, number) = (word64(header, 72) as usize, word64(header, 80) as usize);
-        if let Err(what) = compare_at(archive, &tables, state, event, number) {
+        if let Err(what) = compare_at(archive, &tables, &replies::state_numbers(&state), event, number, REPLY + 1) {
             save(archive, &format!("probe {probe}: {what}"));
         }
         lines.extend(format!("probe {probe}\n").into_bytes());
@@ -363,8 +385,8 @@ fn time(mib: usize) {
         }
         let mut other = tables.clone();
         for (what, a, b) in [
-            ("", best(RUNS, || ours::read(archive, &mut tables), || digest::read(archive, &mut other))),
-            ("  steps alone", best(RUNS, || ours::steps(archive, &mut tables), || digest::steps(archive, &mut other))),
+            ("", best(RUNS, || digest::read::<Ours>(archive, &mut tables), || digest::read::<Plain>(archive, &mut other))),
+            ("  steps alone", best(RUNS, || digest::steps::<Ours>(archive, &mut tables), || digest::steps::<Plain>(archive, &mut other))),
         ]
         .map(|(what, (a, b))| (what, a, b))
         {

@@ -1,0 +1,133 @@
+-- Blocks of numbers: how long they are, numbers put one behind the other, and lent words that are too few or enough.
+-- Assumes nothing.
+use Prim.Native.Nat.{ℕ, suc, _+_, _-_, _<_, _≤_}
+use mathlib.Core.Path.{_≡_, refl, ap, _∙_}
+use mathlib.Core.List.{List, [], _∷_, _++_, append-assoc}
+use native.Mathlib.Omega.{arith}
+use lib.ListN.{length, getD, take, replicate, length-append, length-replicate}
+use lib.Seq.{getD-take}
+use borrow.Author.Tests.{lt-ltb, le-ltb}
+use Rattle.words.specs.Stream.{written}
+use Rattle.words.proofs.Streams.{written-written}
+use Rattle.contexts.specs.declared.State.{State}
+use Rattle.contexts.specs.declared.Provider.{Provider}
+use Rattle.contexts.specs.declared.Provider.the-variants.{None, Id}
+use Rattle.reader.specs.declared.ShownText.{ShownText}
+use Rattle.reader.specs.declared.ShownText.the-variants.{At, Unresolved}
+use Rattle.reader.specs.declared.ShownThread.{ShownThread}
+use Rattle.reader.specs.declared.ShownThread.the-variants.{Words, Unresolved as ThreadUnresolved}
+use Rattle.reader.specs.declared.ShownValue.{ShownValue}
+use Rattle.reader.specs.declared.ShownValue.the-variants.{Scalar as ScalarShown, Text as TextShown}
+use Rattle.reader.specs.declared.Asked.{Asked}
+use Rattle.reader.specs.declared.Asked.the-variants.{Refused, Argument as ArgumentShown}
+use Rattle.reader.specs.declared.Answer.{Answer}
+use Rattle.reader.specs.declared.Answer.the-variants.{End, Nothing, Magic, ProviderInfo, Section, ProviderEvent, Initialization, Event, Skipped}
+use Rattle.reader.specs.Numbers.{textValues, threadValues, providerValues, valueValues, eventValues, answerValues, askedValues}
+use Rattle.packer.specs.declared.Packed.{Packed}
+use Rattle.packer.specs.declared.Packed.the-variants.{Refused as PackRefused, Written}
+use Rattle.exports.specs.Block.{block, answerNumbers, askedNumbers, packedNumbers, stateNumbers, givenState, putNumbers}
+
+-- a block is as long as it is said to be, where its values fit
+length-block : (n : ℕ) (values : List ℕ) → length values ≤ n → length (block n values) ≡ n
+length-block n values h = rw (length-append values, length-replicate) (omega arith)
+
+-- a text and a thread have three numbers each, a provider two, a value four
+length-text : (t : ShownText) → length (textValues t) ≡ 3
+length-text (At place long) = refl
+length-text (Unresolved index) = refl
+
+length-thread : (t : ShownThread) → length (threadValues t) ≡ 3
+length-thread (Words process thread) = refl
+length-thread (ThreadUnresolved index) = refl
+
+length-provider : (p : Provider) → length (providerValues p) ≡ 2
+length-provider None = refl
+length-provider (Id id) = refl
+
+pub length-value : (v : ShownValue) → length (valueValues v) ≡ 4
+length-value (ScalarShown s) = refl
+length-value (TextShown t) = ap suc (length-text t)
+
+-- an answer has at most eighteen values, those of an event
+answer-values : (a : Answer) → length (answerValues a) ≤ 18
+answer-values (End number place) = omega arith
+answer-values Nothing = omega arith
+answer-values Magic = omega arith
+answer-values (ProviderInfo id place long) = omega arith
+answer-values (Section id) = omega arith
+answer-values (ProviderEvent id event) = omega arith
+answer-values (Initialization rate) = omega arith
+answer-values (Event e) =
+    simp (length-append, length-provider, length-thread, length-text) (omega arith)
+answer-values (Skipped type size) = omega arith
+
+-- what is answered for an argument has at most eight
+asked-values : (a : Asked) → length (askedValues a) ≤ 8
+asked-values (Refused number place) = omega arith
+asked-values (ArgumentShown a) = simp (length-append, length-text, length-value) (omega arith)
+
+-- the block of an answer, of an argument and of a repack has the length that it is said to have
+pub length-answer : (a : Answer) → length (answerNumbers a) ≡ 20
+unfolding answerNumbers
+length-answer a = length-block 20 (answerValues a) (omega (arith, answer-values a))
+
+pub length-asked : (a : Asked) → length (askedNumbers a) ≡ 20
+unfolding askedNumbers
+length-asked a = length-block 20 (askedValues a) (omega (arith, asked-values a))
+
+pub length-packed : (p : Packed) → length (packedNumbers p) ≡ 4
+unfolding packedNumbers
+length-packed (PackRefused number place) = refl
+length-packed (Written long) = refl
+
+-- a reply has thirty-two numbers
+pub length-reply : (a : Answer) (s : State) → length (answerNumbers a ++ stateNumbers s) ≡ 32
+unfolding stateNumbers
+length-reply a s = rw (length-append (answerNumbers a), length-answer a)
+
+-- numbers put right behind others are one writing with them
+pub onward : (out : List ℕ) {before after : List ℕ} (place at : ℕ) (a b : List ℕ) → place ≤ length out → at ≡ place + length a
+    → before ≡ written out place a → after ≡ written before at b → after ≡ written out place (a ++ b)
+onward out {before} place at a b h e p q =
+    q ∙ ap (λ (n : ℕ). written before n b) e ∙ ap (λ (o : List ℕ). written o (place + length a) b) p ∙ written-written out place a b h
+
+-- five times four numbers, put one behind the other, are one writing
+pub twenty : (out : List ℕ) {o1 o2 o3 o4 o5 : List ℕ} (a b c d e : List ℕ) → length a ≡ 4 → length b ≡ 4 → length c ≡ 4 → length d ≡ 4
+    → o1 ≡ written out 0 a → o2 ≡ written o1 4 b → o3 ≡ written o2 8 c → o4 ≡ written o3 12 d → o5 ≡ written o4 16 e
+    → o5 ≡ written out 0 (a ++ (b ++ (c ++ (d ++ e))))
+twenty out a b c d e la lb lc ld p1 p2 p3 p4 p5 =
+    let p12 = onward out 0 4 a b (omega arith) (omega arith) p1 p2 in
+    let p13 = onward out 0 8 (a ++ b) c (omega arith) (omega (arith, length-append a b)) p12 p3 in
+    let p14 = onward out 0 12 ((a ++ b) ++ c) d (omega arith) (omega (arith, length-append a b, length-append (a ++ b) c)) p13 p4 in
+    let ends : length (((a ++ b) ++ c) ++ d) ≡ 16 =
+    omega (arith, length-append a b, length-append (a ++ b) c, length-append ((a ++ b) ++ c) d) in
+    let p15 = onward out 0 16 (((a ++ b) ++ c) ++ d) e (omega arith) (omega arith) p14 p5 in
+    p15 ∙ ap (written out 0) (append-assoc ((a ++ b) ++ c) d e ∙ append-assoc (a ++ b) c (d ++ e) ∙ append-assoc a b (c ++ (d ++ e)))
+
+-- lent words that are too few stay as they were
+pub put-none : (out numbers : List ℕ) (n : ℕ) → length numbers ≡ n → length out < n → out ≡ putNumbers out numbers
+put-none out numbers n long h = rw (long, lt-ltb _ _ h)
+
+-- lent words that are enough hold the numbers at their start
+pub put-all : (out numbers : List ℕ) (n : ℕ) → length numbers ≡ n → n ≤ length out → written out 0 numbers ≡ putNumbers out numbers
+put-all out numbers n long h = let l : length numbers ≤ length out = omega arith in rw (le-ltb _ _ l)
+
+-- numbers behind the twelve say nothing
+pub first-twelve : (numbers : List ℕ) → givenState (take 12 numbers) ≡ givenState numbers
+unfolding givenState
+first-twelve numbers =
+    let first : (i : ℕ) → i < 12 → getD (take 12 numbers) i 0 ≡ getD numbers i 0 = λ i h. getD-take 12 numbers i 0 h in
+    rw (
+      first 0 (omega arith),
+      first 1 (omega arith),
+      first 2 (omega arith),
+      first 3 (omega arith),
+      first 4 (omega arith),
+      first 5 (omega arith),
+      first 6 (omega arith),
+      first 7 (omega arith),
+      first 8 (omega arith),
+      first 9 (omega arith),
+      first 10 (omega arith),
+      first 11 (omega arith),
+    )

@@ -1,0 +1,37 @@
+-- `put_reply` meets its contract: a state's numbers right behind an answer's are one writing (onward), where the words are enough.
+use mathlib.Core.Path.{_∙_}
+use mathlib.Core.List.{_++_}
+use native.Mathlib.Omega.{arith}
+use borrow.Author.Tests.{lt-ltb, le-ltb}
+use Rattle.exports.specs.Block.{answerNumbers, stateNumbers}
+use Rattle.exports.proofs.Blocks.{length-answer, length-reply, onward, put-none, put-all}
+use borrow.Author.Needs.{needs}
+use Rattle.exports.proofs.put_reply.Statement.{statement}
+use Rattle.exports.proofs.put_reply.Tie as tie
+
+returns : tie.Need-returns
+returns c =
+    let a = c .before .before .args in
+    let few = c .if1 .taken in
+    let numbers = answerNumbers (a .answer) ++ stateNumbers (a .s) in
+    (rw (lt-ltb _ _ few), put-none (a .out .now) numbers 32 (length-reply (a .answer) (a .s)) few)
+
+returns-2 : tie.Need-returns-2
+returns-2 c =
+    let after-put-state = c .before .before in
+    let after-put-answer = after-put-state .before .before .before .before in
+    let after-if1 = after-put-answer .before .before in
+    let start = after-if1 .before .before in
+    let a = start .args in
+    let enough = after-if1 .if1 .left in
+    let answer = answerNumbers (a .answer) in
+    let state = stateNumbers (a .s) in
+    let long = length-answer (a .answer) in
+    let whole =
+    onward (a .out .now) 0 20 answer state (omega arith) (omega (arith, long))
+    (after-put-answer .put-answer .ensures) (after-put-state .put-state .ensures) in
+    (rw (le-ltb _ _ enough), whole ∙ put-all (a .out .now) (answer ++ state) 32 (length-reply (a .answer) (a .s)) enough)
+
+pub put-reply-spec : {M : Type 1} → statement M
+put-reply-spec =
+    tie.close (tie.spec returns (λ c κs. search needs) (λ c κs. search needs) (λ c. search needs) returns-2)
