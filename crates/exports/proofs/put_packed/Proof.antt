@@ -1,4 +1,7 @@
 -- `put_packed` meets its contract: the block is put where the words are enough (put-all), and otherwise nothing is (put-none).
+use Prim.Native.Nat.{_<_, _≤_}
+use lib.ListN.{length}
+use native.Mathlib.Omega.{arith}
 use mathlib.Core.Path.{_∙_}
 use borrow.Author.Tests.{lt-ltb, le-ltb}
 use Rattle.packer.specs.declared.Packed.the-variants.{Refused, Written}
@@ -11,7 +14,7 @@ use Rattle.exports.proofs.put_packed.Tie as tie
 returns : tie.Need-returns
 returns c =
     let a = c .before .before .args in
-    let few = c .if1 .taken in
+    let few : length (a .out .now) < 4 = omega (arith, c .if1 .taken) in
     (rw (lt-ltb _ _ few), put-none (a .out .now) (packedNumbers (a .packed)) 4 (length-packed (a .packed)) few)
 
 returns-2 : tie.Need-returns-2
@@ -23,7 +26,7 @@ returns-2 c =
     let start = after-if1 .before .before in
     let a = start .args in
     let p = after-packed .packed .given in
-    let enough = after-if1 .if1 .left in
+    let enough : 4 ≤ length (a .out .now) = omega (arith, after-if1 .if1 .left) in
     let refused = Refused (p .0 .0) (p .0 .1 .0) in
     let put = after-put-four .put-four .ensures ∙ put-all (a .out .now) (packedNumbers refused) 4 (length-packed refused) enough in
     (rw (le-ltb _ _ enough), rw (p .1) put)
@@ -37,7 +40,7 @@ returns-3 c =
     let start = after-if1 .before .before in
     let a = start .args in
     let p = after-packed2 .packed2 .given in
-    let enough = after-if1 .if1 .left in
+    let enough : 4 ≤ length (a .out .now) = omega (arith, after-if1 .if1 .left) in
     let long = Written (p .0 .0) in
     let put = after-put-four2 .put-four2 .ensures ∙ put-all (a .out .now) (packedNumbers long) 4 (length-packed long) enough in
     (rw (le-ltb _ _ enough), rw (p .1) put)

@@ -1,4 +1,6 @@
 -- `put_reply` meets its contract: a state's numbers right behind an answer's are one writing (onward), where the words are enough.
+use Prim.Native.Nat.{_<_, _≤_}
+use lib.ListN.{length}
 use mathlib.Core.Path.{_∙_}
 use mathlib.Core.List.{_++_}
 use native.Mathlib.Omega.{arith}
@@ -12,7 +14,7 @@ use Rattle.exports.proofs.put_reply.Tie as tie
 returns : tie.Need-returns
 returns c =
     let a = c .before .before .args in
-    let few = c .if1 .taken in
+    let few : length (a .out .now) < 32 = omega (arith, c .if1 .taken) in
     let numbers = answerNumbers (a .answer) ++ stateNumbers (a .s) in
     (rw (lt-ltb _ _ few), put-none (a .out .now) numbers 32 (length-reply (a .answer) (a .s)) few)
 
@@ -23,7 +25,7 @@ returns-2 c =
     let after-if1 = after-put-answer .before .before in
     let start = after-if1 .before .before in
     let a = start .args in
-    let enough = after-if1 .if1 .left in
+    let enough : 32 ≤ length (a .out .now) = omega (arith, after-if1 .if1 .left) in
     let answer = answerNumbers (a .answer) in
     let state = stateNumbers (a .s) in
     let long = length-answer (a .answer) in
