@@ -1,3 +1,4 @@
+pub mod Hashing
 pub mod Probing
 pub mod Frames
 pub mod Sums

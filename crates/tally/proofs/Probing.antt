@@ -14,7 +14,7 @@ use Rattle.words.proofs.Same.{same-true, same-refl}
 use Rattle.arguments.proofs.Arguments.{cases}
 use Rattle.tally.specs.declared.Slot.{Slot}
 use Rattle.tally.specs.declared.Slot.the-variants.{Here, Free, Full}
-use Rattle.tally.specs.Slots.{placeAt, labelAt, isFree, keyAt, startOf, nextOf, probe, seek, findOf}
+use Rattle.tally.specs.Slots.{placeAt, labelAt, isFree, keyAt, foldedOf, startOf, nextOf, probe, seek, findOf}
 
 -- ---- searches by two tests
 
@@ -114,7 +114,7 @@ scaled-low mixed slots h some = div-lt-iff-lt-mul (pow-pos 32) .1 (omega (arith,
 
 -- a key's first slot is a slot
 pub start-low : (slots : ℕ) (key : List ℕ) → 0 < slots → startOf slots key < slots
-unfolding startOf
+unfolding startOf foldedOf
 start-low slots key h = scaled-low _ slots (mod-lt _ (pow-pos 32)) h
 
 -- a slot that stands before the last 18 words of a stretch

@@ -6,7 +6,7 @@ use mathlib.Core.List.{List, _∷_}
 use mathlib.Core.Bool.{Bool, true, false}
 use lib.ListN.{length, drop, getD, set}
 use lib.Dec.{eqb, ltb}
-use Rattle.words.specs.Word.{pick, wordAt, field}
+use Rattle.words.specs.Word.{pick, little, wordAt, field}
 use Rattle.words.specs.Stream.{streamWords, sameBytes}
 use Rattle.reader.specs.Ask.{partOf}
 use Rattle.rule.specs.Rule.{registers}
@@ -55,24 +55,68 @@ isFree table s = eqb (placeAt table s) 0
 abbrev pub keyAt : List ℕ → ℕ → List ℕ → ℕ → List ℕ
 keyAt archive stretch table s = keyOf archive (placeAt table s) (labelAt stretch table s)
 
-unfoldable pub spreadOf : ℕ → ℕ
-spreadOf word = field 0 31 word * 0x9e3779b1 / 2 ^ 24 + field 32 63 word * 0x85ebca77 / 2 ^ 24
+-- the sum of two words, without what is above 64 bits
+abbrev pub sumOf : ℕ → ℕ → ℕ
+sumOf a b = (a + b) % 2 ^ 64
 
-unfoldable pub mixOf : ℕ → ℕ → ℕ → ℕ
-mixOf first last middle = spreadOf first + 5 * spreadOf last + 11 * spreadOf middle
+-- a word with its halves exchanged
+unfoldable pub swappedOf : ℕ → ℕ
+swappedOf word = field 32 63 word + field 0 31 word * 2 ^ 32
 
--- a number of some bytes
-unfoldable pub hashOf : List ℕ → ℕ
-hashOf bytes =
-    pick (eqb (length bytes) 0) 0
-    (pick (ltb (length bytes) 8)
-    (mixOf (getD bytes 0 0 + 256 * getD bytes (length bytes / 2) 0 + 65536 * getD bytes (length bytes - 1) 0) 0 0)
-    (mixOf (wordAt bytes 0) (wordAt bytes (length bytes - 8)) (wordAt bytes ((length bytes - 8) / 2))))
+-- each half of a word times a number; the exchange puts the high bits of one product beside the low bits of the other
+unfoldable pub spreadOf : ℕ → ℕ → ℕ → ℕ
+spreadOf low high word = sumOf (field 0 31 word * low) (swappedOf (field 32 63 word * high))
 
--- the first slot of a key
+-- a hash and four words more
+unfoldable pub joinOf : ℕ → ℕ → ℕ → ℕ → ℕ → ℕ
+joinOf hash a b c d =
+    sumOf (sumOf (spreadOf 0x9e3779b1 0x85ebca77 (sumOf hash a)) (spreadOf 0xc2b2ae3d 0x27d4eb2f b))
+    (sumOf (spreadOf 0x165667b1 0xd3a2646d c) (spreadOf 0xfd7046c5 0xb55a4f09 d))
+
+unfoldable pub leastOf : ℕ → ℕ → ℕ
+leastOf a b = pick (ltb a b) a b
+
+-- a hash and the bytes from `first` to the end of the word at `last`, at most 32: the words at both ends and the two next to them
+-- towards the middle, which overlap where the bytes are fewer
+unfoldable pub blockOf : List ℕ → ℕ → ℕ → ℕ → ℕ
+blockOf bytes hash first last =
+    let step = leastOf 8 (last - first) in
+    joinOf hash (wordAt bytes first) (wordAt bytes (first + step)) (wordAt bytes (last - step)) (wordAt bytes last)
+
+-- a hash and so many blocks of 32 bytes
+unfoldable pub blocksOf : List ℕ → ℕ → ℕ → ℕ
+blocksOf bytes hash zero = hash
+blocksOf bytes hash (suc i) = blockOf bytes (blocksOf bytes hash i) (32 * i) (32 * i + 24)
+
+-- fewer than eight bytes as one number: the first four and the last four, or each of three
+unfoldable pub halfAt : List ℕ → ℕ → ℕ
+halfAt bytes place = little 4 (drop place bytes)
+
+unfoldable pub fewOf : List ℕ → ℕ
+fewOf bytes =
+    let n = length bytes in
+    pick (eqb n 0) 0
+    (pick (ltb n 4)
+    (getD bytes 0 0 + 256 * getD bytes (n / 2) 0 + 65536 * getD bytes (n - 1) 0)
+    (halfAt bytes 0 + 2 ^ 32 * halfAt bytes (n - 4)))
+
+-- a number of a seed and all of some bytes: blocks of 32, and a last one that ends with the bytes
+unfoldable pub hashOf : ℕ → List ℕ → ℕ
+hashOf seed bytes =
+    let n = length bytes in
+    let blocks = (n - 1) / 32 in
+    pick (ltb n 8) (sumOf seed (fewOf bytes))
+    (blockOf bytes (blocksOf bytes seed blocks) (leastOf (32 * blocks) (n - 8)) (n - 8))
+
+-- 32 bits of a hash, in each of which all of its bits have a part; numbered names fall apart best by these numbers, of many that were tried
+unfoldable pub foldedOf : ℕ → ℕ
+foldedOf hash =
+    let mixed = spreadOf 0x9623ea5b 0x9733637b hash in
+    field 0 31 (field 0 31 mixed + field 32 63 mixed)
+
+-- the first slot of a key: its hash, scaled to the slots
 unfoldable pub startOf : ℕ → List ℕ → ℕ
-startOf slots key =
-    field 0 31 (field 0 31 (hashOf (drop 1 key) + keyMark key * 7919 + keyLabel key % 65536) * 0x9e3779b1) * slots / 2 ^ 32
+startOf slots key = foldedOf (hashOf (keyLabel key * 0xe862774f) (drop 1 key)) * slots / 2 ^ 32
 
 -- the slot after s, around the end
 unfoldable pub nextOf : ℕ → ℕ → ℕ

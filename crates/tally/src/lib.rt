@@ -5,7 +5,7 @@ ghost use mathlib.Core.Path.{_≡_};
 ghost use Prim.Native.Nat.{ℕ, _+_, _-_, _*_, _/_, _%_, _^_, _<_, _≤_};
 ghost use lib.ListN.{length, getD};
 ghost use Rattle.words.specs.Stream.{sameBytes};
-ghost use Rattle.tally.specs.Slots.{labelOf, keyOf, spreadOf, mixOf, hashOf, startOf, nextOf, findOf, raised, isAdded, added, costOf, measureOf, choiceOf, chosenTo, indexOf, newIndex, indexed};
+ghost use Rattle.tally.specs.Slots.{labelOf, keyOf, swappedOf, spreadOf, joinOf, leastOf, blockOf, halfAt, fewOf, hashOf, foldedOf, startOf, nextOf, findOf, raised, isAdded, added, costOf, measureOf, choiceOf, chosenTo, indexOf, newIndex, indexed};
 ghost use Rattle.tally.specs.Tally.{Wide, Settled, Waiting};
 
 // Where a key stands, where it would go, or that no slot is left.
@@ -23,18 +23,68 @@ pub fn label_of(context: usize, kind: u64, long: usize) -> usize
     (2 * context + (kind as usize - 2)) * 65536 + long
 }
 
-// Two halves of a word, spread.
-fn spread(word: u64) -> u64
-    ensures { λ r. ⌜ (r ≡ spreadOf word) × (r < 2 ^ 41) ⌝ }
+// A word with its halves exchanged.
+fn swapped(word: u64) -> u64
+    ensures { λ r. ⌜ r ≡ swappedOf word ⌝ }
 {
-    ((words::field(word, 0, 31) * 0x9e3779b1) >> 24)
-        + ((words::field(word, 32, 63) * 0x85ebca77) >> 24)
+    words::with_field(
+        words::field(word, 32, 63),
+        32,
+        63,
+        words::field(word, 0, 31),
+    )
 }
 
-fn mix(first: u64, last: u64, middle: u64) -> usize
-    ensures { λ r. ⌜ (r ≡ mixOf first last middle) × (r < 2 ^ 46) ⌝ }
+// Each half of a word times a number. The exchange puts the high bits of one product beside the low bits of the other.
+fn spread(word: u64, low: u64, high: u64) -> u64
+    requires { ⌜ (low < 2 ^ 32) × (high < 2 ^ 32) ⌝ }
+    ensures { λ r. ⌜ r ≡ spreadOf low high word ⌝ }
 {
-    (spread(first) + 5 * spread(last) + 11 * spread(middle)) as usize
+    std::num::wrapping_add_u64(
+        words::field(word, 0, 31) * low,
+        swapped(words::field(word, 32, 63) * high),
+    )
+}
+
+// A hash and four words more. The eight products wait for nothing but their words.
+fn join(hash: u64, a: u64, b: u64, c: u64, d: u64) -> u64
+    ensures { λ r. ⌜ r ≡ joinOf hash a b c d ⌝ }
+{
+    std::num::wrapping_add_u64(
+        std::num::wrapping_add_u64(
+            spread(std::num::wrapping_add_u64(hash, a), 0x9e3779b1, 0x85ebca77),
+            spread(b, 0xc2b2ae3d, 0x27d4eb2f),
+        ),
+        std::num::wrapping_add_u64(
+            spread(c, 0x165667b1, 0xd3a2646d),
+            spread(d, 0xfd7046c5, 0xb55a4f09),
+        ),
+    )
+}
+
+fn least(a: usize, b: usize) -> usize
+    ensures { λ r. ⌜ (r ≡ leastOf a b) × (r ≤ a) × (r ≤ b) ⌝ }
+{
+    if a < b {
+        return a;
+    }
+    b
+}
+
+// A hash and the bytes from `first` to the end of the word at `last`, at most 32 of them. Any number of bytes from 8 to 32 takes the same
+// way, since the lengths of texts cannot be foretold.
+fn block(bytes: &[u8], hash: u64, first: usize, last: usize) -> u64
+    requires { ⌜ (first ≤ last) × (last + 8 ≤ length (now bytes)) ⌝ }
+    ensures { λ r. ⌜ r ≡ blockOf (now (bytes .entry)) hash first last ⌝ }
+{
+    let step = least(8, last - first);
+    join(
+        hash,
+        words::word(bytes, first),
+        words::word(bytes, first + step),
+        words::word(bytes, last - step),
+        words::word(bytes, last),
+    )
 }
 
 fn byte(bytes: &[u8], place: usize) -> u64
@@ -44,25 +94,62 @@ fn byte(bytes: &[u8], place: usize) -> u64
     bytes[place] as u64
 }
 
-// A number of some bytes: of the first, the last and the middle word, or of three bytes where they are fewer than eight.
-fn hash(bytes: &[u8]) -> usize
-    ensures { λ r. ⌜ (r ≡ hashOf (now (bytes .entry))) × (r < 2 ^ 46) ⌝ }
+// The number of the first four bytes. Its indexes are literals, so that it becomes one load.
+fn first_half(bytes: &[u8]) -> u64
+    requires { ⌜ 4 ≤ length (now bytes) ⌝ }
+    ensures { λ r. ⌜ (r ≡ halfAt (now (bytes .entry)) 0) × (r < 2 ^ 32) ⌝ }
+{
+    byte(bytes, 0) + 256 * byte(bytes, 1) + 65536 * byte(bytes, 2) + 16777216 * byte(bytes, 3)
+}
+
+fn half(bytes: &[u8], place: usize) -> u64
+    requires { ⌜ place + 4 ≤ length (now bytes) ⌝ }
+    ensures { λ r. ⌜ (r ≡ halfAt (now (bytes .entry)) place) × (r < 2 ^ 32) ⌝ }
+{
+    first_half(&bytes[place..place + 4])
+}
+
+// Fewer than eight bytes as one number.
+fn few(bytes: &[u8]) -> u64
+    ensures { λ r. ⌜ r ≡ fewOf (now (bytes .entry)) ⌝ }
 {
     let n = bytes.len();
     if n == 0 {
         return 0;
     }
-    if n < 8 {
-        return mix(
-            byte(bytes, 0) + 256 * byte(bytes, n / 2) + 65536 * byte(bytes, n - 1),
-            0,
-            0,
-        );
+    if n < 4 {
+        return byte(bytes, 0) + 256 * byte(bytes, n / 2) + 65536 * byte(bytes, n - 1);
     }
-    mix(
-        words::word(bytes, 0),
-        words::word(bytes, n - 8),
-        words::word(bytes, (n - 8) / 2),
+    half(bytes, 0) + 4294967296 * half(bytes, n - 4)
+}
+
+// A number of a seed and all of some bytes: blocks of 32, and a last one that ends with the bytes.
+fn hash(bytes: &[u8], seed: u64) -> u64
+    ensures { λ r. ⌜ r ≡ hashOf seed (now (bytes .entry)) ⌝ }
+{
+    let n = bytes.len();
+    if n < 8 {
+        return std::num::wrapping_add_u64(seed, few(bytes));
+    }
+    let blocks = (n - 1) / 32;
+    let mut hash = seed;
+    let mut i = 0;
+    while i < blocks {
+        hash = block(bytes, hash, 32 * i, 32 * i + 24);
+        i += 1;
+    }
+    block(bytes, hash, least(32 * blocks, n - 8), n - 8)
+}
+
+// 32 bits of a hash, in each of which all of its bits have a part.
+fn folded(hash: u64) -> u64
+    ensures { λ r. ⌜ (r ≡ foldedOf hash) × (r < 2 ^ 32) ⌝ }
+{
+    let mixed = spread(hash, 0x9623ea5b, 0x9733637b);
+    words::field(
+        words::field(mixed, 0, 31) + words::field(mixed, 32, 63),
+        0,
+        31,
     )
 }
 
@@ -71,11 +158,8 @@ fn first_slot(archive: &[u8], slots: usize, place: usize, label: usize) -> usize
     requires { ⌜ (0 < slots) × (slots < 2 ^ 32) × (label < 2 ^ 32) ⌝ }
     ensures { λ r. ⌜ r ≡ startOf slots (keyOf (now (archive .entry)) place label) ⌝ }
 {
-    let sum = hash(reader::text(archive, place, label % 65536))
-        + label / 65536 * 7919
-        + label % 65536;
-    let mixed = words::field(words::field(sum as u64, 0, 31) * 0x9e3779b1, 0, 31) as usize;
-    (mixed * slots) >> 32
+    let key = reader::text(archive, place, label % 65536);
+    (folded(hash(key, label as u64 * 0xe862774f)) as usize * slots) >> 32
 }
 
 // The slot after s, around the end.
