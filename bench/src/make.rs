@@ -131,8 +131,40 @@ impl Style {
     }
 }
 
+// The text of a number, for the texts of a long archive.
+pub type Spelling = fn(&mut Random, usize) -> Vec<u8>;
+
+fn any_letters(random: &mut Random, _: usize) -> Vec<u8> {
+    name(random, 3..33)
+}
+
+pub fn worker_and_phase(_: &mut Random, i: usize) -> Vec<u8> {
+    format!("com.vendor.charger.worker-{i:04}.phase.{}.completed", i % 10).into_bytes()
+}
+
+pub fn part_of_nine(_: &mut Random, i: usize) -> Vec<u8> {
+    format!("c{i:03}of9").into_bytes()
+}
+
+pub fn tens(_: &mut Random, i: usize) -> Vec<u8> {
+    format!("{:06}", 10 * i).into_bytes()
+}
+
+pub fn number_in_front(_: &mut Random, i: usize) -> Vec<u8> {
+    format!("{i:04}.battery.charge.completed").into_bytes()
+}
+
+pub fn counter_in_the_middle(_: &mut Random, i: usize) -> Vec<u8> {
+    format!("display.frame.{i}.presented-to-the-compositor").into_bytes()
+}
+
+// 256 bytes that differ at 240 to 243.
+pub fn late_number(_: &mut Random, i: usize) -> Vec<u8> {
+    format!("{:240}{i:04}{:12}", "com.vendor", ".completed").into_bytes()
+}
+
 // What a long archive is made of: of a hundred references so many are spelled, an event has up to so many arguments, and each
-// provider so many texts and threads, all registered.
+// provider so many texts of one spelling and so many threads, all registered.
 #[derive(Clone, Copy)]
 pub struct Long {
     pub inline: usize,
@@ -140,11 +172,12 @@ pub struct Long {
     pub providers: usize,
     pub texts: usize,
     pub threads: usize,
+    pub spelling: Spelling,
 }
 
 impl Long {
     pub const fn new(inline: usize, arguments: usize) -> Self {
-        Long { inline, arguments, providers: 5, texts: 100, threads: 20 }
+        Long { inline, arguments, providers: 5, texts: 100, threads: 20, spelling: any_letters }
     }
 }
 
@@ -155,7 +188,7 @@ pub fn long(bytes: usize, seed: u64, of: Long) -> Vec<u8> {
     let mut words = vec![MAGIC, 1 | 2 << 4, 24_000_000];
     let mut styles = vec![];
     for &id in ids {
-        let texts: Vec<Vec<u8>> = (0..of.texts).map(|_| name(&mut random, 3..33)).collect();
+        let texts: Vec<Vec<u8>> = (0..of.texts).map(|i| (of.spelling)(&mut random, i)).collect();
         let threads: Vec<[u64; 2]> = (0..of.threads as u64).map(|i| [1000 + i, 2000 + i]).collect();
         words.extend(provider_record(id, &name(&mut random, 3..20)));
         for (i, text) in texts.iter().enumerate() {

@@ -149,10 +149,11 @@ const RUNS: usize = 9;
 
 pub fn time(mib: usize) {
     println!(
-        "\n{:<32} {:>6} {:>8} {:>8} {:>11} {:>11} {:>7}",
+        "\n{:<42} {:>6} {:>8} {:>8} {:>11} {:>11} {:>7}",
         "repacking", "MiB", "to MiB", "events", "ours ns/ev", "Rust ns/ev", "ratio"
     );
     let near = |inline, providers| Long { providers, texts: 500, threads: 250, ..Long::new(inline, 6) };
+    let spelled = |texts, spelling| Long { texts, spelling, ..Long::new(10, 6) };
     let kinds = [
         ("registered", Long::new(10, 6)),
         ("half", Long::new(50, 6)),
@@ -161,6 +162,13 @@ pub fn time(mib: usize) {
         ("inline, 500 texts", near(100, 5)),
         ("inline, 500 texts, 8 providers", near(100, 8)),
         ("registered, no arguments", Long::new(10, 0)),
+        // names of one pattern and a number; of 256 bytes, the number at 240 to 243
+        ("..worker-0001.phase.1.completed, 100 texts", spelled(100, make::worker_and_phase)),
+        ("c001of9, 500 texts", spelled(500, make::part_of_nine)),
+        ("000010, 500 texts", spelled(500, make::tens)),
+        ("..0001.completed, 256 bytes, 500 texts", spelled(500, make::late_number)),
+        ("0001.battery.charge.., 500 texts", spelled(500, make::number_in_front)),
+        ("display.frame.1.presented.., 500 texts", spelled(500, make::counter_in_the_middle)),
     ];
     for (name, of) in kinds {
         for (what, bytes) in [(name, mib << 20), ("  a quarter as long", mib << 18)] {
@@ -177,7 +185,7 @@ pub fn time(mib: usize) {
             let written = length(repack::repack(&archive, &mut other_room, &mut other));
             let events = make::events(&archive) as f64;
             println!(
-                "{:<32} {:>6.1} {:>8.1} {:>8} {:>11.1} {:>11.1} {:>7.2}",
+                "{:<42} {:>6.1} {:>8.1} {:>8} {:>11.1} {:>11.1} {:>7.2}",
                 what,
                 archive.len() as f64 / (1 << 20) as f64,
                 written as f64 / (1 << 20) as f64,
