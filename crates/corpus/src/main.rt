@@ -1,79 +1,126 @@
-// Lists every case of the file corpus.bin: cases one after another, each a 32-bit length and that many bytes of
-// archive, at most 32,768.
-
-use lines::input::read_bytes;
+// Lists and repacks every case of the file corpus.bin: cases one after another, each a 32-bit length and that many bytes of
+// archive, at most 32,768. What a case shows is written at once. Reading or writing that fails, and a file that ends
+// inside a case, are said on standard error and stop the program.
+ghost use mathlib.Core.Path.{_≡_};
+ghost use lib.ListN.{length};
+use libc::STDERR_FILENO;
+use libc::STDOUT_FILENO;
+use lines::input::Outcome;
+use lines::put_bytes;
+use lines::put_number;
 use packer::Packed;
 
-// The length of a case, or none at the file's end.
+// The length of a case, none at the file's end, or that it could not be read.
 enum Length {
     Bytes(usize),
     None,
+    Failed,
+}
+
+// Says why the cases are not all shown, and answers that they do not go on.
+fn fail(sentence: &[u8]) -> bool {
+    io::write_all(STDERR_FILENO, sentence);
+    false
 }
 
 fn read_length(fd: i32) -> Length {
     let mut bytes = [0u8; 8];
-    if read_bytes(fd, &mut bytes, 4) {
-        return Length::Bytes(words::word(&bytes, 0) as usize);
+    let outcome = lines::input::read_bytes(fd, &mut bytes, 4);
+    match outcome {
+        Outcome::All => Length::Bytes(words::word(&bytes, 0) as usize),
+        Outcome::End => Length::None,
+        Outcome::Failed => Length::Failed,
     }
-    Length::None
 }
 
-// Repacks a case; the written bytes are shown in hexadecimal digits.
-fn show_pack(archive: &[u8], room: &mut [u32]) {
+fn put_refusal(out: &mut [u8], at: usize, number: u8, place: usize) -> usize {
+    let first = put_bytes(out, at, b"pack");
+    let second = put_number(out, first, number as u64);
+    let last = put_number(out, second, place as u64);
+    put_bytes(out, last, b"\n")
+}
+
+// The written bytes are shown in hexadecimal digits.
+fn put_packed(out: &mut [u8], at: usize, written: &[u8]) -> usize {
+    let first = put_bytes(out, at, b"pack 0");
+    let second = put_number(out, first, written.len() as u64);
+    let third = put_bytes(out, second, b"\n");
+    let last = lines::put_hex(out, third, written);
+    put_bytes(out, last, b"\n")
+}
+
+// Repacks a case.
+fn put_pack(out: &mut [u8], at: usize, archive: &[u8], room: &mut [u32]) -> usize {
     let mut output = [0u8; 32768];
     let packed = packer::repack(archive, room, &mut output);
     match packed {
-        Packed::Refused { number, place } => {
-            lines::print(b"pack");
-            lines::print_number(number as u64);
-            lines::print_number(place as u64);
-            lines::print(b"\n");
-        }
-        Packed::Written { length } => {
-            lines::print(b"pack 0");
-            lines::print_number(length as u64);
-            lines::print(b"\n");
-            lines::print_hex(reader::text(&output, 0, length));
-        }
+        Packed::Refused { number, place } => put_refusal(out, at, number, place),
+        Packed::Written { length } => put_packed(out, at, reader::text(&output, 0, length)),
     }
 }
 
-fn show_case(case: u64, archive: &[u8], room: &mut [u32]) {
-    lines::print(b"case");
-    lines::print_number(case);
-    lines::print_number(archive.len() as u64);
-    lines::print(b"\n");
-    lines::list(archive, room);
-    show_pack(archive, room);
+fn put_case(out: &mut [u8], case: u64, archive: &[u8], room: &mut [u32]) -> usize {
+    let first = put_bytes(out, 0, b"case");
+    let second = put_number(out, first, case);
+    let third = put_number(out, second, archive.len() as u64);
+    let listing = put_bytes(out, third, b"\n");
+    let last = listings::list(out, listing, archive, room);
+    put_pack(out, last, archive, room)
 }
 
-// Shows the next case, and answers whether there was one.
-fn next_case(fd: i32, case: u64, room: &mut [u32]) -> bool {
-    let mut archive = [0u8; 32768];
-    let length = read_length(fd);
-    let Length::Bytes(n) = length else {
-        return false;
-    };
-    if 32768 < n {
-        return false;
+// Writes the n bytes of a case, and answers whether they were all written. What fills the buffer may have been cut.
+fn write_case(out: &[u8], n: usize) -> bool {
+    if out.len() <= n {
+        return fail(b"corpus: what a case shows is too long\n");
     }
-    if read_bytes(fd, &mut archive, n) {
-        show_case(case, &archive[..n], room);
+    if lines::output::write(STDOUT_FILENO, out, n) {
         return true;
     }
-    false
+    fail(b"corpus: standard output could not be written\n")
+}
+
+// Shows the next case, whose archive has n bytes, and answers whether the cases go on.
+fn show_case(fd: i32, case: u64, n: usize, room: &mut [u32], out: &mut [u8]) -> bool {
+    let mut archive = [0u8; 32768];
+    let outcome = lines::input::read_bytes(fd, &mut archive, n);
+    match outcome {
+        Outcome::All => {
+            let last = put_case(out, case, reader::text(&archive, 0, n), room);
+            write_case(out, last)
+        }
+        Outcome::End => fail(b"corpus: corpus.bin ends inside a case\n"),
+        Outcome::Failed => fail(b"corpus: corpus.bin could not be read to the end of a case\n"),
+    }
+}
+
+// Shows the next case, and answers whether the cases go on.
+fn next_case(fd: i32, case: u64, room: &mut [u32], out: &mut [u8]) -> bool {
+    let length = read_length(fd);
+    match length {
+        Length::Bytes(n) => show_case(fd, case, n, room, out),
+        Length::None => false,
+        Length::Failed => fail(b"corpus: corpus.bin could not be read to the end of a case\n"),
+    }
 }
 
 // Nothing says that a file ends, so the cases are counted, up to a number that no file reaches.
-fn show_cases(fd: i32, room: &mut [u32]) {
+fn show_cases(fd: i32, room: &mut [u32], out: &mut [u8]) {
     let mut case = 0;
     while case < 1000000 {
-        if next_case(fd, case, room) {
+        if next_case(fd, case, room, out) {
             case += 1;
         } else {
             return;
         }
     }
+}
+
+// Room for what a case shows: a listing, of fewer than 66 bytes for each byte of its archive, two digits for each byte that
+// is written, and the lines around them.
+fn buffer() -> [u8; 2228480]
+    ensures { λ r. ⌜ 2228480 ≡ length r ⌝ }
+{
+    [0; 2228480]
 }
 
 fn main() {
@@ -83,6 +130,7 @@ fn main() {
         return;
     }
     let mut room = [0u32; 27648];
-    show_cases(fd, &mut room);
+    let mut out = buffer();
+    show_cases(fd, &mut room, &mut out);
     libc::close(fd);
 }

@@ -1,1 +1,4 @@
+pub mod Puts
+pub mod Numbers
 pub mod Signs
+pub mod Inputs

@@ -1,186 +1,201 @@
-// The lines of document 01's listing, on standard output. It is proved that printing is safe and ends; what is
-// printed is tested.
+// Numbers, texts and references, put into a lent buffer as a line shows them, and the reading and writing of bytes. Each
+// function that puts bytes puts them from a place on and answers the place behind them; what does not fit is left out.
+// Nothing here asks anything of its caller.
 pub mod input;
+pub mod output;
 
-ghost use Prim.Native.Nat.{_^_, _<_};
+ghost use mathlib.Core.Path.{_≡_};
+ghost use Prim.Native.Nat.{_-_, _+_, _^_, _<_, _≤_, min};
+ghost use mathlib.Core.List.{_++_};
+ghost use lib.IntN.{negsuc};
+ghost use lib.ListN.{length, take};
+ghost use Rattle.words.specs.Stream.{written};
+ghost use Rattle.io.specs.Digits.{digits};
+ghost use Rattle.records.specs.Written.{scalarType};
+ghost use Rattle.lines.specs.Put.{Puts};
+ghost use Rattle.lines.specs.Shown.{decimal, numberShown, signedShown, booleanShown, doubleShown, unresolvedShown, bytesShown, textShown, threadShown, providerShown, scalarShown, valueShown, valueType, hexShown};
 use arguments::Scalar;
 use contexts::Provider;
-use contexts::State;
-use libc::STDOUT_FILENO;
-use reader::Answer;
-use reader::Asked;
-use reader::ShownArgument;
-use reader::ShownEvent;
 use reader::ShownText;
 use reader::ShownThread;
 use reader::ShownValue;
 
-// Where a listing stands, and whether it ended there.
-pub struct Listed {
-    pub state: State,
-    pub ended: bool,
-}
-
-pub fn print(bytes: &[u8]) {
-    io::write_all(STDOUT_FILENO, bytes);
-}
-
-// A number in decimal, behind a space.
-pub fn print_number(n: u64) {
-    print(b" ");
-    io::print_decimal(STDOUT_FILENO, n);
-}
-
-// A negative number whose magnitude is one more than n, behind a space.
-fn print_negative(n: u64)
-    requires { ⌜ n < 2 ^ 63 ⌝ }
+// How many of n bytes fit into a buffer of this length from a place on.
+fn fitting(length: usize, at: usize, n: usize) -> usize
+    ensures { λ r. ⌜ r ≡ min (length - at) n ⌝ }
 {
-    print(b" -");
-    io::print_decimal(STDOUT_FILENO, n + 1);
+    if length <= at {
+        return 0;
+    }
+    if length - at < n {
+        return length - at;
+    }
+    n
 }
 
-fn print_signed(n: i64) {
-    if n < 0 {
-        print_negative((-1 - n) as u64);
-    } else {
-        print_number(n as u64);
+// Copies the first n of these bytes.
+fn copy(out: &mut [u8], at: usize, bytes: &[u8], n: usize)
+    requires { ⌜ (n ≤ length (now out) - at) × (n ≤ length (now bytes)) ⌝ }
+    ensures { λ _. ⌜ now (out .exit) ≡ written (now (out .entry)) at (take n (now (bytes .entry))) ⌝ }
+{
+    let mut i = 0;
+    while i < n {
+        out[at + i] = bytes[i];
+        i += 1;
     }
 }
 
-fn print_signed_half(n: i32) {
-    print_signed(n as i64);
+pub fn put_bytes(out: &mut [u8], at: usize, bytes: &[u8]) -> usize
+    ensures { λ r. ⌜ Puts (now (out .entry)) at (now (bytes .entry)) r (now (out .exit)) ⌝ }
+{
+    let n = fitting(out.len(), at, bytes.len());
+    copy(out, at, bytes, n);
+    at + n
+}
+
+fn put_decimal(out: &mut [u8], at: usize, n: u64) -> usize
+    ensures { λ r. ⌜ Puts (now (out .entry)) at (decimal n) r (now (out .exit)) ⌝ }
+{
+    let mut text = [0u8; 20];
+    let k = io::decimal(n, &mut text);
+    put_bytes(out, at, &text[..k])
+}
+
+// A number behind a space.
+pub fn put_number(out: &mut [u8], at: usize, n: u64) -> usize
+    ensures { λ r. ⌜ Puts (now (out .entry)) at (numberShown n) r (now (out .exit)) ⌝ }
+{
+    let digits = put_bytes(out, at, b" ");
+    put_decimal(out, digits, n)
+}
+
+fn put_negative(out: &mut [u8], at: usize, n: u64) -> usize
+    requires { ⌜ n < 2 ^ 63 ⌝ }
+    ensures { λ r. ⌜ Puts (now (out .entry)) at (signedShown (negsuc n)) r (now (out .exit)) ⌝ }
+{
+    let digits = put_bytes(out, at, b" -");
+    put_decimal(out, digits, n + 1)
+}
+
+fn put_signed(out: &mut [u8], at: usize, n: i64) -> usize
+    ensures { λ r. ⌜ Puts (now (out .entry)) at (signedShown n) r (now (out .exit)) ⌝ }
+{
+    if n < 0 {
+        put_negative(out, at, (-1 - n) as u64)
+    } else {
+        put_number(out, at, n as u64)
+    }
+}
+
+fn put_signed_half(out: &mut [u8], at: usize, n: i32) -> usize
+    ensures { λ r. ⌜ Puts (now (out .entry)) at (signedShown n) r (now (out .exit)) ⌝ }
+{
+    put_signed(out, at, n as i64)
+}
+
+fn put_boolean(out: &mut [u8], at: usize, value: bool) -> usize
+    ensures { λ r. ⌜ Puts (now (out .entry)) at (booleanShown value) r (now (out .exit)) ⌝ }
+{
+    if value {
+        return put_bytes(out, at, b" 1");
+    }
+    put_bytes(out, at, b" 0")
 }
 
 // A double by the 16 digits of its bits.
-fn print_double(bits: u64) {
-    print(b" ");
-    io::print_hex(STDOUT_FILENO, bits, 16);
+fn put_double(out: &mut [u8], at: usize, bits: u64) -> usize
+    ensures { λ r. ⌜ Puts (now (out .entry)) at (doubleShown bits) r (now (out .exit)) ⌝ }
+{
+    let mut text = [0u8; 16];
+    let k = io::hex(bits, 16, &mut text);
+    let digits = put_bytes(out, at, b" ");
+    put_bytes(out, digits, &text[..k])
 }
 
-fn print_unresolved(index: usize) {
-    print(b" ?");
-    io::print_decimal(STDOUT_FILENO, index as u64);
+fn put_unresolved(out: &mut [u8], at: usize, index: usize) -> usize
+    ensures { λ r. ⌜ Puts (now (out .entry)) at (unresolvedShown index) r (now (out .exit)) ⌝ }
+{
+    let digits = put_bytes(out, at, b" ?");
+    put_decimal(out, digits, index as u64)
 }
 
 // A text by its length and its bytes.
-fn print_bytes(bytes: &[u8]) {
-    print_number(bytes.len() as u64);
-    print(b":");
-    print(bytes);
+pub fn put_text_bytes(out: &mut [u8], at: usize, bytes: &[u8]) -> usize
+    ensures { λ r. ⌜ Puts (now (out .entry)) at (bytesShown (now (bytes .entry))) r (now (out .exit)) ⌝ }
+{
+    let colon = put_number(out, at, bytes.len() as u64);
+    let text = put_bytes(out, colon, b":");
+    put_bytes(out, text, bytes)
 }
 
-fn print_text(archive: &[u8], text: ShownText) {
+pub fn put_text(out: &mut [u8], at: usize, archive: &[u8], text: ShownText) -> usize
+    ensures { λ r. ⌜ Puts (now (out .entry)) at (textShown (now (archive .entry)) text) r (now (out .exit)) ⌝ }
+{
     match text {
-        ShownText::At { place, length } => print_bytes(reader::text(archive, place, length)),
-        ShownText::Unresolved { index } => print_unresolved(index),
+        ShownText::At { place, length } => put_text_bytes(
+            out,
+            at,
+            reader::text(archive, place, length),
+        ),
+        ShownText::Unresolved { index } => put_unresolved(out, at, index),
     }
 }
 
-fn print_thread(thread: ShownThread) {
+fn put_words(out: &mut [u8], at: usize, process: u64, thread: u64) -> usize
+    ensures { λ r. ⌜ Puts (now (out .entry)) at (numberShown process ++ numberShown thread) r (now (out .exit)) ⌝ }
+{
+    let second = put_number(out, at, process);
+    put_number(out, second, thread)
+}
+
+pub fn put_thread(out: &mut [u8], at: usize, thread: ShownThread) -> usize
+    ensures { λ r. ⌜ Puts (now (out .entry)) at (threadShown thread) r (now (out .exit)) ⌝ }
+{
     match thread {
-        ShownThread::Words { process, thread } => {
-            print_number(process);
-            print_number(thread);
-        }
-        ShownThread::Unresolved { index } => print_unresolved(index),
+        ShownThread::Words { process, thread } => put_words(out, at, process, thread),
+        ShownThread::Unresolved { index } => put_unresolved(out, at, index),
     }
 }
 
-fn print_provider(provider: Provider) {
+pub fn put_provider(out: &mut [u8], at: usize, provider: Provider) -> usize
+    ensures { λ r. ⌜ Puts (now (out .entry)) at (providerShown provider) r (now (out .exit)) ⌝ }
+{
     match provider {
-        Provider::None => print(b" -"),
-        Provider::Id(id) => print_number(id as u64),
+        Provider::None => put_bytes(out, at, b" -"),
+        Provider::Id(id) => put_number(out, at, id as u64),
     }
 }
 
-// Whether events of this type have one more word.
-fn has_extra(kind: u8) -> bool {
-    if kind == 1 {
-        return true;
+fn put_scalar(out: &mut [u8], at: usize, scalar: Scalar) -> usize
+    ensures { λ r. ⌜ Puts (now (out .entry)) at (scalarShown scalar) r (now (out .exit)) ⌝ }
+{
+    match scalar {
+        Scalar::Null => put_bytes(out, at, b" -"),
+        Scalar::Signed32(n) => put_signed_half(out, at, n),
+        Scalar::Unsigned32(n) => put_number(out, at, n as u64),
+        Scalar::Signed64(n) => put_signed(out, at, n),
+        Scalar::Unsigned64(n) => put_number(out, at, n),
+        Scalar::Double(bits) => put_double(out, at, bits),
+        Scalar::Pointer(word) => put_number(out, at, word),
+        Scalar::KernelObject(word) => put_number(out, at, word),
+        Scalar::Boolean(value) => put_boolean(out, at, value),
+        Scalar::Unknown(_) => put_bytes(out, at, b" ?"),
     }
-    3 < kind
 }
 
-fn print_event(archive: &[u8], event: ShownEvent) {
-    let kind = event.kind;
-    let provider = event.provider;
-    let thread = event.thread;
-    let category = event.category;
-    let name = event.name;
-    print(b"E");
-    print_number(kind as u64);
-    print_provider(provider);
-    print_number(event.timestamp);
-    print_number(event.rate);
-    print_thread(thread);
-    print_text(archive, category);
-    print_text(archive, name);
-    print_number(event.count as u64);
-    if has_extra(kind) {
-        print_number(event.extra);
-    }
-    print(b"\n");
-}
-
-pub fn print_end(number: u8, place: usize) {
-    print(b"end");
-    print_number(number as u64);
-    print_number(place as u64);
-    print(b"\n");
-}
-
-fn print_provider_info(id: u32, name: &[u8]) {
-    print(b"P");
-    print_number(id as u64);
-    print_bytes(name);
-    print(b"\n");
-}
-
-fn print_section(id: u32) {
-    print(b"S");
-    print_number(id as u64);
-    print(b"\n");
-}
-
-fn print_provider_event(id: u32, event: u8) {
-    print(b"V");
-    print_number(id as u64);
-    print_number(event as u64);
-    print(b"\n");
-}
-
-fn print_initialization(rate: u64) {
-    print(b"I");
-    print_number(rate);
-    print(b"\n");
-}
-
-fn print_skipped(kind: u8, size: u64) {
-    print(b"K");
-    print_number(kind as u64);
-    print_number(size);
-    print(b"\n");
-}
-
-// The line of an answer: its item's or its end's, and none where it shows nothing.
-pub fn print_answer(archive: &[u8], answer: Answer) {
-    match answer {
-        Answer::End { number, place } => print_end(number, place),
-        Answer::Nothing => {}
-        Answer::Magic => print(b"M\n"),
-        Answer::ProviderInfo { id, place, length } => {
-            print_provider_info(id, reader::text(archive, place, length))
-        }
-        Answer::Section { id } => print_section(id),
-        Answer::ProviderEvent { id, event } => print_provider_event(id, event),
-        Answer::Initialization { rate } => print_initialization(rate),
-        Answer::Event(event) => print_event(archive, event),
-        Answer::Skipped { kind, size } => print_skipped(kind, size),
+pub fn put_value(out: &mut [u8], at: usize, archive: &[u8], value: ShownValue) -> usize
+    ensures { λ r. ⌜ Puts (now (out .entry)) at (valueShown (now (archive .entry)) value) r (now (out .exit)) ⌝ }
+{
+    match value {
+        ShownValue::Scalar(scalar) => put_scalar(out, at, scalar),
+        ShownValue::Text(text) => put_text(out, at, archive, text),
     }
 }
 
 // The argument type of a value that is no text.
-fn scalar_type(scalar: Scalar) -> u64 {
+fn scalar_type(scalar: Scalar) -> u64
+    ensures { λ r. ⌜ r ≡ scalarType scalar ⌝ }
+{
     match scalar {
         Scalar::Null => 0,
         Scalar::Signed32(_) => 1,
@@ -195,131 +210,34 @@ fn scalar_type(scalar: Scalar) -> u64 {
     }
 }
 
-fn print_boolean(value: bool) {
-    if value {
-        print(b" 1");
-    } else {
-        print(b" 0");
-    }
-}
-
-fn print_scalar(scalar: Scalar) {
-    match scalar {
-        Scalar::Null => print(b" -"),
-        Scalar::Signed32(n) => print_signed_half(n),
-        Scalar::Unsigned32(n) => print_number(n as u64),
-        Scalar::Signed64(n) => print_signed(n),
-        Scalar::Unsigned64(n) => print_number(n),
-        Scalar::Double(bits) => print_double(bits),
-        Scalar::Pointer(word) => print_number(word),
-        Scalar::KernelObject(word) => print_number(word),
-        Scalar::Boolean(value) => print_boolean(value),
-        Scalar::Unknown(_) => print(b" ?"),
-    }
-}
-
-fn print_argument(archive: &[u8], argument: ShownArgument) {
-    let name = argument.name;
-    let value = argument.value;
-    print(b"A");
+// The argument type of a value.
+pub fn value_type(value: ShownValue) -> u64
+    ensures { λ r. ⌜ r ≡ valueType value ⌝ }
+{
     match value {
-        ShownValue::Scalar(scalar) => {
-            print_number(scalar_type(scalar));
-            print_text(archive, name);
-            print_scalar(scalar);
-        }
-        ShownValue::Text(text) => {
-            print_number(6);
-            print_text(archive, name);
-            print_text(archive, text);
-        }
-    }
-    print(b"\n");
-}
-
-// The line of what was asked for: the argument's, or its refusal's.
-pub fn print_asked(archive: &[u8], asked: Asked) {
-    match asked {
-        Asked::Refused { number, place } => print_end(number, place),
-        Asked::Argument(argument) => print_argument(archive, argument),
+        ShownValue::Scalar(scalar) => scalar_type(scalar),
+        ShownValue::Text(_) => 6,
     }
 }
 
-// The lines of so many arguments of the event at a place, asked for in the state right after it.
-fn list_arguments(archive: &[u8], state: State, tables: &[u32], place: usize, count: usize) {
-    let mut number = 0;
-    while number < count {
-        print_asked(
-            archive,
-            reader::argument(archive, state, tables, place, number),
-        );
-        number += 1;
-    }
+// A byte by two lower-case hexadecimal digits.
+fn put_hex_byte(out: &mut [u8], at: usize, byte: u8) -> usize
+    ensures { λ r. ⌜ Puts (now (out .entry)) at (digits 16 2 byte) r (now (out .exit)) ⌝ }
+{
+    let mut text = [0u8; 16];
+    let k = io::hex(byte as u64, 2, &mut text);
+    put_bytes(out, at, &text[..k])
 }
 
-// Whether an answer is the last.
-fn ends(answer: Answer) -> bool {
-    if let Answer::End {
-        number: _,
-        place: _,
-    } = answer {
-        return true;
-    }
-    false
-}
-
-// The lines of one record.
-fn list_record(archive: &[u8], state: State, tables: &mut [u32]) -> Listed {
-    let reply = reader::step(archive, state, tables);
-    let answer = reply.answer;
-    let next = reply.state;
-    print_answer(archive, answer);
-    if let Answer::Event(event) = answer {
-        list_arguments(archive, next, tables, event.place, event.count);
-    }
-    Listed {
-        state: next,
-        ended: ends(answer),
-    }
-}
-
-// The lines from a state to the end. A record takes a word or more, so no reading uses these turns up.
-fn list_records(archive: &[u8], state: State, tables: &mut [u32]) {
-    let mut at = state;
-    let mut turns = archive.len() / 8 + 1;
-    while 0 < turns {
-        let listed = list_record(archive, at, tables);
-        if listed.ended {
-            return;
-        }
-        at = listed.state;
-        turns -= 1;
-    }
-}
-
-// The listing of an archive.
-pub fn list(archive: &[u8], tables: &mut [u32]) {
-    print(b"trace 1\n");
-    let opened = reader::open(archive, tables);
-    let answer = opened.answer;
-    let state = opened.state;
-    if let Answer::End { number, place } = answer {
-        print_end(number, place);
-        return;
-    }
-    list_records(archive, state, tables);
-}
-
-fn print_hex_byte(byte: u8) {
-    io::print_hex(STDOUT_FILENO, byte as u64, 2);
-}
-
-// A line of bytes, each as two lower-case hexadecimal digits.
-pub fn print_hex(bytes: &[u8]) {
+// Bytes by two lower-case hexadecimal digits each.
+pub fn put_hex(out: &mut [u8], at: usize, bytes: &[u8]) -> usize
+    ensures { λ r. ⌜ Puts (now (out .entry)) at (hexShown (now (bytes .entry))) r (now (out .exit)) ⌝ }
+{
+    let mut last = at;
     let mut i = 0;
     while i < bytes.len() {
-        print_hex_byte(bytes[i]);
+        last = put_hex_byte(out, last, bytes[i]);
         i += 1;
     }
-    print(b"\n");
+    last
 }

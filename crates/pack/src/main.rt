@@ -1,35 +1,50 @@
 // Repacks the trace on standard input to standard output. Where it is refused nothing is written there, and standard
-// error has the refusal. An input of over 32,768 bytes is refused by its length alone.
+// error has the refusal. An input of over 32,768 bytes is refused by its length alone. Reading or writing that fails is
+// said on standard error, and then nothing else is written.
 use libc::STDERR_FILENO;
 use libc::STDIN_FILENO;
 use libc::STDOUT_FILENO;
+use lines::input::Input;
 use packer::Packed;
 
+// Says why there is no repacked trace.
+fn fail(sentence: &[u8]) {
+    io::write_all(STDERR_FILENO, sentence);
+}
+
 // The line of a refusal.
-fn print_refusal(number: u8, place: usize) {
-    io::write_all(STDERR_FILENO, b"end ");
-    io::print_decimal(STDERR_FILENO, number as u64);
-    io::write_all(STDERR_FILENO, b" ");
-    io::print_decimal(STDERR_FILENO, place as u64);
-    io::write_all(STDERR_FILENO, b"\n");
+fn refuse(number: u8, place: usize) {
+    let mut line = [0u8; 64];
+    let n = listings::put_end(&mut line, 0, number, place);
+    lines::output::write(STDERR_FILENO, &line, n);
 }
 
-fn write_bytes(bytes: &[u8]) {
-    io::write_all(STDOUT_FILENO, bytes);
+fn write_packed(output: &[u8], n: usize) {
+    if lines::output::write(STDOUT_FILENO, output, n) {
+        return;
+    }
+    fail(b"pack: standard output could not be written\n");
 }
 
-fn main() {
-    let mut input = [0u8; 32769];
-    let n = io::read_full(STDIN_FILENO, &mut input);
-    if 32768 < n {
-        print_refusal(2, 0);
+fn pack(input: &[u8]) {
+    if 32768 < input.len() {
+        refuse(2, 0);
         return;
     }
     let mut room = [0u32; 27648];
     let mut output = [0u8; 32768];
-    let packed = packer::repack(&input[..n], &mut room, &mut output);
+    let packed = packer::repack(input, &mut room, &mut output);
     match packed {
-        Packed::Refused { number, place } => print_refusal(number, place),
-        Packed::Written { length } => write_bytes(reader::text(&output, 0, length)),
+        Packed::Refused { number, place } => refuse(number, place),
+        Packed::Written { length } => write_packed(&output, length),
+    }
+}
+
+fn main() {
+    let mut buffer = [0u8; 32769];
+    let input = lines::input::read(STDIN_FILENO, &mut buffer);
+    match input {
+        Input::Bytes(n) => pack(reader::text(&buffer, 0, n)),
+        Input::Failed => fail(b"pack: standard input could not be read\n"),
     }
 }

@@ -1,8 +1,15 @@
 // Makes every call of the file probes.bin: steps and arguments with any state and any tables. Each is a header of 96
-// bytes, table entries, and an archive of at most 4,096 bytes.
+// bytes, table entries, and an archive of at most 4,096 bytes. What a call shows is written at once. Reading or writing
+// that fails, and a file that ends inside a call, are said on standard error and stop the program.
+ghost use mathlib.Core.Path.{_≡_};
 ghost use Prim.Native.Nat.{_<_};
+ghost use lib.ListN.{length};
 use contexts::State;
-use lines::input::read_bytes;
+use libc::STDERR_FILENO;
+use libc::STDOUT_FILENO;
+use lines::input::Outcome;
+use lines::put_bytes;
+use lines::put_number;
 use reader::Answer;
 
 // The word of this number, from 0, of a header.
@@ -39,161 +46,239 @@ fn state_of(header: &[u8; 96]) -> State {
     }
 }
 
-fn print_half(n: u32) {
-    lines::print_number(n as u64);
+// Says why the calls are not all made, and answers that they do not go on.
+fn fail(sentence: &[u8]) -> bool {
+    io::write_all(STDERR_FILENO, sentence);
+    false
 }
 
-fn print_ids(ids: [u32; 8]) {
+fn put_half(out: &mut [u8], at: usize, n: u32) -> usize {
+    put_number(out, at, n as u64)
+}
+
+fn put_ids(out: &mut [u8], at: usize, ids: [u32; 8]) -> usize {
+    let mut last = at;
     let mut i = 0;
     while i < 8 {
-        print_half(ids[i]);
+        last = put_half(out, last, ids[i]);
         i += 1;
     }
+    last
 }
 
-fn print_state(state: State) {
+fn put_state(out: &mut [u8], at: usize, state: State) -> usize {
     let ids = state.ids;
-    lines::print(b"s");
-    lines::print_number(state.place as u64);
-    lines::print_number(state.rate);
-    print_ids(ids);
-    lines::print_number(state.count as u64);
-    lines::print_number(state.current as u64);
-    lines::print(b"\n");
+    let first = put_bytes(out, at, b"s");
+    let second = put_number(out, first, state.place as u64);
+    let third = put_number(out, second, state.rate);
+    let fourth = put_ids(out, third, ids);
+    let fifth = put_number(out, fourth, state.count as u64);
+    let last = put_number(out, fifth, state.current as u64);
+    put_bytes(out, last, b"\n")
+}
+
+fn put_word(out: &mut [u8], at: usize, position: usize, word: u32) -> usize {
+    let first = put_bytes(out, at, b"t");
+    let second = put_number(out, first, position as u64);
+    let last = put_half(out, second, word);
+    put_bytes(out, last, b"\n")
 }
 
 // A table word, where it changed.
-fn print_change(before: &[u32], after: &[u32], position: usize) {
+fn put_change(out: &mut [u8], at: usize, before: &[u32], after: &[u32], position: usize) -> usize {
     if before.len() <= position {
-        return;
+        return at;
     }
     if after.len() <= position {
-        return;
+        return at;
     }
     if before[position] == after[position] {
-        return;
+        return at;
     }
-    lines::print(b"t");
-    lines::print_number(position as u64);
-    print_half(after[position]);
-    lines::print(b"\n");
+    put_word(out, at, position, after[position])
 }
 
-fn print_changes(before: &[u32], after: &[u32]) {
+fn put_changes(out: &mut [u8], at: usize, before: &[u32], after: &[u32]) -> usize {
+    let mut last = at;
     let mut i = 0;
     while i < before.len() {
-        print_change(before, after, i);
+        last = put_change(out, last, before, after, i);
         i += 1;
     }
+    last
 }
 
-fn print_step(archive: &[u8], answer: Answer) {
+fn put_answer(out: &mut [u8], at: usize, archive: &[u8], answer: Answer) -> usize {
     if let Answer::Nothing = answer {
-        lines::print(b"-\n");
-        return;
+        return put_bytes(out, at, b"-\n");
     }
-    lines::print_answer(archive, answer);
+    listings::put_answer(out, at, archive, answer)
 }
 
-fn show_step(archive: &[u8], state: State, before: &[u32], tables: &mut [u32]) {
+fn put_step(
+    out: &mut [u8],
+    at: usize,
+    archive: &[u8],
+    state: State,
+    before: &[u32],
+    tables: &mut [u32],
+) -> usize {
     let reply = reader::step(archive, state, tables);
     let answer = reply.answer;
     let next = reply.state;
-    print_step(archive, answer);
-    print_state(next);
-    print_changes(before, tables);
+    let second = put_answer(out, at, archive, answer);
+    let last = put_state(out, second, next);
+    put_changes(out, last, before, tables)
 }
 
-fn show_argument(archive: &[u8], state: State, tables: &[u32], event: usize, number: usize) {
-    lines::print_asked(
-        archive,
-        reader::argument(archive, state, tables, event, number),
-    );
+fn put_argument(
+    out: &mut [u8],
+    at: usize,
+    archive: &[u8],
+    state: State,
+    tables: &[u32],
+    event: usize,
+    number: usize,
+) -> usize {
+    let asked = reader::argument(archive, state, tables, event, number);
+    listings::put_asked(out, at, archive, asked)
 }
 
-// Sets one table entry from the file.
-fn read_entry(fd: i32, tables: &mut [u32]) {
+// Sets one table entry from the file, and answers whether it could be read.
+fn read_entry(fd: i32, tables: &mut [u32]) -> bool {
     let mut bytes = [0u8; 8];
-    io::read_full(fd, &mut bytes);
+    let outcome = lines::input::read_bytes(fd, &mut bytes, 8);
+    let Outcome::All = outcome else {
+        return false;
+    };
     let entry = words::word(&bytes, 0);
     let position = low_half(entry) as usize;
     if position < tables.len() {
         tables[position] = high_half(entry);
     }
+    true
 }
 
-fn read_entries(fd: i32, tables: &mut [u32], count: u32) {
+// Sets so many table entries, and answers whether they could all be read.
+fn read_entries(fd: i32, tables: &mut [u32], count: u32) -> bool {
     let mut left = count;
     while 0 < left {
-        read_entry(fd, tables);
-        left -= 1;
+        if read_entry(fd, tables) {
+            left -= 1;
+        } else {
+            return false;
+        }
     }
+    true
 }
 
 // Makes the call of a header that was read.
-fn show_call(header: &[u8; 96], archive: &[u8], before: &[u32], tables: &mut [u32]) {
+fn put_call(
+    out: &mut [u8],
+    at: usize,
+    header: &[u8; 96],
+    archive: &[u8],
+    before: &[u32],
+    tables: &mut [u32],
+) -> usize {
     let state = state_of(header);
     if low_half(word(header, 0)) == 0 {
-        show_step(archive, state, before, tables);
+        put_step(out, at, archive, state, before, tables)
     } else {
-        show_argument(
+        put_argument(
+            out,
+            at,
             archive,
             state,
             tables,
             word(header, 9) as usize,
             word(header, 10) as usize,
-        );
+        )
     }
 }
 
-// Makes the call of a header, whose table entries and archive come next in the file.
-fn show_probe(fd: i32, header: &[u8; 96]) -> bool {
-    let length = high_half(word(header, 0)) as usize;
-    let room = low_half(word(header, 11)) as usize;
-    let mut tables = [0u32; 7000];
-    let mut archive = [0u8; 4096];
-    if 7000 < room {
-        return false;
+// Writes the n bytes that a call shows, and answers whether they were all written. What fills the buffer may have been cut.
+fn write_call(out: &[u8], n: usize) -> bool {
+    if out.len() <= n {
+        return fail(b"probes: what a call shows is too long\n");
     }
-    if 4096 < length {
-        return false;
-    }
-    read_entries(fd, &mut tables, high_half(word(header, 11)));
-    let before = tables;
-    if read_bytes(fd, &mut archive, length) {
-        show_call(
-            header,
-            &archive[..length],
-            &before[..room],
-            &mut tables[..room],
-        );
+    if lines::output::write(STDOUT_FILENO, out, n) {
         return true;
     }
-    false
+    fail(b"probes: standard output could not be written\n")
 }
 
-// Makes the next call, and answers whether there was one.
-fn next_probe(fd: i32, probe: u64) -> bool {
-    let mut header = [0u8; 96];
-    if read_bytes(fd, &mut header, 96) {
-        lines::print(b"probe");
-        lines::print_number(probe);
-        lines::print(b"\n");
-        return show_probe(fd, &header);
+// Makes the call of a header, whose archive comes next in the file, and answers whether the calls go on.
+fn show_call(
+    fd: i32,
+    probe: u64,
+    header: &[u8; 96],
+    before: &[u32],
+    tables: &mut [u32],
+    out: &mut [u8],
+) -> bool {
+    let length = high_half(word(header, 0)) as usize;
+    let mut archive = [0u8; 4096];
+    let outcome = lines::input::read_bytes(fd, &mut archive, length);
+    let Outcome::All = outcome else {
+        return fail(b"probes: probes.bin could not be read to the end of a call\n");
+    };
+    let first = put_bytes(out, 0, b"probe");
+    let second = put_number(out, first, probe);
+    let call = put_bytes(out, second, b"\n");
+    let last = put_call(
+        out,
+        call,
+        header,
+        reader::text(&archive, 0, length),
+        before,
+        tables,
+    );
+    write_call(out, last)
+}
+
+// Makes the call of a header, whose table entries come next in the file, and answers whether the calls go on.
+fn show_probe(fd: i32, probe: u64, header: &[u8; 96], out: &mut [u8]) -> bool {
+    let room = low_half(word(header, 11)) as usize;
+    let mut tables = [0u32; 7000];
+    if 7000 < room {
+        return fail(b"probes: a call has tables of more than 7,000 words\n");
     }
-    false
+    if read_entries(fd, &mut tables, high_half(word(header, 11))) {
+        let before = tables;
+        return show_call(fd, probe, header, &before[..room], &mut tables[..room], out);
+    }
+    fail(b"probes: probes.bin could not be read to the end of a call\n")
+}
+
+// Makes the next call, and answers whether the calls go on.
+fn next_probe(fd: i32, probe: u64, out: &mut [u8]) -> bool {
+    let mut header = [0u8; 96];
+    let outcome = lines::input::read_bytes(fd, &mut header, 96);
+    match outcome {
+        Outcome::All => show_probe(fd, probe, &header, out),
+        Outcome::End => false,
+        Outcome::Failed => fail(b"probes: probes.bin could not be read to the end of a call\n"),
+    }
 }
 
 // Nothing says that a file ends, so the calls are counted, up to a number that no file reaches.
-fn show_probes(fd: i32) {
+fn show_probes(fd: i32, out: &mut [u8]) {
     let mut probe = 0;
     while probe < 1000000 {
-        if next_probe(fd, probe) {
+        if next_probe(fd, probe, out) {
             probe += 1;
         } else {
             return;
         }
     }
+}
+
+// Room for what a call shows: a line for each word of the tables, and a few more.
+fn buffer() -> [u8; 262144]
+    ensures { λ r. ⌜ 262144 ≡ length r ⌝ }
+{
+    [0; 262144]
 }
 
 fn main() {
@@ -202,6 +287,7 @@ fn main() {
         os::fail(b"probes.bin");
         return;
     }
-    show_probes(fd);
+    let mut out = buffer();
+    show_probes(fd, &mut out);
     libc::close(fd);
 }

@@ -1,7 +1,12 @@
 // Repacks every archive of the file rooms.bin with rooms and outputs that are too short, exactly long enough and longer.
 // Both are filled before each call, and a line says the reply and what stands in them after it. In the file each archive
-// stands behind its 32-bit length, at most 256.
-use lines::input::read_bytes;
+// stands behind its 32-bit length, at most 256. What an archive shows is written at once. Reading or writing that fails,
+// and a file that ends inside an archive, are said on standard error and stop the program.
+use libc::STDERR_FILENO;
+use libc::STDOUT_FILENO;
+use lines::input::Outcome;
+use lines::put_bytes;
+use lines::put_number;
 use packer::Packed;
 
 // What stands before a call in a word of the room and in a byte of the output, by its position. None is 0.
@@ -68,69 +73,101 @@ fn words_zero(words: &[u32], to: usize) -> bool {
     true
 }
 
-fn print_room(room: &[u32]) {
+// Says why the archives are not all shown, and answers that they do not go on.
+fn fail(sentence: &[u8]) -> bool {
+    io::write_all(STDERR_FILENO, sentence);
+    false
+}
+
+fn put_room(out: &mut [u8], at: usize, room: &[u32]) -> usize {
     if words_kept(room, 0) {
-        lines::print(b", room as it was");
-        return;
+        return put_bytes(out, at, b", room as it was");
     }
     if words_zero(room, 27648) {
         if words_kept(room, 27648) {
-            lines::print(b", room zero and as it was behind");
-            return;
+            return put_bytes(out, at, b", room zero and as it was behind");
         }
     }
-    lines::print(b", ROOM WRONG");
+    put_bytes(out, at, b", ROOM WRONG")
 }
 
-fn print_output(output: &[u8], expected: &[u8]) {
+fn put_output(out: &mut [u8], at: usize, output: &[u8], expected: &[u8]) -> usize {
     if bytes_kept(output, 0) {
-        lines::print(b", output as it was");
-        return;
+        return put_bytes(out, at, b", output as it was");
     }
     if words::same_bytes(reader::text(output, 0, expected.len()), expected) {
         if bytes_kept(output, expected.len()) {
-            lines::print(b", output written and as it was behind");
-            return;
+            return put_bytes(out, at, b", output written and as it was behind");
         }
     }
-    lines::print(b", OUTPUT WRONG");
+    put_bytes(out, at, b", OUTPUT WRONG")
 }
 
-fn print_reply(packed: Packed) {
+fn put_two(out: &mut [u8], at: usize, first: u64, second: u64) -> usize {
+    let last = put_number(out, at, first);
+    put_number(out, last, second)
+}
+
+fn put_reply(out: &mut [u8], at: usize, packed: Packed) -> usize {
     match packed {
-        Packed::Refused { number, place } => {
-            lines::print_number(number as u64);
-            lines::print_number(place as u64);
-        }
-        Packed::Written { length } => {
-            lines::print_number(0);
-            lines::print_number(length as u64);
-        }
+        Packed::Refused { number, place } => put_two(out, at, number as u64, place as u64),
+        Packed::Written { length } => put_two(out, at, 0, length as u64),
     }
+}
+
+fn put_lengths(out: &mut [u8], at: usize, room: usize, output: usize) -> usize {
+    let first = put_bytes(out, at, b"room");
+    let second = put_number(out, first, room as u64);
+    let third = put_bytes(out, second, b" output");
+    let last = put_number(out, third, output as u64);
+    put_bytes(out, last, b":")
+}
+
+// The line of a call with a room and an output that were filled.
+fn put_call(
+    out: &mut [u8],
+    at: usize,
+    archive: &[u8],
+    expected: &[u8],
+    room: &mut [u32],
+    output: &mut [u8],
+) -> usize {
+    let packed = packer::repack(archive, room, output);
+    let second = put_reply(out, at, packed);
+    let third = put_room(out, second, room);
+    let last = put_output(out, third, output, expected);
+    put_bytes(out, last, b"\n")
 }
 
 // One call.
-fn try_call(archive: &[u8], expected: &[u8], room: &mut [u32], output: &mut [u8]) {
+fn try_call(
+    out: &mut [u8],
+    at: usize,
+    archive: &[u8],
+    expected: &[u8],
+    room: &mut [u32],
+    output: &mut [u8],
+) -> usize {
     fill_words(room);
     fill_bytes(output);
-    lines::print(b"room");
-    lines::print_number(room.len() as u64);
-    lines::print(b" output");
-    lines::print_number(output.len() as u64);
-    lines::print(b":");
-    let packed = packer::repack(archive, room, output);
-    print_reply(packed);
-    print_room(room);
-    print_output(output, expected);
-    lines::print(b"\n");
+    let reply = put_lengths(out, at, room.len(), output.len());
+    put_call(out, reply, archive, expected, room, output)
 }
 
 // The call with an output of n bytes.
-fn try_output(archive: &[u8], expected: &[u8], room: &mut [u32], n: usize) {
+fn try_output(
+    out: &mut [u8],
+    at: usize,
+    archive: &[u8],
+    expected: &[u8],
+    room: &mut [u32],
+    n: usize,
+) -> usize {
     let mut output = [0u8; 260];
-    if n <= 260 {
-        try_call(archive, expected, room, &mut output[..n]);
+    if 260 < n {
+        return at;
     }
+    try_call(out, at, archive, expected, room, &mut output[..n])
 }
 
 fn one_less(n: usize) -> usize {
@@ -141,66 +178,102 @@ fn one_less(n: usize) -> usize {
 }
 
 // The calls with an output one byte too short, exactly long enough, and longer.
-fn try_outputs(archive: &[u8], expected: &[u8], room: &mut [u32]) {
+fn try_outputs(
+    out: &mut [u8],
+    at: usize,
+    archive: &[u8],
+    expected: &[u8],
+    room: &mut [u32],
+) -> usize {
     let n = expected.len();
     if 256 < n {
-        return;
+        return at;
     }
-    try_output(archive, expected, room, one_less(n));
-    try_output(archive, expected, room, n);
-    try_output(archive, expected, room, n + 3);
+    let second = try_output(out, at, archive, expected, room, one_less(n));
+    let last = try_output(out, second, archive, expected, room, n);
+    try_output(out, last, archive, expected, room, n + 3)
 }
 
 // The calls with a room of n words.
-fn try_room(archive: &[u8], expected: &[u8], n: usize) {
+fn try_room(out: &mut [u8], at: usize, archive: &[u8], expected: &[u8], n: usize) -> usize {
     let mut room = [0u32; 27650];
-    if n <= 27650 {
-        try_outputs(archive, expected, &mut room[..n]);
+    if 27650 < n {
+        return at;
     }
+    try_outputs(out, at, archive, expected, &mut room[..n])
 }
 
 // The calls with a room one word too short, exactly long enough, and longer.
-fn try_rooms(archive: &[u8], expected: &[u8]) {
-    try_room(archive, expected, 27647);
-    try_room(archive, expected, 27648);
-    try_room(archive, expected, 27650);
+fn try_rooms(out: &mut [u8], at: usize, archive: &[u8], expected: &[u8]) -> usize {
+    let second = try_room(out, at, archive, expected, 27647);
+    let last = try_room(out, second, archive, expected, 27648);
+    try_room(out, last, archive, expected, 27650)
+}
+
+// What is written for an archive, and the calls.
+fn try_written(out: &mut [u8], at: usize, archive: &[u8], written: &[u8]) -> usize {
+    let digits = lines::put_hex(out, at, written);
+    let last = put_bytes(out, digits, b"\n");
+    try_rooms(out, last, archive, written)
 }
 
 // An archive, what is written for it, and the calls. Where it is refused, they are made as if it were written as it is.
-fn show_archive(archive: &[u8]) {
+fn put_archive(out: &mut [u8], archive: &[u8]) -> usize {
     let mut room = [0u32; 27648];
     let mut output = [0u8; 256];
     let packed = packer::repack(archive, &mut room, &mut output);
-    lines::print(b"archive");
-    lines::print_number(archive.len() as u64);
-    lines::print(b":");
-    print_reply(packed);
-    lines::print(b"\n");
+    let first = put_bytes(out, 0, b"archive");
+    let second = put_number(out, first, archive.len() as u64);
+    let third = put_bytes(out, second, b":");
+    let fourth = put_reply(out, third, packed);
+    let last = put_bytes(out, fourth, b"\n");
     match packed {
         Packed::Refused {
             number: _,
             place: _,
-        } => try_rooms(archive, archive),
-        Packed::Written { length } => {
-            let written = reader::text(&output, 0, length);
-            lines::print_hex(written);
-            try_rooms(archive, written);
-        }
+        } => try_rooms(out, last, archive, archive),
+        Packed::Written { length } => try_written(
+            out,
+            last,
+            archive,
+            reader::text(&output, 0, length),
+        ),
     }
 }
 
-// Shows the next archive, and answers whether there was one.
+// Writes the n bytes that an archive shows, and answers whether they were all written. What fills the buffer may have
+// been cut.
+fn write_archive(out: &[u8], n: usize) -> bool {
+    if out.len() <= n {
+        return fail(b"rooms: what an archive shows is too long\n");
+    }
+    if lines::output::write(STDOUT_FILENO, out, n) {
+        return true;
+    }
+    fail(b"rooms: standard output could not be written\n")
+}
+
+// Shows the next archive, of n bytes, and answers whether the archives go on.
+fn show_archive(fd: i32, n: usize) -> bool {
+    let mut archive = [0u8; 256];
+    let mut out = [0u8; 8192];
+    let outcome = lines::input::read_bytes(fd, &mut archive, n);
+    let Outcome::All = outcome else {
+        return fail(b"rooms: rooms.bin could not be read to the end of an archive\n");
+    };
+    let last = put_archive(&mut out, reader::text(&archive, 0, n));
+    write_archive(&out, last)
+}
+
+// Shows the next archive, and answers whether the archives go on.
 fn next_archive(fd: i32) -> bool {
     let mut header = [0u8; 8];
-    let mut archive = [0u8; 256];
-    if read_bytes(fd, &mut header, 4) {
-        let n = words::word(&header, 0) as usize;
-        if read_bytes(fd, &mut archive, n) {
-            show_archive(reader::text(&archive, 0, n));
-            return true;
-        }
+    let outcome = lines::input::read_bytes(fd, &mut header, 4);
+    match outcome {
+        Outcome::All => show_archive(fd, words::word(&header, 0) as usize),
+        Outcome::End => false,
+        Outcome::Failed => fail(b"rooms: rooms.bin could not be read to the end of an archive\n"),
     }
-    false
 }
 
 // Nothing says that a file ends, so the archives are counted, up to a number that no file reaches.

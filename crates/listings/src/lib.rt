@@ -1,0 +1,331 @@
+// The listing of document 01, put into a lent buffer. Each function puts its bytes from a place on and answers the place
+// behind them; what does not fit is left out. Nothing here asks anything of its caller.
+ghost use mathlib.Core.Path.{_≡_};
+ghost use Rattle.format.specs.Limits.{smallFormat};
+ghost use Rattle.reader.specs.Step.{stepReply, stepTables};
+ghost use Rattle.lines.specs.Put.{Puts};
+ghost use Rattle.listings.specs.Line.{providerInfoLine, sectionLine, providerEventLine, initializationLine, skippedLine, eventStart, eventReferences, extraShown, eventLine, argumentLine, endLine, answerLine, askedLine};
+ghost use Rattle.listings.specs.Listing.{argumentLines, answerArguments, isEnd, stepLines, linesFrom, tablesFrom, stepsOf, listing, listTables, inputListing, inputTables};
+use contexts::State;
+use lines::put_bytes;
+use lines::put_number;
+use lines::put_provider;
+use lines::put_text;
+use lines::put_text_bytes;
+use lines::put_thread;
+use lines::put_value;
+use lines::value_type;
+use reader::Answer;
+use reader::Asked;
+use reader::ShownArgument;
+use reader::ShownEvent;
+
+pub fn put_end(out: &mut [u8], at: usize, number: u8, place: usize) -> usize
+    ensures { λ r. ⌜ Puts (now (out .entry)) at (endLine number place) r (now (out .exit)) ⌝ }
+{
+    let first = put_bytes(out, at, b"end");
+    let second = put_number(out, first, number as u64);
+    let last = put_number(out, second, place as u64);
+    put_bytes(out, last, b"\n")
+}
+
+fn put_provider_info(out: &mut [u8], at: usize, id: u32, name: &[u8]) -> usize
+    ensures { λ r. ⌜ Puts (now (out .entry)) at (providerInfoLine id (now (name .entry))) r (now (out .exit)) ⌝ }
+{
+    let first = put_bytes(out, at, b"P");
+    let second = put_number(out, first, id as u64);
+    let last = put_text_bytes(out, second, name);
+    put_bytes(out, last, b"\n")
+}
+
+fn put_section(out: &mut [u8], at: usize, id: u32) -> usize
+    ensures { λ r. ⌜ Puts (now (out .entry)) at (sectionLine id) r (now (out .exit)) ⌝ }
+{
+    let first = put_bytes(out, at, b"S");
+    let last = put_number(out, first, id as u64);
+    put_bytes(out, last, b"\n")
+}
+
+fn put_provider_event(out: &mut [u8], at: usize, id: u32, event: u8) -> usize
+    ensures { λ r. ⌜ Puts (now (out .entry)) at (providerEventLine id event) r (now (out .exit)) ⌝ }
+{
+    let first = put_bytes(out, at, b"V");
+    let second = put_number(out, first, id as u64);
+    let last = put_number(out, second, event as u64);
+    put_bytes(out, last, b"\n")
+}
+
+fn put_initialization(out: &mut [u8], at: usize, rate: u64) -> usize
+    ensures { λ r. ⌜ Puts (now (out .entry)) at (initializationLine rate) r (now (out .exit)) ⌝ }
+{
+    let first = put_bytes(out, at, b"I");
+    let last = put_number(out, first, rate);
+    put_bytes(out, last, b"\n")
+}
+
+fn put_skipped(out: &mut [u8], at: usize, kind: u8, size: u64) -> usize
+    ensures { λ r. ⌜ Puts (now (out .entry)) at (skippedLine kind size) r (now (out .exit)) ⌝ }
+{
+    let first = put_bytes(out, at, b"K");
+    let second = put_number(out, first, kind as u64);
+    let last = put_number(out, second, size);
+    put_bytes(out, last, b"\n")
+}
+
+// An event's line up to its rate.
+fn put_event_start(out: &mut [u8], at: usize, event: ShownEvent) -> usize
+    ensures { λ r. ⌜ Puts (now (out .entry)) at (eventStart event) r (now (out .exit)) ⌝ }
+{
+    let provider = event.provider;
+    let first = put_bytes(out, at, b"E");
+    let second = put_number(out, first, event.kind as u64);
+    let third = put_provider(out, second, provider);
+    let last = put_number(out, third, event.timestamp);
+    put_number(out, last, event.rate)
+}
+
+// What an event's line says of its references.
+fn put_event_references(out: &mut [u8], at: usize, archive: &[u8], event: ShownEvent) -> usize
+    ensures { λ r. ⌜ Puts (now (out .entry)) at (eventReferences (now (archive .entry)) event) r (now (out .exit)) ⌝ }
+{
+    let thread = event.thread;
+    let category = event.category;
+    let name = event.name;
+    let second = put_thread(out, at, thread);
+    let last = put_text(out, second, archive, category);
+    put_text(out, last, archive, name)
+}
+
+// The extra word of an event, where its type has one.
+fn put_extra(out: &mut [u8], at: usize, kind: u8, extra: u64) -> usize
+    ensures { λ r. ⌜ Puts (now (out .entry)) at (extraShown kind extra) r (now (out .exit)) ⌝ }
+{
+    if records::has_extra(kind as u64) {
+        return put_number(out, at, extra);
+    }
+    at
+}
+
+fn put_event(out: &mut [u8], at: usize, archive: &[u8], event: ShownEvent) -> usize
+    ensures { λ r. ⌜ Puts (now (out .entry)) at (eventLine (now (archive .entry)) event) r (now (out .exit)) ⌝ }
+{
+    let second = put_event_start(out, at, event);
+    let third = put_event_references(out, second, archive, event);
+    let fourth = put_number(out, third, event.count as u64);
+    let last = put_extra(out, fourth, event.kind, event.extra);
+    put_bytes(out, last, b"\n")
+}
+
+// The line of an answer: its item's or its end's, and none where it shows nothing.
+pub fn put_answer(out: &mut [u8], at: usize, archive: &[u8], answer: Answer) -> usize
+    ensures { λ r. ⌜ Puts (now (out .entry)) at (answerLine (now (archive .entry)) answer) r (now (out .exit)) ⌝ }
+{
+    match answer {
+        Answer::End { number, place } => put_end(out, at, number, place),
+        Answer::Nothing => at,
+        Answer::Magic => put_bytes(out, at, b"M\n"),
+        Answer::ProviderInfo { id, place, length } => put_provider_info(
+            out,
+            at,
+            id,
+            reader::text(archive, place, length),
+        ),
+        Answer::Section { id } => put_section(out, at, id),
+        Answer::ProviderEvent { id, event } => put_provider_event(out, at, id, event),
+        Answer::Initialization { rate } => put_initialization(out, at, rate),
+        Answer::Event(event) => put_event(out, at, archive, event),
+        Answer::Skipped { kind, size } => put_skipped(out, at, kind, size),
+    }
+}
+
+fn put_argument(out: &mut [u8], at: usize, archive: &[u8], argument: ShownArgument) -> usize
+    ensures { λ r. ⌜ Puts (now (out .entry)) at (argumentLine (now (archive .entry)) argument) r (now (out .exit)) ⌝ }
+{
+    let name = argument.name;
+    let value = argument.value;
+    let first = put_bytes(out, at, b"A");
+    let second = put_number(out, first, value_type(value));
+    let third = put_text(out, second, archive, name);
+    let last = put_value(out, third, archive, value);
+    put_bytes(out, last, b"\n")
+}
+
+// The line of what was asked for: the argument's, or its refusal's.
+pub fn put_asked(out: &mut [u8], at: usize, archive: &[u8], asked: Asked) -> usize
+    ensures { λ r. ⌜ Puts (now (out .entry)) at (askedLine (now (archive .entry)) asked) r (now (out .exit)) ⌝ }
+{
+    match asked {
+        Asked::Refused { number, place } => put_end(out, at, number, place),
+        Asked::Argument(argument) => put_argument(out, at, archive, argument),
+    }
+}
+
+// The lines of so many arguments of the event at a place, asked for in the state right after it.
+fn put_arguments(
+    out: &mut [u8],
+    at: usize,
+    archive: &[u8],
+    state: State,
+    tables: &[u32],
+    place: usize,
+    count: usize,
+) -> usize
+    ensures { λ r. ⌜ Puts (now (out .entry)) at (argumentLines smallFormat (now (archive .entry)) (now (tables .entry)) state place 0 count) r (now (out .exit)) ⌝ }
+{
+    let mut last = at;
+    let mut number = 0;
+    while number < count {
+        let asked = reader::argument(archive, state, tables, place, number);
+        last = put_asked(out, last, archive, asked);
+        number += 1;
+    }
+    last
+}
+
+// The lines behind that of an answer: an event's arguments.
+fn put_answer_arguments(
+    out: &mut [u8],
+    at: usize,
+    archive: &[u8],
+    state: State,
+    tables: &[u32],
+    answer: Answer,
+) -> usize
+    ensures { λ r. ⌜ Puts (now (out .entry)) at (answerArguments smallFormat (now (archive .entry)) (now (tables .entry)) state answer) r (now (out .exit)) ⌝ }
+{
+    match answer {
+        Answer::Event(event) => put_arguments(
+            out,
+            at,
+            archive,
+            state,
+            tables,
+            event.place,
+            event.count,
+        ),
+        Answer::End {
+            number: _,
+            place: _,
+        } => at,
+        Answer::Nothing => at,
+        Answer::Magic => at,
+        Answer::ProviderInfo {
+            id: _,
+            place: _,
+            length: _,
+        } => at,
+        Answer::Section { id: _ } => at,
+        Answer::ProviderEvent { id: _, event: _ } => at,
+        Answer::Initialization { rate: _ } => at,
+        Answer::Skipped { kind: _, size: _ } => at,
+    }
+}
+
+// Whether an answer is the last.
+fn is_end(answer: Answer) -> bool
+    ensures { λ r. ⌜ r ≡ isEnd answer ⌝ }
+{
+    match answer {
+        Answer::End {
+            number: _,
+            place: _,
+        } => true,
+        Answer::Nothing => false,
+        Answer::Magic => false,
+        Answer::ProviderInfo {
+            id: _,
+            place: _,
+            length: _,
+        } => false,
+        Answer::Section { id: _ } => false,
+        Answer::ProviderEvent { id: _, event: _ } => false,
+        Answer::Initialization { rate: _ } => false,
+        Answer::Event(_) => false,
+        Answer::Skipped { kind: _, size: _ } => false,
+    }
+}
+
+// Where a listing stands, in the archive and in the buffer, and whether it ended there.
+struct Listed {
+    state: State,
+    at: usize,
+    ended: bool,
+}
+
+// The lines of one record.
+fn list_record(
+    out: &mut [u8],
+    at: usize,
+    archive: &[u8],
+    state: State,
+    tables: &mut [u32],
+) -> Listed
+    ensures { λ r. ⌜ Puts (now (out .entry)) at (stepLines smallFormat (now (archive .entry)) (now (tables .entry)) state) (r .at) (now (out .exit)) ⌝ }
+    ensures { λ r. ⌜ r .state ≡ stepReply smallFormat (now (archive .entry)) (now (tables .entry)) state .state ⌝ }
+    ensures { λ r. ⌜ r .ended ≡ isEnd (stepReply smallFormat (now (archive .entry)) (now (tables .entry)) state .answer) ⌝ }
+    ensures { λ _. ⌜ now (tables .exit) ≡ stepTables smallFormat (now (archive .entry)) (now (tables .entry)) state ⌝ }
+{
+    let reply = reader::step(archive, state, tables);
+    let answer = reply.answer;
+    let next = reply.state;
+    let arguments = put_answer(out, at, archive, answer);
+    let last = put_answer_arguments(out, arguments, archive, next, tables, answer);
+    Listed {
+        state: next,
+        at: last,
+        ended: is_end(answer),
+    }
+}
+
+// The lines from a state to the end. A record takes a word or more, so no reading uses these turns up.
+fn list_records(
+    out: &mut [u8],
+    at: usize,
+    archive: &[u8],
+    state: State,
+    tables: &mut [u32],
+) -> usize
+    ensures { λ r. ⌜ Puts (now (out .entry)) at (linesFrom smallFormat (now (archive .entry)) (stepsOf (now (archive .entry))) state (now (tables .entry))) r (now (out .exit)) ⌝ }
+    ensures { λ _. ⌜ now (tables .exit) ≡ tablesFrom smallFormat (now (archive .entry)) (stepsOf (now (archive .entry))) state (now (tables .entry)) ⌝ }
+{
+    let mut next = state;
+    let mut last = at;
+    let mut turns = archive.len() / 8 + 1;
+    while 0 < turns {
+        let listed = list_record(out, last, archive, next, tables);
+        last = listed.at;
+        if listed.ended {
+            return last;
+        }
+        next = listed.state;
+        turns -= 1;
+    }
+    last
+}
+
+// The listing of an archive.
+pub fn list(out: &mut [u8], at: usize, archive: &[u8], tables: &mut [u32]) -> usize
+    ensures { λ r. ⌜ Puts (now (out .entry)) at (listing smallFormat (now (archive .entry)) (now (tables .entry))) r (now (out .exit)) ⌝ }
+    ensures { λ _. ⌜ now (tables .exit) ≡ listTables smallFormat (now (archive .entry)) (now (tables .entry)) ⌝ }
+{
+    let first = put_bytes(out, at, b"trace 1\n");
+    let opened = reader::open(archive, tables);
+    let answer = opened.answer;
+    let state = opened.state;
+    if is_end(answer) {
+        return put_answer(out, first, archive, answer);
+    }
+    list_records(out, first, archive, state, tables)
+}
+
+// The listing of an input, of which over 32,768 bytes are refused by their number alone.
+pub fn list_input(out: &mut [u8], at: usize, input: &[u8], tables: &mut [u32]) -> usize
+    ensures { λ r. ⌜ Puts (now (out .entry)) at (inputListing smallFormat (now (input .entry)) (now (tables .entry))) r (now (out .exit)) ⌝ }
+    ensures { λ _. ⌜ now (tables .exit) ≡ inputTables smallFormat (now (input .entry)) (now (tables .entry)) ⌝ }
+{
+    if 32768 < input.len() {
+        let last = put_bytes(out, at, b"trace 1\n");
+        return put_end(out, last, 2, 0);
+    }
+    list(out, at, input, tables)
+}
