@@ -70,8 +70,8 @@ spreadOf low high word = sumOf (field 0 31 word * low) (swappedOf (field 32 63 w
 -- a hash and four words more
 unfoldable pub joinOf : ℕ → ℕ → ℕ → ℕ → ℕ → ℕ
 joinOf hash a b c d =
-    sumOf (sumOf (spreadOf 0x9e3779b1 0x85ebca77 (sumOf hash a)) (spreadOf 0xc2b2ae3d 0x27d4eb2f b))
-    (sumOf (spreadOf 0x165667b1 0xd3a2646d c) (spreadOf 0xfd7046c5 0xb55a4f09 d))
+    sumOf (sumOf (spreadOf 0x27d4eb2f 0x165667b1 (sumOf hash a)) (spreadOf 0x5bd1e995 0x38b34ae5 b))
+    (sumOf (spreadOf 0x7ed55d15 0x4cf5ad43 c) (spreadOf 0x2745937f 0x1b873593 d))
 
 unfoldable pub leastOf : ℕ → ℕ → ℕ
 leastOf a b = pick (ltb a b) a b
@@ -111,12 +111,12 @@ hashOf seed bytes =
 -- 32 bits of a hash, in each of which all of its bits have a part; numbered names fall apart best by these numbers, of many that were tried
 unfoldable pub foldedOf : ℕ → ℕ
 foldedOf hash =
-    let mixed = spreadOf 0x9623ea5b 0x9733637b hash in
+    let mixed = spreadOf 0x13553b39 0x566fe581 hash in
     field 0 31 (field 0 31 mixed + field 32 63 mixed)
 
 -- the first slot of a key: its hash, scaled to the slots
 unfoldable pub startOf : ℕ → List ℕ → ℕ
-startOf slots key = foldedOf (hashOf (keyLabel key * 0xe862774f) (drop 1 key)) * slots / 2 ^ 32
+startOf slots key = foldedOf (hashOf (keyLabel key * 0x7eaec5c3) (drop 1 key)) * slots / 2 ^ 32
 
 -- the slot after s, around the end
 unfoldable pub nextOf : ℕ → ℕ → ℕ

@@ -46,18 +46,19 @@ fn spread(word: u64, low: u64, high: u64) -> u64
     )
 }
 
-// A hash and four words more. The eight products wait for nothing but their words.
+// A hash and four words more. The eight products wait for nothing but their words, and their constants have 31 bits, so that each stands in its
+// instruction.
 fn join(hash: u64, a: u64, b: u64, c: u64, d: u64) -> u64
     ensures { λ r. ⌜ r ≡ joinOf hash a b c d ⌝ }
 {
     std::num::wrapping_add_u64(
         std::num::wrapping_add_u64(
-            spread(std::num::wrapping_add_u64(hash, a), 0x9e3779b1, 0x85ebca77),
-            spread(b, 0xc2b2ae3d, 0x27d4eb2f),
+            spread(std::num::wrapping_add_u64(hash, a), 0x27d4eb2f, 0x165667b1),
+            spread(b, 0x5bd1e995, 0x38b34ae5),
         ),
         std::num::wrapping_add_u64(
-            spread(c, 0x165667b1, 0xd3a2646d),
-            spread(d, 0xfd7046c5, 0xb55a4f09),
+            spread(c, 0x7ed55d15, 0x4cf5ad43),
+            spread(d, 0x2745937f, 0x1b873593),
         ),
     )
 }
@@ -145,7 +146,7 @@ fn hash(bytes: &[u8], seed: u64) -> u64
 fn folded(hash: u64) -> u64
     ensures { λ r. ⌜ (r ≡ foldedOf hash) × (r < 2 ^ 32) ⌝ }
 {
-    let mixed = spread(hash, 0x9623ea5b, 0x9733637b);
+    let mixed = spread(hash, 0x13553b39, 0x566fe581);
     words::field(
         words::field(mixed, 0, 31) + words::field(mixed, 32, 63),
         0,
@@ -159,7 +160,7 @@ fn first_slot(archive: &[u8], slots: usize, place: usize, label: usize) -> usize
     ensures { λ r. ⌜ r ≡ startOf slots (keyOf (now (archive .entry)) place label) ⌝ }
 {
     let key = reader::text(archive, place, label % 65536);
-    (folded(hash(key, label as u64 * 0xe862774f)) as usize * slots) >> 32
+    (folded(hash(key, label as u64 * 0x7eaec5c3)) as usize * slots) >> 32
 }
 
 // The slot after s, around the end.
