@@ -40,7 +40,7 @@ pub fn read_bytes(fd: i32, buffer: &mut [u8], n: usize) -> Outcome
     ensures { λ r. ⌜ ReadsBytes (now (buffer .entry)) n r (now (buffer .exit)) ⌝ }
 {
     if buffer.len() < n {
-        return Outcome::Failed;
+        return Outcome::Failed; // the buffer is not touched
     }
     let input = read(fd, &mut buffer[..n]);
     let Input::Bytes(came) = input else {

@@ -1,7 +1,7 @@
 -- `read_bytes` meets its contract: only the first n bytes of the buffer are lent to the reading (reads-first).
 use lib.ListN.{take}
 use Rattle.lines.specs.declared.input.Outcome.the-variants.{All, End, Failed}
-use Rattle.lines.proofs.Inputs.{reads-first}
+use Rattle.lines.proofs.Inputs.{not-all, reads-first}
 use native.Mathlib.Omega.{arith}
 use mathlib.Core.Path.{_≡_, refl, sym, _∙_}
 use Prim.Native.Nat.{ℕ}
@@ -14,7 +14,7 @@ use Rattle.lines.proofs.input.read_bytes.Tie as tie
 returns : tie.Need-returns
 returns c =
     record {
-      holds = λ e. let z : _≡_ {A = ℕ} 0 1 = cc in absurd (omega arith);
+      holds = λ e. absurd (not-all e);
       short = λ h. (refl, refl);
       none = λ e. absurd (omega arith);
       kept = refl;
