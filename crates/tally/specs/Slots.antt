@@ -67,11 +67,11 @@ swappedOf word = field 32 63 word + field 0 31 word * 2 ^ 32
 unfoldable pub spreadOf : ℕ → ℕ → ℕ → ℕ
 spreadOf low high word = sumOf (field 0 31 word * low) (swappedOf (field 32 63 word * high))
 
--- a hash and four words more
+-- a hash and four words more; of many multipliers that were tried, threads with numbers in a row and numbered names fall apart best by these
 unfoldable pub joinOf : ℕ → ℕ → ℕ → ℕ → ℕ → ℕ
 joinOf hash a b c d =
-    sumOf (sumOf (spreadOf 0x27d4eb2f 0x165667b1 (sumOf hash a)) (spreadOf 0x5bd1e995 0x38b34ae5 b))
-    (sumOf (spreadOf 0x7ed55d15 0x4cf5ad43 c) (spreadOf 0x2745937f 0x1b873593 d))
+    sumOf (sumOf (spreadOf 0x11cb92d9 0x150665e9 (sumOf hash a)) (spreadOf 0x190f16e3 0x79204595 b))
+    (sumOf (spreadOf 0x1f740b41 0x545c46f3 c) (spreadOf 0x732eb6d7 0x7e0cc889 d))
 
 unfoldable pub leastOf : ℕ → ℕ → ℕ
 leastOf a b = pick (ltb a b) a b
@@ -108,7 +108,7 @@ hashOf seed bytes =
     pick (ltb n 8) (sumOf seed (fewOf bytes))
     (blockOf bytes (blocksOf bytes seed blocks) (leastOf (32 * blocks) (n - 8)) (n - 8))
 
--- 32 bits of a hash, in each of which all of its bits have a part; numbered names fall apart best by these numbers, of many that were tried
+-- 32 bits of a hash, in which each of its bits has a part; short numbered names fall apart best by these multipliers
 unfoldable pub foldedOf : ℕ → ℕ
 foldedOf hash =
     let mixed = spreadOf 0x13553b39 0x566fe581 hash in

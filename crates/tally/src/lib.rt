@@ -53,12 +53,12 @@ fn join(hash: u64, a: u64, b: u64, c: u64, d: u64) -> u64
 {
     std::num::wrapping_add_u64(
         std::num::wrapping_add_u64(
-            spread(std::num::wrapping_add_u64(hash, a), 0x27d4eb2f, 0x165667b1),
-            spread(b, 0x5bd1e995, 0x38b34ae5),
+            spread(std::num::wrapping_add_u64(hash, a), 0x11cb92d9, 0x150665e9),
+            spread(b, 0x190f16e3, 0x79204595),
         ),
         std::num::wrapping_add_u64(
-            spread(c, 0x7ed55d15, 0x4cf5ad43),
-            spread(d, 0x2745937f, 0x1b873593),
+            spread(c, 0x1f740b41, 0x545c46f3),
+            spread(d, 0x732eb6d7, 0x7e0cc889),
         ),
     )
 }
@@ -142,7 +142,7 @@ fn hash(bytes: &[u8], seed: u64) -> u64
     block(bytes, hash, least(32 * blocks, n - 8), n - 8)
 }
 
-// 32 bits of a hash, in each of which all of its bits have a part.
+// 32 bits of a hash, in which each of its bits has a part.
 fn folded(hash: u64) -> u64
     ensures { λ r. ⌜ (r ≡ foldedOf hash) × (r < 2 ^ 32) ⌝ }
 {
