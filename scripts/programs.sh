@@ -24,10 +24,14 @@ make_work() {
     trap 'exit 2' HUP INT TERM
 }
 
-# Whether the program was built and nothing that it is built of changed since.
+# Whether nothing that programs are built of changed since a file was written.
+is_newest() { # FILE
+    [ -f "$1" ] && [ -z "$(find "$home/crates.txt" "$home/crates" -newer "$1" | head -n 1)" ]
+}
+
+# Whether the program is built of the sources as they stand: it is newer, or its last build found it so.
 is_built() { # PROGRAM
-    [ -x "$home/target/bin/$1" ] && [ -f "$home/target/built/$1" ] &&
-        [ -z "$(find "$home/crates.txt" "$home/crates" -newer "$home/target/built/$1" | head -n 1)" ]
+    [ -x "$home/target/bin/$1" ] && { is_newest "$home/target/bin/$1" || is_newest "$home/target/built/$1"; }
 }
 
 # How many crates a program is made of, itself among them.
