@@ -1,21 +1,23 @@
 -- Laws of arguments: the name and then the value, where they stand, and what they cost. Assumes nothing.
 use Prim.Native.Nat.{ℕ, zero, suc, _+_, _-_, _%_, _≤_, _<_}
 use mathlib.Core.Path.{_≡_, refl, subst, ap, _∙_}
-use mathlib.Core.List.{List, [], _∷_}
-use mathlib.Core.Bool.{Bool, true, false, _&&_}
+use mathlib.Core.List.{[], List, _∷_}
+use mathlib.Core.Bool.{false, _&&_}
 use native.Mathlib.Omega.{arith}
 use borrow.Author.Tests.{ltb-false, eqb-false}
 use lib.Dec.{eqb, ltb}
 use lib.ListN.{length, drop, length-drop}
 use Rattle.words.specs.Word.{pick, wordAt, field}
+use Rattle.words.proofs.Tests.{cases, on-pick}
 use Rattle.format.specs.declared.Format.{Format}
 use Rattle.format.specs.declared.Reference.{Reference}
 use Rattle.format.specs.declared.Reference.the-variants.{Inline}
 use Rattle.format.specs.declared.Taken.{Taken}
 use Rattle.format.specs.declared.Taken.the-variants.{Refused as TextRefused, Part as TextRead}
 use Rattle.format.specs.Limits.{malformed}
-use Rattle.format.specs.Part.{words, takePart, takeText, takeWords, Body, refused as bodyRefused, body, prepend as prependPart, onTaken, onBody, takeParts, part, placeOf}
-use Rattle.format.proofs.Parts.{on-pick, inside-wider, Moves, text-moves}
+use Rattle.format.specs.declared.Part.the-variants.{Words as words}
+use Rattle.format.specs.Part.{takePart, takeText, takeWords, Body, refused as bodyRefused, body, prepend as prependPart, onTaken, onBody, takeParts, part, placeOf}
+use Rattle.format.proofs.Parts.{inside-wider, Moves, text-moves}
 use Rattle.arguments.specs.declared.Value.{Value}
 use Rattle.arguments.specs.declared.Value.the-variants.{Scalar as ScalarValue, Text}
 use Rattle.arguments.specs.declared.Argument.{Argument}
@@ -28,13 +30,10 @@ use Rattle.arguments.specs.declared.ValueTaken.the-variants.{Refused as 
 use Rattle.arguments.specs.declared.Texts.{Texts}
 use Rattle.arguments.specs.declared.Texts.the-variants.{Refused as TextsRefused, Texts as TextsRead}
 use Rattle.arguments.specs.declared.Walked.the-variants.{Refused as WalkRefused}
-use Rattle.arguments.specs.Argument.{argumentType, argumentSize, scalarWords, headerScalar, holdsWord, wordScalar, valueParts, valueOf, takeValue, argumentBody, argumentOf, Arguments, refused, arguments, prepend, onArgued, textIn, textsOf, valueText, argumentsOf, walked, numberedOf}
-use Rattle.arguments.specs.Loss.{valueBytes, argumentBytes, ValueInside, Fits, argumentKeeps, argumentsKeep}
-
--- a test and its two outcomes
-pub cases : {P : Type 0} (b : Bool) → (b ≡ true → P) → (b ≡ false → P) → P
-cases true f g = f refl
-cases false f g = g refl
+use Rattle.arguments.specs.Argument.{argumentType, argumentSize, scalarWords, headerScalar, holdsWord, wordScalar, valueParts, valueOf, argumentBody, argumentOf, Arguments, refused, arguments, prepend, onArgued, textIn, argumentsOf, walked, numberedOf}
+use Rattle.arguments.specs.Models.Reading.{takeValue, textsOf, valueText}
+use Rattle.arguments.specs.Loss.{valueBytes, argumentBytes, argumentKeeps, argumentsKeep}
+use Rattle.arguments.specs.Models.Bounds.{ValueInside, Fits}
 
 -- ---- the name, and then the value
 

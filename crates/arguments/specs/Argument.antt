@@ -1,8 +1,8 @@
 -- The arguments of an event, after "Argument" in document 01. An argument is read from the part of its event that starts at it;
 -- `place` is the byte place of that part in the archive.
 use Prim.Native.Nat.{ℕ, zero, suc, _+_, _-_, _*_}
-use mathlib.Core.List.{List, [], _∷_}
-use mathlib.Core.Bool.{Bool, true, false, _&&_}
+use mathlib.Core.List.{[], List, _∷_}
+use mathlib.Core.Bool.{Bool, false}
 use lib.ListN.{length, drop}
 use lib.Dec.{eqb, ltb}
 use Rattle.words.specs.Word.{pick, wordAt, field, signed}
@@ -10,20 +10,16 @@ use Rattle.format.specs.declared.Format.{Format}
 use Rattle.format.specs.declared.Reference.{Reference}
 use Rattle.format.specs.declared.Reference.the-variants.{Inline}
 use Rattle.format.specs.Limits.{malformed}
-use Rattle.format.specs.Part.{Part, words, text, takeParts, onBody, part, placeOf}
+use Rattle.format.specs.declared.Part.{Part}
+use Rattle.format.specs.declared.Part.the-variants.{Words as words, Text as text}
+use Rattle.format.specs.Part.{takeParts, onBody, part, placeOf}
 use Rattle.arguments.specs.declared.Scalar.{Scalar}
 use Rattle.arguments.specs.declared.Scalar.the-variants.{Null, Signed32, Unsigned32, Signed64, Unsigned64, Double, Pointer, KernelObject, Boolean, Unknown}
 use Rattle.arguments.specs.declared.Value.{Value}
 use Rattle.arguments.specs.declared.Value.the-variants.{Scalar as ScalarValue, Text}
 use Rattle.arguments.specs.declared.Argument.{Argument}
-use Rattle.arguments.specs.declared.Valued.{Valued}
-use Rattle.arguments.specs.declared.Valued.the-variants.{Refused as ValueRefused, Value as ValueRead}
 use Rattle.arguments.specs.declared.Argued.{Argued}
 use Rattle.arguments.specs.declared.Argued.the-variants.{Refused, Argument as Read}
-use Rattle.arguments.specs.declared.ValueTaken.{ValueTaken}
-use Rattle.arguments.specs.declared.ValueTaken.the-variants.{Refused as ValueTextRefused, Text as ValueText}
-use Rattle.arguments.specs.declared.Texts.{Texts}
-use Rattle.arguments.specs.declared.Texts.the-variants.{Refused as TextsRefused, Texts as TextsRead}
 use Rattle.arguments.specs.declared.Walked.{Walked}
 use Rattle.arguments.specs.declared.Walked.the-variants.{Refused as WalkRefused, End}
 
@@ -56,6 +52,19 @@ wordScalar type word =
     (pick (eqb type 7) (Pointer word)
     (KernelObject word))))
 
+-- the type of an argument with this value
+abbrev pub scalarType : Scalar → ℕ
+scalarType Null = 0
+scalarType (Signed32 n) = 1
+scalarType (Unsigned32 n) = 2
+scalarType (Signed64 n) = 3
+scalarType (Unsigned64 n) = 4
+scalarType (Double n) = 5
+scalarType (Pointer n) = 7
+scalarType (KernelObject n) = 8
+scalarType (Boolean b) = 9
+scalarType (Unknown type) = type
+
 -- the words that a value takes behind its argument's name
 abbrev pub scalarWords : Scalar → ℕ
 scalarWords Null = 0
@@ -81,12 +90,6 @@ valueOf header argument place reference =
     pick (eqb (argumentType header) 6) (Text reference)
     (pick (holdsWord (argumentType header)) (ScalarValue (wordScalar (argumentType header) (wordAt argument (placeOf reference - place))))
     (ScalarValue (headerScalar header)))
-
--- the value alone, whose parts start at `at`
-unfoldable pub takeValue : Format → List ℕ → ℕ → ℕ → ℕ → Valued
-takeValue f argument place at end =
-    onBody (takeParts f (valueParts (wordAt argument 0)) at end) ValueRefused
-    (λ references next. ValueRead (valueOf (wordAt argument 0) argument place (part 0 references)))
 
 -- "Argument: type [0..3], size [4..15], name [16..31], inline name stream, then the value"
 unfoldable pub argumentBody : Format → List ℕ → ℕ → Argued
@@ -122,30 +125,21 @@ abbrev pub textIn : Value → Reference
 textIn (ScalarValue s) = Inline 0 0
 textIn (Text reference) = reference
 
--- the texts of an argument alone, with its size
-unfoldable pub textsOf : Format → List ℕ → ℕ → Texts
-textsOf f rest place = onArgued (argumentOf f rest place) TextsRefused (λ a size. TextsRead (a .name) (textIn (a .value)) size)
-
--- the text of the value alone, whose parts start at `at`
-unfoldable pub valueText : Format → ℕ → ℕ → ℕ → ValueTaken
-valueText f header at end =
-    onBody (takeParts f (valueParts header) at end) ValueTextRefused
-    (λ references next. ValueText (pick (eqb (argumentType header) 6) (part 0 references) (Inline 0 0)))
-
 unfoldable pub argumentsOf : Format → ℕ → List ℕ → ℕ → Arguments
 argumentsOf f zero rest place = arguments [] place
 argumentsOf f (suc count) rest place =
     onArgued (argumentOf f rest place) refused (λ a size. prepend a (argumentsOf f count (drop size rest) (place + size)))
 
+-- so many arguments, as far as they are read
+unfoldable pub argumentsRead : Format → ℕ → List ℕ → ℕ → List Argument
+argumentsRead f zero rest place = []
+argumentsRead f (suc count) rest place =
+    onArgued (argumentOf f rest place) (λ number. []) (λ a size. a ∷ argumentsRead f count (drop size rest) (place + size))
+
 -- where they end
 abbrev pub walked : Arguments → Walked
 walked (refused number) = WalkRefused number
 walked (arguments l next) = End next
-
--- the arguments themselves
-abbrev pub listed : Arguments → List Argument
-listed (refused number) = []
-listed (arguments l next) = l
 
 -- the argument of a number, from 0
 unfoldable pub numberedOf : Format → ℕ → List ℕ → ℕ → Argued

@@ -1,13 +1,12 @@
 -- What an argument loses when it is repacked, after number 10 of document 01: "an unknown argument, appended words, or a nonzero reserved or padding bit".
-use Prim.Native.Nat.{ℕ, zero, suc, _+_, _*_, _%_, _≤_}
-use mathlib.Core.Path.{_≡_}
+use Prim.Native.Nat.{ℕ, zero, suc, _+_, _*_}
 use mathlib.Core.List.{List}
 use mathlib.Core.Bool.{Bool, true, false, _&&_}
 use lib.ListN.{length, drop}
 use lib.Dec.{eqb, ltb}
 use Rattle.words.specs.Word.{pick, wordAt, field}
 use Rattle.format.specs.declared.Format.{Format}
-use Rattle.format.specs.Part.{inlineBytes, Inside, paddingZero}
+use Rattle.format.specs.Part.{inlineBytes, paddingZero}
 use Rattle.arguments.specs.declared.Value.{Value}
 use Rattle.arguments.specs.declared.Value.the-variants.{Scalar as ScalarValue, Text}
 use Rattle.arguments.specs.declared.Argument.{Argument}
@@ -21,20 +20,6 @@ valueBytes (Text reference) = inlineBytes reference
 -- the bytes that an argument needs: its header, an inline name, its value
 abbrev pub argumentBytes : Argument → ℕ
 argumentBytes a = 8 + inlineBytes (a .name) + valueBytes (a .value)
-
--- a value's text stands between two places
-abbrev pub ValueInside : ℕ → ℕ → Value → Type 0
-ValueInside from to (ScalarValue s) = Unit {0}
-ValueInside from to (Text reference) = Inside from to reference
-
--- an argument that is read: its size is a whole number of words inside what is left of its event, and holds its name and its value
-pub record Fits (rest : List ℕ) (place : ℕ) (a : Argument) (size : ℕ) : Type 0 where
-  pub some : 8 ≤ size
-  pub whole : size % 8 ≡ 0
-  pub inside : size ≤ length rest
-  pub enough : argumentBytes a ≤ size
-  pub name : Inside place (place + size) (a .name)
-  pub value : ValueInside place (place + size) (a .value)
 
 -- the reserved bits of an argument's header, "those not listed": types 0, 3, 4, 5, 7, 8 [32..63]; 6 [48..63]; 9 [33..63]; 1 and 2 none
 unfoldable pub reservedBits : ℕ → ℕ

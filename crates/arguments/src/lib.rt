@@ -1,9 +1,11 @@
 // The arguments of an event, apart from any table. An argument is taken from the part of the event that starts at it.
 ghost use mathlib.Core.Path.{_≡_};
-ghost use Prim.Native.Nat.{ℕ, _+_, _-_, _*_, _^_, _<_, _≤_};
+ghost use Prim.Native.Nat.{_+_, _-_, _*_, _^_, _<_, _≤_};
 ghost use lib.ListN.{length};
-ghost use Rattle.arguments.specs.Argument.{scalarWords, headerScalar, wordScalar, holdsWord, takeValue, argumentOf, valueText, textsOf, argumentsOf, walked, numberedOf};
-ghost use Rattle.arguments.specs.Loss.{valueBytes, reservedBits, ValueInside, valuePaddingZero, Fits, argumentKeeps, argumentsKeep};
+ghost use Rattle.arguments.specs.Argument.{scalarWords, headerScalar, wordScalar, holdsWord, argumentOf, argumentsOf, walked, numberedOf};
+ghost use Rattle.arguments.specs.Models.Reading.{takeValue, valueText, textsOf};
+ghost use Rattle.arguments.specs.Loss.{valueBytes, reservedBits, valuePaddingZero, argumentKeeps, argumentsKeep};
+ghost use Rattle.arguments.specs.Models.Bounds.{ValueInside, Fits};
 use format::Format;
 use format::MALFORMED;
 use format::Reference;

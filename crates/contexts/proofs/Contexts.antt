@@ -1,8 +1,8 @@
 -- Laws of the contexts: what a search for an id finds, and what a state keeps that can belong to an archive. Assumes nothing.
 use Prim.Native.Nat.{ℕ, zero, suc, _+_, _%_, _<_, _≤_}
 use mathlib.Core.Path.{_≡_, refl, sym, subst, _∙_}
-use mathlib.Core.List.{List, [], _∷_}
-use mathlib.Core.Bool.{Bool, true, false, true≢false}
+use mathlib.Core.List.{[], List, _∷_}
+use mathlib.Core.Bool.{true, false, true≢false}
 use native.Mathlib.Numerals.{add-one}
 use native.Mathlib.Omega.{arith}
 use native.Mathlib.Nat.{add-sub-cancel}
@@ -11,16 +11,13 @@ use lib.Dec.{eqb, leb}
 use lib.ListN.{length, getD, drop, take, length-take, length-set}
 use lib.Seq.{drop-cons, getD-take, length-take-le, getD-set-same, getD-set-other}
 use Rattle.words.specs.Word.{pick}
+use Rattle.words.proofs.Tests.{cases}
 use Rattle.contexts.specs.Context.{findFrom, findId, belongsTo, entering, onFound, inContext, withId, providerOf}
 use Rattle.contexts.specs.declared.State.{State}
 use Rattle.contexts.specs.declared.Found.{Found}
 use Rattle.contexts.specs.declared.Found.the-variants.{At, Nothing}
 use Rattle.contexts.specs.declared.Entered.{Entered}
 use Rattle.contexts.specs.declared.Provider.the-variants.{Id}
-
-cases : {P : Type 0} (b : Bool) → (b ≡ true → P) → (b ≡ false → P) → P
-cases true f g = f refl
-cases false f g = g refl
 
 -- ---- the search for an id
 

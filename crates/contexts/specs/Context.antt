@@ -1,6 +1,6 @@
 -- The state of a reading and its contexts, after "Contexts" and number 4 of document 01.
 use Prim.Native.Nat.{ℕ, _+_, _-_, _%_}
-use mathlib.Core.List.{List, [], _∷_}
+use mathlib.Core.List.{[], List, _∷_}
 use mathlib.Core.Bool.{Bool, true, false, _&&_}
 use lib.ListN.{take, getD, set, replicate}
 use lib.Dec.{eqb, leb}

@@ -1,7 +1,7 @@
 // The state of a reading, and the contexts of providers.
 ghost use mathlib.Core.Path.{_≡_};
-ghost use Prim.Native.Nat.{ℕ, _+_, _^_, _<_, _≤_};
-ghost use lib.ListN.{length, set};
+ghost use Prim.Native.Nat.{_+_, _<_, _≤_};
+ghost use lib.ListN.{set};
 ghost use Rattle.contexts.specs.Context.{opening, belongsTo, findId, moved, rated, entering, providerOf};
 
 // Where a reading stands: its place, the tick rate in force, the provider ids as opened, and the current context,

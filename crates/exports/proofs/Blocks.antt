@@ -16,13 +16,15 @@ use Rattle.reader.specs.declared.ShownText.{ShownText}
 use Rattle.reader.specs.declared.ShownText.the-variants.{At, Unresolved}
 use Rattle.reader.specs.declared.ShownThread.{ShownThread}
 use Rattle.reader.specs.declared.ShownThread.the-variants.{Words, Unresolved as ThreadUnresolved}
+use Rattle.reader.specs.declared.ShownReferent.{ShownReferent}
+use Rattle.reader.specs.declared.ShownReferent.the-variants.{Text as TextReferent, Thread as ThreadReferent}
 use Rattle.reader.specs.declared.ShownValue.{ShownValue}
 use Rattle.reader.specs.declared.ShownValue.the-variants.{Scalar as ScalarShown, Text as TextShown}
 use Rattle.reader.specs.declared.Asked.{Asked}
 use Rattle.reader.specs.declared.Asked.the-variants.{Refused, Argument as ArgumentShown}
 use Rattle.reader.specs.declared.Answer.{Answer}
-use Rattle.reader.specs.declared.Answer.the-variants.{End, Nothing, Magic, ProviderInfo, Section, ProviderEvent, Initialization, Event, Skipped}
-use Rattle.reader.specs.Numbers.{textValues, threadValues, providerValues, valueValues, eventValues, answerValues, askedValues}
+use Rattle.reader.specs.declared.Answer.the-variants.{End, Nothing, Magic, ProviderInfo, Section, ProviderEvent, Initialization, Report, Skipped}
+use Rattle.reader.specs.Numbers.{textValues, threadValues, referentValues, providerValues, valueValues, answerValues, askedValues}
 use Rattle.packer.specs.declared.Packed.{Packed}
 use Rattle.packer.specs.declared.Packed.the-variants.{Refused as PackRefused, Written}
 use Rattle.exports.specs.Block.{block, answerNumbers, askedNumbers, packedNumbers, stateNumbers, givenState, putNumbers}
@@ -31,7 +33,7 @@ use Rattle.exports.specs.Block.{block, answerNumbers, askedNumbers, pack
 length-block : (n : ℕ) (values : List ℕ) → length values ≤ n → length (block n values) ≡ n
 length-block n values h = rw (length-append values, length-replicate) (omega arith)
 
--- a text and a thread have three numbers each, a provider two, a value four
+-- a text and a thread have three numbers each, so what a record refers to has three; a provider has two, a value four
 length-text : (t : ShownText) → length (textValues t) ≡ 3
 length-text (At place long) = refl
 length-text (Unresolved index) = refl
@@ -39,6 +41,10 @@ length-text (Unresolved index) = refl
 length-thread : (t : ShownThread) → length (threadValues t) ≡ 3
 length-thread (Words process thread) = refl
 length-thread (ThreadUnresolved index) = refl
+
+length-referent : (r : ShownReferent) → length (referentValues r) ≡ 3
+length-referent (TextReferent t) = length-text t
+length-referent (ThreadReferent t) = length-thread t
 
 length-provider : (p : Provider) → length (providerValues p) ≡ 2
 length-provider None = refl
@@ -48,7 +54,7 @@ pub length-value : (v : ShownValue) → length (valueValues v) ≡ 4
 length-value (ScalarShown s) = refl
 length-value (TextShown t) = ap suc (length-text t)
 
--- an answer has at most eighteen values, those of an event
+-- an answer has at most eighteen values, those of a report
 answer-values : (a : Answer) → length (answerValues a) ≤ 18
 answer-values (End number place) = omega arith
 answer-values Nothing = omega arith
@@ -57,8 +63,7 @@ answer-values (ProviderInfo id place long) = omega arith
 answer-values (Section id) = omega arith
 answer-values (ProviderEvent id event) = omega arith
 answer-values (Initialization rate) = omega arith
-answer-values (Event e) =
-    simp (length-append, length-provider, length-thread, length-text) (omega arith)
+answer-values (Report r) = simp (length-append, length-provider, length-referent) (omega arith)
 answer-values (Skipped type size) = omega arith
 
 -- what is answered for an argument has at most eight

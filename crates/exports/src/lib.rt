@@ -6,8 +6,9 @@ ghost use Prim.Native.Nat.{_+_, _%_, _^_, _≤_};
 ghost use lib.ListN.{length, getD};
 ghost use Rattle.format.specs.Limits.{smallFormat};
 ghost use Rattle.words.specs.Stream.{written};
-ghost use Rattle.records.specs.Written.{unsigned, bit, scalarType};
-ghost use Rattle.reader.specs.Numbers.{textValues, threadValues, providerValues, scalarValue, valueValues};
+ghost use Rattle.words.specs.Word.{unsigned, bit};
+ghost use Rattle.arguments.specs.Argument.{scalarType};
+ghost use Rattle.reader.specs.Numbers.{textValues, threadValues, referentValues, providerValues, scalarValue, valueValues};
 ghost use Rattle.reader.specs.Step.{openReply, openTables, stepReply, stepTables};
 ghost use Rattle.reader.specs.Ask.{argumentReply};
 ghost use Rattle.packer.specs.Pack.{packReply, packRoom, packOutput};
@@ -19,7 +20,8 @@ use packer::Packed;
 use reader::Answer;
 use reader::Asked;
 use reader::ShownArgument;
-use reader::ShownEvent;
+use reader::ShownReferent;
+use reader::ShownReport;
 use reader::ShownText;
 use reader::ShownThread;
 use reader::ShownValue;
@@ -87,6 +89,16 @@ fn thread_choice(t: ShownThread) -> Choice
             first: index as u64,
             second: 0,
         },
+    }
+}
+
+// What a record refers to, a text or a thread.
+fn referent_choice(r: ShownReferent) -> Choice
+    ensures { λ c. ⌜ c .tag ∷ c .first ∷ c .second ∷ [] ≡ referentValues r ⌝ }
+{
+    match r {
+        ShownReferent::Text(t) => text_choice(t),
+        ShownReferent::Thread(t) => thread_choice(t),
     }
 }
 
@@ -166,38 +178,32 @@ fn put_short(out: &mut [u64], a: u64, b: u64, c: u64, d: u64)
     put_four(out, 16, 0, 0, 0, 0);
 }
 
-// The block of an event.
-fn put_event(out: &mut [u64], event: ShownEvent)
+// The block of a record that refers to texts and threads.
+fn put_report(out: &mut [u64], report: ShownReport)
     requires { ⌜ 20 ≤ length (now out) ⌝ }
-    ensures { λ _. ⌜ now (out .exit) ≡ written (now (out .entry)) 0 (answerNumbers (Answer.Event event)) ⌝ }
+    ensures { λ _. ⌜ now (out .exit) ≡ written (now (out .entry)) 0 (answerNumbers (Answer.Report report)) ⌝ }
 {
-    let shown_provider = event.provider;
-    let shown_thread = event.thread;
-    let shown_category = event.category;
-    let shown_name = event.name;
+    let own = report.own;
+    let shown_provider = report.provider;
+    let shown_first = report.first;
+    let shown_second = report.second;
+    let shown_third = report.third;
     let provider = provider_choice(shown_provider);
-    let thread = thread_choice(shown_thread);
-    let category = text_choice(shown_category);
-    let name = text_choice(shown_name);
-    put_four(out, 0, 8, event.place as u64, provider.tag, provider.first);
+    let first = referent_choice(shown_first);
+    let second = referent_choice(shown_second);
+    let third = referent_choice(shown_third);
+    put_four(out, 0, 8, report.place as u64, provider.tag, provider.first);
     put_four(
         out,
         4,
-        event.kind as u64,
-        event.timestamp,
-        event.rate,
-        thread.tag,
+        own.variant as u64,
+        own.timestamp,
+        report.rate,
+        first.tag,
     );
-    put_four(
-        out,
-        8,
-        thread.first,
-        thread.second,
-        category.tag,
-        category.first,
-    );
-    put_four(out, 12, category.second, name.tag, name.first, name.second);
-    put_four(out, 16, event.count as u64, event.extra, 0, 0);
+    put_four(out, 8, first.first, first.second, second.tag, second.first);
+    put_four(out, 12, second.second, third.tag, third.first, third.second);
+    put_four(out, 16, report.count as u64, report.last, 0, 0);
 }
 
 // The block of an answer.
@@ -215,8 +221,8 @@ fn put_answer(out: &mut [u64], answer: Answer)
         Answer::Section { id } => put_short(out, 5, id as u64, 0, 0),
         Answer::ProviderEvent { id, event } => put_short(out, 6, id as u64, event as u64, 0),
         Answer::Initialization { rate } => put_short(out, 7, rate, 0, 0),
-        Answer::Event(event) => put_event(out, event),
-        Answer::Skipped { kind, size } => put_short(out, 9, kind as u64, size, 0),
+        Answer::Report(report) => put_report(out, report),
+        Answer::Skipped { record_type, size } => put_short(out, 9, record_type as u64, size, 0),
     }
 }
 

@@ -8,10 +8,10 @@ use lib.Dec.{eqb, ltb}
 use lib.ListN.{length, take, drop, length-drop}
 use lib.Seq.{take-all}
 use Rattle.words.specs.Word.{wordAt, field}
+use Rattle.words.proofs.Tests.{on-pick}
 use Rattle.format.specs.declared.Extent.{Extent}
 use Rattle.format.specs.declared.Extent.the-variants.{Refused, Bytes}
 use Rattle.format.specs.Header.{recordWords, extentOf}
-use Rattle.format.proofs.Parts.{on-pick}
 
 -- a size has at most 32 bits
 pub words-lt : (header : ℕ) → recordWords header < 2 ^ 32

@@ -1,24 +1,22 @@
 -- Laws of the parts of a body: where they stand, and what they cost. Assumes nothing.
-use Prim.Native.Nat.{ℕ, _+_, _-_, _*_, _≤_}
-use mathlib.Core.Path.{_≡_, refl, subst}
-use mathlib.Core.List.{List, [], _∷_}
-use mathlib.Core.Bool.{Bool, true, false}
+use Prim.Native.Nat.{ℕ, suc, _+_, _-_, _*_, _≤_}
+use mathlib.Core.Path.{_≡_, refl, ap, subst}
+use mathlib.Core.List.{[], List, _∷_}
 use native.Mathlib.Omega.{arith}
 use borrow.Author.Tests.{ltb-false}
 use lib.Dec.{eqb, ltb}
-use Rattle.words.specs.Word.{pick}
+use lib.ListN.{length}
 use Rattle.words.specs.Stream.{streamWords}
+use Rattle.words.proofs.Tests.{on-pick}
 use Rattle.format.specs.declared.Format.{Format}
 use Rattle.format.specs.declared.Reference.{Reference}
 use Rattle.format.specs.declared.Reference.the-variants.{Inline, Index}
 use Rattle.format.specs.declared.Taken.{Taken}
 use Rattle.format.specs.declared.Taken.the-variants.{Refused, Part as Read}
-use Rattle.format.specs.Part.{takeWords, takeStream, takeText, takeThread, Part, words, stream, text, thread, takePart, Body, refused, body, prepend, onTaken, takeParts, inlineBytes, Inside}
-
--- a property of both cases of a test is one of the case that is picked
-pub on-pick : {A : Type 0} (P : A → Type 0) (b : Bool) (x y : A) → (b ≡ true → P x) → (b ≡ false → P y) → P (pick b x y)
-on-pick P true x y f g = f refl
-on-pick P false x y f g = g refl
+use Rattle.format.specs.declared.Part.{Part}
+use Rattle.format.specs.declared.Part.the-variants.{Words as words, Stream as stream, Text as text, Thread as thread}
+use Rattle.format.specs.Part.{takeWords, takeStream, takeText, takeThread, takePart, Body, refused, body, prepend, onTaken, takeParts, inlineBytes}
+use Rattle.format.specs.Models.Bounds.{Inside}
 
 -- a part that is taken moves the place by what it has inline, and stands inside its record
 abbrev pub Moves : ℕ → ℕ → Taken → Type 0
@@ -60,6 +58,10 @@ part-moves f (text reference) place end h = text-moves f reference place end h
 part-moves f (thread reference) place end h = thread-moves reference place end h
 
 -- the same of a part that is known to be taken
+pub part-taken : (f : Format) (p : Part) (place end : ℕ) (x : Reference) (next : ℕ) → place ≤ end → takePart f p place end ≡ Read x next
+    → Moves place end (Read x next)
+part-taken f p place end x next h e = subst (Moves place end) e (part-moves f p place end h)
+
 pub text-taken : (f : Format) (r place end : ℕ) (x : Reference) (next : ℕ) → place ≤ end → takeText f r place end ≡ Read x next
     → Moves place end (Read x next)
 text-taken f r place end x next h e = subst (Moves place end) e (text-moves f r place end h)
@@ -109,3 +111,22 @@ parts-end f [] place end h = (omega arith, h, tt)
 parts-end f (p ∷ ps) place end h =
     on-taken place end (takePart f p place end) (λ x next. prepend x (takeParts f ps next end)) (part-moves f p place end h)
     (λ x next m. prepend-ends x place next end (takeParts f ps next end) m (parts-end f ps next end (m .1)))
+
+-- as many references are read as there are parts
+abbrev pub Counted : ℕ → Body → Type 0
+Counted n (refused number) = Unit {0}
+Counted n (body references next) = length references ≡ n
+
+prepend-counted : (n : ℕ) (x : Reference) (b : Body) → Counted n b → Counted (suc n) (prepend x b)
+prepend-counted n x (refused number) c = tt
+prepend-counted n x (body rs last) c = ap suc c
+
+pub parts-counted : (f : Format) (ps : List Part) (place end : ℕ) → Counted (length ps) (takeParts f ps place end)
+unfolding takeParts
+parts-counted f [] place end = refl
+parts-counted f (p ∷ ps) place end = go (takePart f p place end) (λ next. parts-counted f ps next end)
+  where
+    go : (t : Taken) → ((next : ℕ) → Counted (length ps) (takeParts f ps next end))
+        → Counted (suc (length ps)) (onTaken t (λ x next. prepend x (takeParts f ps next end)))
+    go (Refused number) k = tt
+    go (Read x next) k = prepend-counted (length ps) x (takeParts f ps next end) (k next)

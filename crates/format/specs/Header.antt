@@ -4,9 +4,10 @@ use mathlib.Core.List.{List}
 use lib.ListN.{length}
 use lib.Dec.{eqb, ltb}
 use Rattle.words.specs.Word.{pick, wordAt, field}
+use Rattle.words.specs.Stream.{startsWithMagic}
 use Rattle.format.specs.declared.Extent.{Extent}
 use Rattle.format.specs.declared.Extent.the-variants.{Refused, Bytes}
-use Rattle.format.specs.Limits.{cut, malformed}
+use Rattle.format.specs.Limits.{longestArchive, cut, malformed}
 
 -- "Header: type [0..3], size in words with the header [4..15]. Type 15 only: size [4..35]."
 unfoldable pub recordWords : ℕ → ℕ
@@ -19,3 +20,8 @@ extentOf rest =
     (pick (eqb (recordWords (wordAt rest 0)) 0) (Refused malformed)
     (pick (ltb (length rest) (8 * recordWords (wordAt rest 0))) (Refused cut)
     (Bytes (8 * recordWords (wordAt rest 0)))))
+
+-- "checks 2, 1" and then the lent words: the number that an archive is refused by, or by `short` where fewer words are lent than wanted, or 0
+unfoldable pub archiveNumber : List ℕ → (short wanted lent : ℕ) → ℕ
+archiveNumber archive short wanted lent =
+    pick (ltb longestArchive (length archive)) 2 (pick (startsWithMagic archive) (pick (ltb lent wanted) short 0) 1)

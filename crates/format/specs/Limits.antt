@@ -6,6 +6,10 @@ use Rattle.format.specs.declared.Format.{Format}
 abbrev pub smallFormat : Format
 smallFormat = record { longest = 256; highest = 511 }
 
+-- "Archive at most 16,777,216 bytes"
+abbrev pub longestArchive : ℕ
+longestArchive = 16777216
+
 -- 5: "1 to 7 bytes remain, or the record runs past the end"
 abbrev pub cut : ℕ
 cut = 5

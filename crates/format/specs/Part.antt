@@ -1,8 +1,8 @@
 -- The body of a record, and of an argument, as a list of parts: "its fields in written order, a stream where it stands" (document 01).
 -- A part is read from a place up to the end of its record. Places are byte places of the archive.
-use Prim.Native.Nat.{ℕ, _+_, _-_, _*_, _≤_}
-use mathlib.Core.List.{List, [], _∷_}
-use mathlib.Core.Bool.{Bool, true, false, _&&_}
+use Prim.Native.Nat.{ℕ, _+_, _-_, _*_}
+use mathlib.Core.List.{[], List, _∷_}
+use mathlib.Core.Bool.{Bool, true}
 use lib.ListN.{take, drop, getD}
 use lib.Dec.{eqb, ltb}
 use Rattle.words.specs.Word.{pick}
@@ -10,6 +10,8 @@ use Rattle.words.specs.Stream.{streamWords, paddingOf, allZero}
 use Rattle.format.specs.declared.Format.{Format}
 use Rattle.format.specs.declared.Reference.{Reference}
 use Rattle.format.specs.declared.Reference.the-variants.{Inline, Index}
+use Rattle.format.specs.declared.Part.{Part}
+use Rattle.format.specs.declared.Part.the-variants.{Words as words, Stream as stream, Text as text, Thread as thread}
 use Rattle.format.specs.declared.Taken.{Taken}
 use Rattle.format.specs.declared.Taken.the-variants.{Refused, Part as Read}
 use Rattle.format.specs.Limits.{malformed, longText}
@@ -36,10 +38,14 @@ takeText f reference place end =
 unfoldable pub takeThread : ℕ → ℕ → ℕ → Taken
 takeThread reference place end = pick (eqb reference 0) (takeWords 2 place end) (Read (Index reference) place)
 
--- a part of a body: so many words, a stream of so many bytes, what a string reference or a thread reference has inline
-pub data Part : Type 0 where
-  words stream text thread : ℕ → Part
+-- the table that a part is looked up in, by the type of its records: 3 for a thread, 2 for a text and for what is looked up in none
+unfoldable pub tableOf : Part → ℕ
+tableOf (words n) = 2
+tableOf (stream n) = 2
+tableOf (text reference) = 2
+tableOf (thread reference) = 3
 
+-- a part of a body: so many words, a stream of so many bytes, what a string reference or a thread reference has inline
 unfoldable pub takePart : Format → Part → ℕ → ℕ → Taken
 takePart f (words n) place end = takeWords n place end
 takePart f (stream n) place end = takeStream f n place end
@@ -80,11 +86,6 @@ placeOf (Index index) = 0
 abbrev pub inlineBytes : Reference → ℕ
 inlineBytes (Inline place length) = 8 * streamWords length
 inlineBytes (Index index) = 0
-
--- the bytes of a reference, with their padding, stand between two places
-abbrev pub Inside : ℕ → ℕ → Reference → Type 0
-Inside from to (Inline place length) = (from ≤ place) × (place + 8 * streamWords length ≤ to)
-Inside from to (Index index) = Unit {0}
 
 -- whether the padding behind a part is zero; the bytes that it is looked for in start at the place `start`
 unfoldable pub paddingZero : List ℕ → ℕ → Reference → Bool

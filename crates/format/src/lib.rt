@@ -1,10 +1,11 @@
 // What every record is made of, apart from any table: limits, references, headers, and the parts of a body.
 ghost use mathlib.Core.Path.{_≡_};
-ghost use Prim.Native.Nat.{ℕ, _+_, _*_, _^_, _<_, _≤_};
+ghost use Prim.Native.Nat.{_+_, _*_, _^_, _<_};
 ghost use lib.ListN.{length};
 ghost use Rattle.format.specs.Limits.{smallFormat};
-ghost use Rattle.format.specs.Header.{recordWords, extentOf};
-ghost use Rattle.format.specs.Part.{takeWords, takeStream, takeText, takeThread, inlineBytes, Inside, paddingZero};
+ghost use Rattle.format.specs.Header.{recordWords, extentOf, archiveNumber};
+ghost use Rattle.format.specs.Part.{takeWords, takeStream, takeText, takeThread, takePart, tableOf, inlineBytes, paddingZero};
+ghost use Rattle.format.specs.Models.Bounds.{PartFits, Inside};
 
 // The limits of an archive: the longest text in bytes, and the highest index of a string record.
 pub struct Format {
@@ -21,10 +22,21 @@ pub const LONG_TEXT: u8 = 7;
 
 pub const HIGH_INDEX: u8 = 8;
 
+// The most bytes that an archive may have.
+pub const LONGEST_ARCHIVE: usize = 16777216;
+
 // Bytes of the archive, or an entry of a table.
 pub enum Reference {
     Inline { place: usize, length: usize },
     Index(usize),
+}
+
+// A part of a body: so many words, a stream of so many bytes, what a string reference or a thread reference has inline.
+pub enum Part {
+    Words(usize),
+    Stream(usize),
+    Text(u64),
+    Thread(u64),
 }
 
 // A part of a record with the place right behind it.
@@ -147,6 +159,31 @@ pub fn take_thread(reference: u64, place: usize, end: usize) -> Taken
     }
 }
 
+// A part of a record that ends at `end`.
+pub fn take_part(f: Format, part: Part, place: usize, end: usize) -> Taken
+    requires { ⌜ PartFits part × (place < 2 ^ 63) ⌝ }
+    ensures { λ r. ⌜ r ≡ takePart f part place end ⌝ }
+{
+    match part {
+        Part::Words(n) => take_words(n, place, end),
+        Part::Stream(n) => take_stream(f, n, place, end),
+        Part::Text(reference) => take_text(f, reference, place, end),
+        Part::Thread(reference) => take_thread(reference, place, end),
+    }
+}
+
+// The table that a part is looked up in: 3 for a thread, 2 for a text and for what is looked up in none.
+pub fn table_of(part: Part) -> u64
+    ensures { λ r. ⌜ r ≡ tableOf part ⌝ }
+{
+    match part {
+        Part::Words(_) => 2,
+        Part::Stream(_) => 2,
+        Part::Text(_) => 2,
+        Part::Thread(_) => 3,
+    }
+}
+
 // The bytes that a reference has inline.
 pub fn inline_bytes(reference: Reference) -> usize
     requires { ⌜ inlineBytes reference < 2 ^ 63 ⌝ }
@@ -171,4 +208,20 @@ pub fn padding_zero(source: &[u8], start: usize, reference: Reference) -> bool
             words::all_zero(&source[from..to])
         }
     }
+}
+
+// The number that an archive is refused by, or by `short` where fewer words are lent than wanted, or 0.
+pub fn archive_number(archive: &[u8], short: u8, wanted: usize, lent: usize) -> u8
+    ensures { λ r. ⌜ r ≡ archiveNumber (now (archive .entry)) short wanted lent ⌝ }
+{
+    if LONGEST_ARCHIVE < archive.len() {
+        return 2;
+    }
+    if words::starts_with_magic(archive) {
+        if lent < wanted {
+            return short;
+        }
+        return 0;
+    }
+    1
 }

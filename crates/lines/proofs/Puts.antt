@@ -87,7 +87,11 @@ behind-behind out at a b =
 -- a function that puts nothing
 pub puts-none : (out : List ℕ) (at : ℕ) → Puts out at [] at out
 unfolding put behind fitting
-puts-none out at = record { place = rw (take-nil {A = ℕ} (length out - at)) (omega arith); buffer = rw (take-nil {A = ℕ} (length out - at)) (sym (written-none out at)) }
+puts-none out at =
+    record {
+      place = rw (take-nil {A = ℕ} (length out - at)) (omega arith);
+      buffer = rw (take-nil {A = ℕ} (length out - at)) (sym (written-none out at));
+    }
 
 -- a function that puts a and then b puts a ++ b
 infixl 60 _then_

@@ -6,20 +6,22 @@ use mathlib.Core.Bool.{Bool, true, false}
 use lib.IntN.{ℤ, pos, negsuc}
 use lib.ListN.{length}
 use lib.Dec.{ltb}
+use Rattle.words.specs.Stream.{partOf}
 use Rattle.io.specs.Digits.{glyph, digits}
 use Rattle.words.specs.Word.{pick}
 use Rattle.arguments.specs.declared.Scalar.{Scalar}
 use Rattle.arguments.specs.declared.Scalar.the-variants.{Null, Signed32, Unsigned32, Signed64, Unsigned64, Double, Pointer, KernelObject, Boolean, Unknown}
-use Rattle.records.specs.Written.{scalarType}
+use Rattle.arguments.specs.Argument.{scalarType}
 use Rattle.contexts.specs.declared.Provider.{Provider}
 use Rattle.contexts.specs.declared.Provider.the-variants.{None, Id}
 use Rattle.reader.specs.declared.ShownText.{ShownText}
 use Rattle.reader.specs.declared.ShownText.the-variants.{At, Unresolved}
 use Rattle.reader.specs.declared.ShownThread.{ShownThread}
 use Rattle.reader.specs.declared.ShownThread.the-variants.{Words, Unresolved as ThreadUnresolved}
+use Rattle.reader.specs.declared.ShownReferent.{ShownReferent}
+use Rattle.reader.specs.declared.ShownReferent.the-variants.{Text as TextReferent, Thread as ThreadReferent}
 use Rattle.reader.specs.declared.ShownValue.{ShownValue}
 use Rattle.reader.specs.declared.ShownValue.the-variants.{Scalar as ScalarValue, Text as TextValue}
-use Rattle.reader.specs.Ask.{partOf}
 
 -- a number's decimal digits, the first of which is no 0 unless it is the only one; so many at most
 unfoldable pub decimalWithin : ℕ → ℕ → List ℕ
@@ -66,6 +68,11 @@ textShown archive (Unresolved index) = unresolvedShown index
 unfoldable pub threadShown : ShownThread → List ℕ
 threadShown (Words process thread) = numberShown process ++ numberShown thread
 threadShown (ThreadUnresolved index) = unresolvedShown index
+
+-- what a record refers to: a text or a thread
+unfoldable pub referentShown : List ℕ → ShownReferent → List ℕ
+referentShown archive (TextReferent t) = textShown archive t
+referentShown archive (ThreadReferent t) = threadShown t
 
 -- "no provider or a null value `-`"
 unfoldable pub providerShown : Provider → List ℕ

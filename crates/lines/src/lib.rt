@@ -11,11 +11,12 @@ ghost use lib.IntN.{negsuc};
 ghost use lib.ListN.{length, take};
 ghost use Rattle.words.specs.Stream.{written};
 ghost use Rattle.io.specs.Digits.{digits};
-ghost use Rattle.records.specs.Written.{scalarType};
+ghost use Rattle.arguments.specs.Argument.{scalarType};
 ghost use Rattle.lines.specs.Put.{Puts};
-ghost use Rattle.lines.specs.Shown.{decimal, numberShown, signedShown, booleanShown, doubleShown, unresolvedShown, bytesShown, textShown, threadShown, providerShown, scalarShown, valueShown, valueType, hexShown};
+ghost use Rattle.lines.specs.Shown.{decimal, numberShown, signedShown, booleanShown, doubleShown, unresolvedShown, bytesShown, textShown, threadShown, referentShown, providerShown, scalarShown, valueShown, valueType, hexShown};
 use arguments::Scalar;
 use contexts::Provider;
+use reader::ShownReferent;
 use reader::ShownText;
 use reader::ShownThread;
 use reader::ShownValue;
@@ -148,12 +149,22 @@ fn put_words(out: &mut [u8], at: usize, process: u64, thread: u64) -> usize
     put_number(out, second, thread)
 }
 
-pub fn put_thread(out: &mut [u8], at: usize, thread: ShownThread) -> usize
+fn put_thread(out: &mut [u8], at: usize, thread: ShownThread) -> usize
     ensures { λ r. ⌜ Puts (now (out .entry)) at (threadShown thread) r (now (out .exit)) ⌝ }
 {
     match thread {
         ShownThread::Words { process, thread } => put_words(out, at, process, thread),
         ShownThread::Unresolved { index } => put_unresolved(out, at, index),
+    }
+}
+
+// What a record refers to: a text or a thread.
+pub fn put_referent(out: &mut [u8], at: usize, archive: &[u8], referent: ShownReferent) -> usize
+    ensures { λ r. ⌜ Puts (now (out .entry)) at (referentShown (now (archive .entry)) referent) r (now (out .exit)) ⌝ }
+{
+    match referent {
+        ShownReferent::Text(text) => put_text(out, at, archive, text),
+        ShownReferent::Thread(thread) => put_thread(out, at, thread),
     }
 }
 
@@ -206,7 +217,7 @@ fn scalar_type(scalar: Scalar) -> u64
         Scalar::Pointer(_) => 7,
         Scalar::KernelObject(_) => 8,
         Scalar::Boolean(_) => 9,
-        Scalar::Unknown(kind) => kind as u64,
+        Scalar::Unknown(argument_type) => argument_type as u64,
     }
 }
 

@@ -8,15 +8,16 @@ use borrow.Author.Tests.{le-ltb}
 use lib.Dec.{eqb}
 use lib.ListN.{length, take, drop, replicate, length-append, length-replicate}
 use lib.Seq.{take-at}
+use Rattle.words.proofs.Tests.{cases}
 use Rattle.format.specs.declared.Format.{Format}
-use Rattle.arguments.proofs.Arguments.{cases}
+use Rattle.format.specs.Header.{archiveNumber}
 use Rattle.contexts.specs.declared.State.{State}
 use Rattle.contexts.specs.Context.{opening}
 use Rattle.tables.specs.Table.{tableWords, cleared}
 use Rattle.reader.specs.declared.Answer.{Answer}
-use Rattle.reader.specs.declared.Answer.the-variants.{End, Nothing, Magic, ProviderInfo, Section, ProviderEvent, Initialization, Event, Skipped}
+use Rattle.reader.specs.declared.Answer.the-variants.{End, Nothing, Magic, ProviderInfo, Section, ProviderEvent, Initialization, Report, Skipped}
 use Rattle.reader.specs.declared.Reply.{Reply}
-use Rattle.reader.specs.Step.{doorOf, stepReply, stepTables}
+use Rattle.reader.specs.Step.{openingNumber, stepReply, stepTables}
 use Rattle.reader.proofs.Behind.{Agree, reply-behind, tables-behind, argument-reply-behind}
 use Rattle.listings.specs.Line.{traceLine}
 use Rattle.listings.specs.Listing.{argumentLines, answerArguments, stepLines, isEnd, linesFrom, stepsOf, listing}
@@ -41,7 +42,7 @@ module _ (f : Format) (archive : List ℕ) where
   answer-alike s (Section id) t t′ a = refl
   answer-alike s (ProviderEvent id event) t t′ a = refl
   answer-alike s (Initialization rate) t t′ a = refl
-  answer-alike s (Event e) t t′ a = arguments-alike s (e .place) 0 (e .count) t t′ a
+  answer-alike s (Report r) t t′ a = arguments-alike s (r .place) 0 (r .count) t t′ a
   answer-alike s (Skipped type size) t t′ a = refl
 
   -- so are the lines of any steps
@@ -73,17 +74,17 @@ module _ (f : Format) (archive : List ℕ) where
         same = take-at zeros (drop n t) n long ∙ sym (take-at zeros (drop n t′) n long);
       }
 
-  -- long enough tables do not matter at the door
-  door-alike : (t t′ : List ℕ) → tableWords f ≤ length t → tableWords f ≤ length t′ → doorOf f archive (length t) ≡ doorOf f archive (length t′)
-  unfolding doorOf
-  door-alike t t′ h h′ = rw (le-ltb (length t) (tableWords f) h, le-ltb (length t′) (tableWords f) h′)
+  -- long enough tables do not matter at the first checks
+  opening-alike : (t t′ : List ℕ) → tableWords f ≤ length t → tableWords f ≤ length t′ → openingNumber f archive (length t) ≡ openingNumber f archive (length t′)
+  unfolding openingNumber archiveNumber
+  opening-alike t t′ h h′ = rw (le-ltb (length t) (tableWords f) h, le-ltb (length t′) (tableWords f) h′)
 
   -- the listing is the same with any tables that are long enough
   pub listing-alike : (t t′ : List ℕ) → tableWords f ≤ length t → tableWords f ≤ length t′ → listing f archive t ≡ listing f archive t′
   unfolding listing isEnd
   listing-alike t t′ h h′ =
-      let door = door-alike t t′ h h′ in
-      cases (eqb (doorOf f archive (length t′)) 0)
-      (λ e. rw (door, e) (ap (λ (l : List ℕ). traceLine ++ l)
+      let opens = opening-alike t t′ h h′ in
+      cases (eqb (openingNumber f archive (length t′)) 0)
+      (λ e. rw (opens, e) (ap (λ (l : List ℕ). traceLine ++ l)
       (lines-alike (stepsOf archive) opening (cleared (tableWords f) t) (cleared (tableWords f) t′) (cleared-agree t t′ h h′))))
-      (λ e. rw (door, e))
+      (λ e. rw (opens, e))

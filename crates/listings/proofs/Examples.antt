@@ -5,23 +5,28 @@ use mathlib.Core.List.{List, [], _∷_, _++_}
 use mathlib.Core.Bool.{true, false}
 use lib.IntN.{pos, negsuc}
 use lib.ListN.{replicate}
+use Rattle.effects.specs.Follow.{changed, followed, followedEntered, changeOf}
 use Rattle.words.specs.Word.{wordAt, little, bytesOf}
-use Rattle.words.specs.Stream.{magic, startsWithMagic}
+use Rattle.words.specs.Stream.{magic, startsWithMagic, partOf}
 use Rattle.format.specs.Limits.{smallFormat}
-use Rattle.format.specs.Header.{recordWords, extentOf}
-use Rattle.format.specs.Part.{takeWords, takeStream, takeText, takeThread, takePart, takeParts}
+use Rattle.format.specs.Header.{recordWords, extentOf, archiveNumber}
+use Rattle.format.specs.Part.{takeWords, takeStream, takeText, takeThread, tableOf, takePart, takeParts}
 use Rattle.arguments.specs.declared.Scalar.the-variants.{Null, Signed32, Double, Boolean, Unknown}
-use Rattle.arguments.specs.Argument.{headerScalar, holdsWord, wordScalar, takeValue, argumentBody, argumentOf, textsOf, valueText, argumentsOf, numberedOf}
-use Rattle.records.specs.Record.{hasExtra, extraBytes, providerInfoOf, initializationOf, threadOf, eventFields, eventExtra, eventOf, metadataOf, stringOf, contentOf, recordOf}
+use Rattle.arguments.specs.Argument.{headerScalar, holdsWord, wordScalar, argumentBody, argumentOf, argumentsOf, numberedOf, argumentsRead}
+use Rattle.arguments.specs.Models.Reading.{takeValue, textsOf, valueText}
+use Rattle.records.specs.Layout.{hasExtra, extraWords, isReport, layoutOf, ownOf, takeFields, lastWord, reportOf}
+use Rattle.records.specs.Record.{metadataOf, stringOf, contentOf, recordOf}
+use Rattle.records.specs.Effect.{effectOf}
 use Rattle.contexts.specs.Context.{belongsTo, findId, entering, providerOf}
-use Rattle.tables.specs.Table.{highestOf, position, registrationOf, registrationAt, belonging, entryAt, resolved}
+use Rattle.tables.specs.Table.{highestOf, position, registrationOf, entryAt, resolved}
+use Rattle.tables.specs.Models.Entries.{registrationAt, belonging}
 use Rattle.reader.specs.declared.ShownText.the-variants.{Unresolved}
 use Rattle.reader.specs.declared.ShownThread.the-variants.{Unresolved as ThreadUnresolved}
-use Rattle.reader.specs.Shown.{isBad, shownText, shownThread, shownEvent, valueBad, argumentBad, argumentsFound, shownValue}
-use Rattle.reader.specs.Step.{doorOf, stopping, enteringAs, registering, eventDecision, contentDecision, placeDecision, decisionOf, changed}
-use Rattle.reader.specs.Ask.{shownArgument, askedEvent, askedPlace, argumentReply, partOf}
-use Rattle.lines.specs.Shown.{decimalWithin, decimal, numberShown, signedShown, booleanShown, doubleShown, unresolvedShown, bytesShown, textShown, threadShown, providerShown, scalarShown, valueShown, valueType, hexShown}
-use Rattle.listings.specs.Line.{traceLine, magicLine, eventStart, eventReferences, extraShown, eventLine, argumentLine, endLine, answerLine, askedLine, skippedLine}
+use Rattle.reader.specs.Shown.{isBad, shownText, shownThread, shownReferent, shownStream, shownReport, shownValue, noneBad}
+use Rattle.reader.specs.Step.{openingNumber, stopping, contentDecision, placeDecision, decisionOf, reportAnswer, plainAnswer, effectDecision}
+use Rattle.reader.specs.Ask.{shownArgument, askedReport, askedPlace, argumentReply}
+use Rattle.lines.specs.Shown.{decimalWithin, decimal, numberShown, signedShown, booleanShown, doubleShown, unresolvedShown, bytesShown, textShown, threadShown, referentShown, providerShown, scalarShown, valueShown, valueType}
+use Rattle.listings.specs.Line.{traceLine, magicLine, timestampShown, eventStart, referentsShown, extraShown, eventShown, reportLine, argumentLine, endLine, answerLine, askedLine, skippedLine}
 use Rattle.listings.specs.Listing.{argumentLines, answerArguments, stepLines, isEnd, linesFrom, listing}
 
 -- the words of an archive, one after another
@@ -69,7 +74,16 @@ pub record Table : Type 0 where
   pub skipped-line : skippedLine 5 3 ≡ 75 ∷ 32 ∷ 53 ∷ 32 ∷ 51 ∷ 10 ∷ []
 
 pub table : Table
-unfolding wordScalar takeValue textsOf valueText argumentsOf extraBytes providerInfoOf initializationOf threadOf findId entering enteringAs little wordAt bytesOf magic startsWithMagic recordWords extentOf takeWords takeStream takeText takeThread takePart takeParts headerScalar holdsWord argumentBody argumentOf numberedOf hasExtra eventFields eventExtra eventOf metadataOf stringOf contentOf recordOf belongsTo providerOf highestOf position registrationOf registrationAt belonging entryAt resolved isBad shownText shownThread shownEvent valueBad argumentBad argumentsFound shownValue doorOf stopping registering eventDecision contentDecision placeDecision decisionOf changed shownArgument askedEvent askedPlace argumentReply partOf decimalWithin decimal numberShown signedShown booleanShown doubleShown unresolvedShown bytesShown textShown threadShown providerShown scalarShown valueShown valueType traceLine magicLine eventStart eventReferences extraShown eventLine argumentLine endLine answerLine askedLine skippedLine argumentLines answerArguments stepLines isEnd linesFrom listing
+unfolding little wordAt bytesOf magic startsWithMagic recordWords extentOf takeWords takeStream takeText takeThread tableOf takePart takeParts
+    headerScalar holdsWord wordScalar takeValue argumentBody argumentOf textsOf valueText argumentsOf numberedOf
+    hasExtra extraWords isReport layoutOf ownOf takeFields lastWord reportOf metadataOf stringOf contentOf recordOf
+    belongsTo providerOf highestOf position registrationOf registrationAt belonging entryAt resolved
+    isBad shownText shownThread shownReferent shownStream shownReport noneBad shownValue
+    openingNumber archiveNumber stopping reportAnswer plainAnswer effectDecision contentDecision followed followedEntered changeOf effectOf argumentsRead
+    placeDecision decisionOf changed shownArgument askedReport askedPlace argumentReply partOf
+    decimalWithin decimal numberShown signedShown booleanShown doubleShown unresolvedShown bytesShown textShown threadShown referentShown providerShown
+    scalarShown valueShown valueType traceLine magicLine timestampShown eventStart referentsShown extraShown eventShown reportLine argumentLine endLine
+    answerLine askedLine skippedLine argumentLines answerArguments stepLines isEnd linesFrom listing
 table =
     record {
       nine-words = refl;

@@ -2,16 +2,18 @@
 use Prim.Native.Nat.{ℕ}
 use mathlib.Core.List.{List, [], _∷_, _++_}
 use mathlib.Core.Bool.{Bool, true, false}
+use Rattle.words.specs.Stream.{partOf}
 use Rattle.words.specs.Word.{pick}
-use Rattle.records.specs.Record.{hasExtra}
-use Rattle.reader.specs.declared.ShownEvent.{ShownEvent}
+use Rattle.records.specs.declared.Event.{Event}
+use Rattle.records.specs.Layout.{hasExtra}
+use Rattle.contexts.specs.declared.Provider.{Provider}
+use Rattle.reader.specs.declared.ShownReport.{ShownReport}
 use Rattle.reader.specs.declared.ShownArgument.{ShownArgument}
 use Rattle.reader.specs.declared.Asked.{Asked}
 use Rattle.reader.specs.declared.Asked.the-variants.{Refused, Argument as ArgumentShown}
 use Rattle.reader.specs.declared.Answer.{Answer}
-use Rattle.reader.specs.declared.Answer.the-variants.{End, Nothing, Magic, ProviderInfo, Section, ProviderEvent, Initialization, Event, Skipped}
-use Rattle.reader.specs.Ask.{partOf}
-use Rattle.lines.specs.Shown.{numberShown, bytesShown, textShown, threadShown, providerShown, valueType, valueShown}
+use Rattle.reader.specs.declared.Answer.the-variants.{End, Nothing, Magic, ProviderInfo, Section, ProviderEvent, Initialization, Report, Skipped}
+use Rattle.lines.specs.Shown.{numberShown, bytesShown, textShown, referentShown, providerShown, valueType, valueShown}
 
 abbrev pub lineEnd : List ℕ
 lineEnd = 10 ∷ []
@@ -44,21 +46,29 @@ initializationLine rate = (73 ∷ []) ++ numberShown rate ++ lineEnd
 unfoldable pub skippedLine : ℕ → ℕ → List ℕ
 skippedLine type size = (75 ∷ []) ++ numberShown type ++ numberShown size ++ lineEnd
 
--- "`E type provider timestamp rate"
-unfoldable pub eventStart : ShownEvent → List ℕ
-eventStart e = (69 ∷ []) ++ numberShown (e .kind) ++ providerShown (e .provider) ++ numberShown (e .timestamp) ++ numberShown (e .rate)
+-- "provider timestamp rate"
+unfoldable pub timestampShown : Provider → ℕ → ℕ → List ℕ
+timestampShown provider timestamp rate = providerShown provider ++ numberShown timestamp ++ numberShown rate
 
--- "process thread category name"
-unfoldable pub eventReferences : List ℕ → ShownEvent → List ℕ
-eventReferences archive e = threadShown (e .thread) ++ textShown archive (e .category) ++ textShown archive (e .name)
+-- "`E type provider timestamp rate"
+unfoldable pub eventStart : Event → ShownReport → List ℕ
+eventStart e r = (69 ∷ []) ++ numberShown (e .variant) ++ timestampShown (r .provider) (e .timestamp) (r .rate)
+
+-- the three that an event refers to: "process thread category name"
+unfoldable pub referentsShown : List ℕ → ShownReport → List ℕ
+referentsShown archive r = referentShown archive (r .first) ++ referentShown archive (r .second) ++ referentShown archive (r .third)
 
 -- "[extra]": "one more word for event types 1 and 4 to 10"
 unfoldable pub extraShown : ℕ → ℕ → List ℕ
 extraShown type extra = pick (hasExtra type) (numberShown extra) []
 
--- the whole line, with "count [extra]`"
-unfoldable pub eventLine : List ℕ → ShownEvent → List ℕ
-eventLine archive e = eventStart e ++ eventReferences archive e ++ numberShown (e .count) ++ extraShown (e .kind) (e .extra) ++ lineEnd
+-- an event's letter and its fields in their order, the last of them "count [extra]`"
+unfoldable pub eventShown : List ℕ → Event → ShownReport → List ℕ
+eventShown archive e r = eventStart e r ++ referentsShown archive r ++ numberShown (r .count) ++ extraShown (e .variant) (r .last)
+
+-- the line of a report: what is its own says, here alone, which letter and which fields in which order
+unfoldable pub reportLine : List ℕ → ShownReport → List ℕ
+reportLine archive r = eventShown archive (r .own) r ++ lineEnd
 
 -- "`A type name value`"
 unfoldable pub argumentLine : List ℕ → ShownArgument → List ℕ
@@ -78,7 +88,7 @@ answerLine archive (ProviderInfo id place long) = providerInfoLine id (partOf ar
 answerLine archive (Section id) = sectionLine id
 answerLine archive (ProviderEvent id event) = providerEventLine id event
 answerLine archive (Initialization rate) = initializationLine rate
-answerLine archive (Event e) = eventLine archive e
+answerLine archive (Report r) = reportLine archive r
 answerLine archive (Skipped type size) = skippedLine type size
 
 -- the line of what was asked for: an argument's, or a refusal's

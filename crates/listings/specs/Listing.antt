@@ -9,7 +9,7 @@ use Rattle.words.specs.Word.{pick}
 use Rattle.format.specs.declared.Format.{Format}
 use Rattle.contexts.specs.declared.State.{State}
 use Rattle.reader.specs.declared.Answer.{Answer}
-use Rattle.reader.specs.declared.Answer.the-variants.{End, Nothing, Magic, ProviderInfo, Section, ProviderEvent, Initialization, Event, Skipped}
+use Rattle.reader.specs.declared.Answer.the-variants.{End, Nothing, Magic, ProviderInfo, Section, ProviderEvent, Initialization, Report, Skipped}
 use Rattle.reader.specs.Step.{openReply, openTables, stepReply, stepTables}
 use Rattle.reader.specs.Ask.{argumentReply}
 use Rattle.listings.specs.Line.{traceLine, endLine, answerLine, askedLine}
@@ -20,7 +20,7 @@ argumentLines f archive tables s place number zero = []
 argumentLines f archive tables s place number (suc count) =
     askedLine archive (argumentReply f archive tables s place number) ++ argumentLines f archive tables s place (number + 1) count
 
--- the lines behind that of an answer: an event's arguments
+-- the lines behind that of an answer: a report's arguments
 unfoldable pub answerArguments : Format → List ℕ → List ℕ → State → Answer → List ℕ
 answerArguments f archive tables s (End number place) = []
 answerArguments f archive tables s Nothing = []
@@ -29,7 +29,7 @@ answerArguments f archive tables s (ProviderInfo id place long) = []
 answerArguments f archive tables s (Section id) = []
 answerArguments f archive tables s (ProviderEvent id event) = []
 answerArguments f archive tables s (Initialization rate) = []
-answerArguments f archive tables s (Event e) = argumentLines f archive tables s (e .place) 0 (e .count)
+answerArguments f archive tables s (Report r) = argumentLines f archive tables s (r .place) 0 (r .count)
 answerArguments f archive tables s (Skipped type size) = []
 
 -- the lines of a step: its answer's, and the arguments in the state and the tables that it hands back
@@ -47,7 +47,7 @@ isEnd (ProviderInfo id place long) = false
 isEnd (Section id) = false
 isEnd (ProviderEvent id event) = false
 isEnd (Initialization rate) = false
-isEnd (Event e) = false
+isEnd (Report r) = false
 isEnd (Skipped type size) = false
 
 -- the lines of so many steps at most, up to the first that ends

@@ -4,21 +4,23 @@ ghost use mathlib.Core.Path.{_≡_};
 ghost use Rattle.format.specs.Limits.{smallFormat};
 ghost use Rattle.reader.specs.Step.{stepReply, stepTables};
 ghost use Rattle.lines.specs.Put.{Puts};
-ghost use Rattle.listings.specs.Line.{providerInfoLine, sectionLine, providerEventLine, initializationLine, skippedLine, eventStart, eventReferences, extraShown, eventLine, argumentLine, endLine, answerLine, askedLine};
+ghost use Rattle.listings.specs.Line.{providerInfoLine, sectionLine, providerEventLine, initializationLine, skippedLine, timestampShown, eventStart, referentsShown, extraShown, eventShown, reportLine, argumentLine, endLine, answerLine, askedLine};
 ghost use Rattle.listings.specs.Listing.{argumentLines, answerArguments, isEnd, stepLines, linesFrom, tablesFrom, stepsOf, listing, listTables, inputListing, inputTables};
+use contexts::Provider;
 use contexts::State;
 use lines::put_bytes;
 use lines::put_number;
 use lines::put_provider;
+use lines::put_referent;
 use lines::put_text;
 use lines::put_text_bytes;
-use lines::put_thread;
 use lines::put_value;
 use lines::value_type;
 use reader::Answer;
 use reader::Asked;
 use reader::ShownArgument;
-use reader::ShownEvent;
+use reader::ShownReport;
+use records::Event;
 
 pub fn put_end(out: &mut [u8], at: usize, number: u8, place: usize) -> usize
     ensures { λ r. ⌜ Puts (now (out .entry)) at (endLine number place) r (now (out .exit)) ⌝ }
@@ -63,56 +65,72 @@ fn put_initialization(out: &mut [u8], at: usize, rate: u64) -> usize
     put_bytes(out, last, b"\n")
 }
 
-fn put_skipped(out: &mut [u8], at: usize, kind: u8, size: u64) -> usize
-    ensures { λ r. ⌜ Puts (now (out .entry)) at (skippedLine kind size) r (now (out .exit)) ⌝ }
+fn put_skipped(out: &mut [u8], at: usize, record_type: u8, size: u64) -> usize
+    ensures { λ r. ⌜ Puts (now (out .entry)) at (skippedLine record_type size) r (now (out .exit)) ⌝ }
 {
     let first = put_bytes(out, at, b"K");
-    let second = put_number(out, first, kind as u64);
+    let second = put_number(out, first, record_type as u64);
     let last = put_number(out, second, size);
     put_bytes(out, last, b"\n")
 }
 
-// An event's line up to its rate.
-fn put_event_start(out: &mut [u8], at: usize, event: ShownEvent) -> usize
-    ensures { λ r. ⌜ Puts (now (out .entry)) at (eventStart event) r (now (out .exit)) ⌝ }
+// A timestamp with its provider and the rate in force.
+fn put_timestamp(out: &mut [u8], at: usize, provider: Provider, timestamp: u64, rate: u64) -> usize
+    ensures { λ r. ⌜ Puts (now (out .entry)) at (timestampShown provider timestamp rate) r (now (out .exit)) ⌝ }
 {
-    let provider = event.provider;
-    let first = put_bytes(out, at, b"E");
-    let second = put_number(out, first, event.kind as u64);
-    let third = put_provider(out, second, provider);
-    let last = put_number(out, third, event.timestamp);
-    put_number(out, last, event.rate)
+    let second = put_provider(out, at, provider);
+    let last = put_number(out, second, timestamp);
+    put_number(out, last, rate)
 }
 
-// What an event's line says of its references.
-fn put_event_references(out: &mut [u8], at: usize, archive: &[u8], event: ShownEvent) -> usize
-    ensures { λ r. ⌜ Puts (now (out .entry)) at (eventReferences (now (archive .entry)) event) r (now (out .exit)) ⌝ }
+// An event's line up to its rate.
+fn put_event_start(out: &mut [u8], at: usize, event: Event, report: ShownReport) -> usize
+    ensures { λ r. ⌜ Puts (now (out .entry)) at (eventStart event report) r (now (out .exit)) ⌝ }
 {
-    let thread = event.thread;
-    let category = event.category;
-    let name = event.name;
-    let second = put_thread(out, at, thread);
-    let last = put_text(out, second, archive, category);
-    put_text(out, last, archive, name)
+    let provider = report.provider;
+    let first = put_bytes(out, at, b"E");
+    let last = put_number(out, first, event.variant as u64);
+    put_timestamp(out, last, provider, event.timestamp, report.rate)
+}
+
+// The three that an event refers to.
+fn put_referents(out: &mut [u8], at: usize, archive: &[u8], report: ShownReport) -> usize
+    ensures { λ r. ⌜ Puts (now (out .entry)) at (referentsShown (now (archive .entry)) report) r (now (out .exit)) ⌝ }
+{
+    let first = report.first;
+    let second = report.second;
+    let third = report.third;
+    let next = put_referent(out, at, archive, first);
+    let last = put_referent(out, next, archive, second);
+    put_referent(out, last, archive, third)
 }
 
 // The extra word of an event, where its type has one.
-fn put_extra(out: &mut [u8], at: usize, kind: u8, extra: u64) -> usize
-    ensures { λ r. ⌜ Puts (now (out .entry)) at (extraShown kind extra) r (now (out .exit)) ⌝ }
+fn put_extra(out: &mut [u8], at: usize, variant: u8, extra: u64) -> usize
+    ensures { λ r. ⌜ Puts (now (out .entry)) at (extraShown variant extra) r (now (out .exit)) ⌝ }
 {
-    if records::has_extra(kind as u64) {
+    if records::has_extra(variant as u64) {
         return put_number(out, at, extra);
     }
     at
 }
 
-fn put_event(out: &mut [u8], at: usize, archive: &[u8], event: ShownEvent) -> usize
-    ensures { λ r. ⌜ Puts (now (out .entry)) at (eventLine (now (archive .entry)) event) r (now (out .exit)) ⌝ }
+// An event's letter and fields.
+fn put_event(out: &mut [u8], at: usize, archive: &[u8], event: Event, report: ShownReport) -> usize
+    ensures { λ r. ⌜ Puts (now (out .entry)) at (eventShown (now (archive .entry)) event report) r (now (out .exit)) ⌝ }
 {
-    let second = put_event_start(out, at, event);
-    let third = put_event_references(out, second, archive, event);
-    let fourth = put_number(out, third, event.count as u64);
-    let last = put_extra(out, fourth, event.kind, event.extra);
+    let second = put_event_start(out, at, event, report);
+    let third = put_referents(out, second, archive, report);
+    let last = put_number(out, third, report.count as u64);
+    put_extra(out, last, event.variant, report.last)
+}
+
+// The line of a report: what is its own says, here alone, which letter and which fields in which order.
+fn put_report(out: &mut [u8], at: usize, archive: &[u8], report: ShownReport) -> usize
+    ensures { λ r. ⌜ Puts (now (out .entry)) at (reportLine (now (archive .entry)) report) r (now (out .exit)) ⌝ }
+{
+    let own = report.own;
+    let last = put_event(out, at, archive, own, report);
     put_bytes(out, last, b"\n")
 }
 
@@ -133,8 +151,8 @@ pub fn put_answer(out: &mut [u8], at: usize, archive: &[u8], answer: Answer) -> 
         Answer::Section { id } => put_section(out, at, id),
         Answer::ProviderEvent { id, event } => put_provider_event(out, at, id, event),
         Answer::Initialization { rate } => put_initialization(out, at, rate),
-        Answer::Event(event) => put_event(out, at, archive, event),
-        Answer::Skipped { kind, size } => put_skipped(out, at, kind, size),
+        Answer::Report(report) => put_report(out, at, archive, report),
+        Answer::Skipped { record_type, size } => put_skipped(out, at, record_type, size),
     }
 }
 
@@ -160,7 +178,7 @@ pub fn put_asked(out: &mut [u8], at: usize, archive: &[u8], asked: Asked) -> usi
     }
 }
 
-// The lines of so many arguments of the event at a place, asked for in the state right after it.
+// The lines of so many arguments of the record at a place, asked for in the state right after it.
 fn put_arguments(
     out: &mut [u8],
     at: usize,
@@ -182,7 +200,7 @@ fn put_arguments(
     last
 }
 
-// The lines behind that of an answer: an event's arguments.
+// The lines behind that of an answer: a report's arguments.
 fn put_answer_arguments(
     out: &mut [u8],
     at: usize,
@@ -194,14 +212,14 @@ fn put_answer_arguments(
     ensures { λ r. ⌜ Puts (now (out .entry)) at (answerArguments smallFormat (now (archive .entry)) (now (tables .entry)) state answer) r (now (out .exit)) ⌝ }
 {
     match answer {
-        Answer::Event(event) => put_arguments(
+        Answer::Report(report) => put_arguments(
             out,
             at,
             archive,
             state,
             tables,
-            event.place,
-            event.count,
+            report.place,
+            report.count,
         ),
         Answer::End {
             number: _,
@@ -217,7 +235,10 @@ fn put_answer_arguments(
         Answer::Section { id: _ } => at,
         Answer::ProviderEvent { id: _, event: _ } => at,
         Answer::Initialization { rate: _ } => at,
-        Answer::Skipped { kind: _, size: _ } => at,
+        Answer::Skipped {
+            record_type: _,
+            size: _,
+        } => at,
     }
 }
 
@@ -240,8 +261,11 @@ fn is_end(answer: Answer) -> bool
         Answer::Section { id: _ } => false,
         Answer::ProviderEvent { id: _, event: _ } => false,
         Answer::Initialization { rate: _ } => false,
-        Answer::Event(_) => false,
-        Answer::Skipped { kind: _, size: _ } => false,
+        Answer::Report(_) => false,
+        Answer::Skipped {
+            record_type: _,
+            size: _,
+        } => false,
     }
 }
 

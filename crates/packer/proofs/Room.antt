@@ -1,34 +1,30 @@
 -- The room of a repack: what clearing leaves of it, and how its slots are lent to the tally and come back between the two passes. Assumes nothing.
 use Prim.Native.Nat.{ℕ, _+_, _-_, _*_, _<_, _≤_}
-use mathlib.Core.Path.{_≡_, sym, ap, subst, _∙_}
+use mathlib.Core.Path.{_≡_, sym, ap, _∙_}
 use mathlib.Core.List.{List, [], _++_, append-nil}
 use mathlib.Core.Option.{none}
 use native.Mathlib.Omega.{arith}
-use lib.Dec.{lit<}
 use lib.ListN.{length, take, drop, getD, replicate, length-append, length-drop, length-replicate, drop-of-length-le}
 use lib.Seq.{length-take-le, drop-at, drop-drop}
+use Rattle.words.proofs.Words.{AllBytes}
+use Rattle.registering.specs.Counting.{sumBy}
+use Rattle.indexing.specs.Models.Indexes.{chosenTo, Indexes, chosenKey}
+use Rattle.indexing.proofs.Frames.{chosen-length, chosen-behind}
+use Rattle.indexing.proofs.Indexed.{choose-indexes}
 use Rattle.format.specs.declared.Format.{Format}
-use Rattle.format.specs.Limits.{smallFormat}
+use Rattle.format.specs.Limits.{smallFormat, longestArchive}
 use Rattle.format.proofs.Headers.{part-from}
-use Rattle.records.specs.Item.{fixedWords}
-use Rattle.tables.specs.Table.{FormatFits, tableWords, cleared}
-use Rattle.tables.proofs.Tables.{small-fits, cleared-zero, length-cleared}
-use Rattle.reader.specs.Step.{doorOf}
-use Rattle.rule.specs.Counting.{sumBy}
+use Rattle.records.specs.Models.Fixed.{fixedWords}
+use Rattle.tables.specs.Table.{tableWords, cleared}
+use Rattle.tables.proofs.Tables.{cleared-zero, length-cleared}
+use Rattle.reader.specs.Step.{openingNumber}
 use Rattle.rule.specs.Rule.{usesAll}
 use Rattle.rule.specs.Refusal.{runOf, refusalOf, itemsOf, writtenLength}
-use Rattle.rule.proofs.Bounds.{AllBytes}
-use Rattle.tally.specs.Slots.{measureOf, chosenTo}
-use Rattle.tally.specs.Tally.{Wide, Tallies, Indexes, chosenKey}
-use Rattle.tally.specs.Codes.{codes, lastOf, Chosen}
-use Rattle.tally.proofs.Frames.{chosen-length, chosen-behind}
-use Rattle.tally.proofs.Indexed.{choose-indexes}
+use Rattle.tally.specs.Models.Slots.{measureOf}
+use Rattle.tally.specs.Models.Tally.{Wide, Tallies}
+use Rattle.passes.specs.Models.Codes.{codes, lastOf, Chosen}
 use Rattle.packer.specs.Pack.{roomWords}
 use Rattle.packer.proofs.Measured.{measured, measured-low}
-
--- the limits of the small format fit the tables and the labels of the tally
-pub small-format : (f : Format) → f ≡ smallFormat → FormatFits f × (f .longest < 65536)
-small-format f small = subst (λ g. FormatFits g × (g .longest < 65536)) (sym small) (small-fits, lit< tt)
 
 -- ---- clearing
 
@@ -75,16 +71,16 @@ lent-wide f archive room us stretch is tallies = rw (part-from stretch room, is)
 
 -- what is measured of lent slots, with the words of the items, is the written length, and low
 pub lent-measured : (f : Format) (archive room : List ℕ) (fixed keys stretch : ℕ) → f ≡ smallFormat → AllBytes archive
-    → doorOf f archive (tableWords f) ≡ 0 → refusalOf f (runOf f archive) ≡ none
+    → openingNumber f archive (tableWords f) ≡ 0 → refusalOf f (runOf f archive) ≡ none
     → Tallies archive (tableWords f) (drop (tableWords f) room) (codes (lastOf f archive) (usesAll (itemsOf (runOf f archive))))
     → fixed ≡ sumBy fixedWords (itemsOf (runOf f archive)) → stretch ≡ tableWords f
     → keys ≡ measureOf stretch (take (length room - stretch) (drop stretch room))
-    → (8 * (fixed + keys) ≡ writtenLength f archive) × (8 * (fixed + keys) ≤ 16777216)
-lent-measured f archive room fixed keys stretch small bytes door unrefused tallies counted is measure =
+    → (8 * (fixed + keys) ≡ writtenLength f archive) × (8 * (fixed + keys) ≤ longestArchive)
+lent-measured f archive room fixed keys stretch small bytes opens unrefused tallies counted is measure =
     let same : keys ≡ measureOf (tableWords f) (drop (tableWords f) room) = rw (part-from stretch room, is) at measure in
     let slots = drop (tableWords f) room in (
-      omega (arith, same, measured f archive slots fixed small bytes door unrefused tallies counted),
-      omega (arith, same, measured-low f archive slots fixed small bytes door unrefused tallies counted),
+      omega (arith, same, measured f archive slots fixed small bytes opens unrefused tallies counted),
+      omega (arith, same, measured-low f archive slots fixed small bytes opens unrefused tallies counted),
     )
 
 -- ---- the choices

@@ -6,13 +6,14 @@ use mathlib.Core.Option.{Option, none, some}
 use lib.ListN.{length, take}
 use lib.Dec.{eqb, ltb}
 use Rattle.words.specs.Word.{pick}
-use Rattle.words.specs.Stream.{startsWithMagic, written}
+use Rattle.words.specs.Stream.{written}
 use Rattle.format.specs.declared.Format.{Format}
 use Rattle.records.specs.Item.{Item}
 use Rattle.tables.specs.Table.{tableWords, cleared}
 use Rattle.reader.specs.Reads.{ReadsAs}
 use Rattle.rule.specs.Rule.{rule}
 use Rattle.rule.specs.Refusal.{Refusal, refusal, runOf, refusalOf, itemsOf, writtenLength}
+use Rattle.format.specs.Header.{archiveNumber}
 use Rattle.packer.specs.declared.Packed.{Packed}
 use Rattle.packer.specs.declared.Packed.the-variants.{Refused, Written}
 
@@ -20,10 +21,9 @@ use Rattle.packer.specs.declared.Packed.the-variants.{Refused, Written}
 abbrev pub roomWords : Format → ℕ
 roomWords f = 4 * tableWords f
 
--- "Repacking checks 2, 1, 13": the number that archive and room are refused by at the door, or 0
-unfoldable pub packDoor : Format → List ℕ → ℕ → ℕ
-packDoor f archive room =
-    pick (ltb 16777216 (length archive)) 2 (pick (startsWithMagic archive) (pick (ltb room (roomWords f)) 13 0) 1)
+-- "Repacking checks 2, 1, 13": the number that archive and room are refused by before anything is read, or 0
+unfoldable pub packingNumber : Format → List ℕ → ℕ → ℕ
+packingNumber f archive room = archiveNumber archive 13 (roomWords f) room
 
 -- 14: "output shorter than what would be written"; "The written length in the reply counts the bytes written from the output's start"
 unfoldable pub writtenReply : ℕ → ℕ → Packed
@@ -34,15 +34,18 @@ abbrev pub refusedOr : Option Refusal → Packed → Packed
 refusedOr (some (refusal number place)) reply = Refused number place
 refusedOr none reply = reply
 
+-- the reply for an archive that is let in, and an output of this length
+abbrev pub passesReply : Format → List ℕ → ℕ → Packed
+passesReply f archive output = refusedOr (refusalOf f (runOf f archive)) (writtenReply output (writtenLength f archive))
+
 -- the reply for an archive, a room and an output of these lengths; "for 13 and 14, 0" is the place
 unfoldable pub packReply : Format → List ℕ → ℕ → ℕ → Packed
 packReply f archive room output =
-    pick (eqb (packDoor f archive room) 0) (refusedOr (refusalOf f (runOf f archive)) (writtenReply output (writtenLength f archive)))
-    (Refused (packDoor f archive room) 0)
+    pick (eqb (packingNumber f archive room) 0) (passesReply f archive output) (Refused (packingNumber f archive room) 0)
 
 -- "Refused by 1, 2 or 13: the work room is as it was. Otherwise its first 27,648 words are zero afterwards."
 unfoldable pub packRoom : Format → List ℕ → List ℕ → List ℕ
-packRoom f archive room = pick (eqb (packDoor f archive (length room)) 0) (cleared (roomWords f) room) room
+packRoom f archive room = pick (eqb (packingNumber f archive (length room)) 0) (cleared (roomWords f) room) room
 
 -- "Output past the written length is as it was", and all of it where the archive is refused
 abbrev pub outputOf : Packed → List ℕ → List ℕ → List ℕ

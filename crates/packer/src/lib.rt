@@ -4,14 +4,15 @@ ghost use mathlib.Core.Option.{none};
 ghost use Prim.Native.Nat.{ℕ, _*_, _<_, _≤_};
 ghost use lib.ListN.{length, drop, getD};
 ghost use Rattle.format.specs.Limits.{smallFormat};
-ghost use Rattle.tables.specs.Table.{FormatFits, tableWords};
-ghost use Rattle.reader.specs.Step.{doorOf};
+ghost use Rattle.tables.specs.Table.{tableWords};
+ghost use Rattle.tables.specs.Models.Entries.{FormatFits};
+ghost use Rattle.reader.specs.Step.{openingNumber};
 ghost use Rattle.rule.specs.Rule.{usesAll, rule as ruleOf};
 ghost use Rattle.rule.specs.Refusal.{runOf, refusalOf, itemsOf, writtenLength};
-ghost use Rattle.tally.specs.Tally.{Tallies};
-ghost use Rattle.tally.specs.Codes.{codes, lastOf};
-ghost use Rattle.packer.specs.Pack.{roomWords, packDoor, writtenReply, refusedOr, packReply, packRoom, outputOf, packOutput, Shortest};
-use counting::Count;
+ghost use Rattle.tally.specs.Models.Tally.{Tallies};
+ghost use Rattle.passes.specs.Models.Codes.{codes, lastOf};
+ghost use Rattle.packer.specs.Pack.{roomWords, packingNumber, writtenReply, passesReply, packReply, packRoom, outputOf, packOutput, Shortest};
+use first_pass::Count;
 use format::Format;
 
 // The number and place that an archive is refused by, or how many bytes were written.
@@ -20,26 +21,17 @@ pub enum Packed {
     Written { length: usize },
 }
 
-// The number that archive and room are refused by at the door, or 0.
-fn door(f: Format, archive: &[u8], room: usize) -> u8
+// The number that archive and room are refused by before anything is read, or 0.
+fn packing_number(f: Format, archive: &[u8], room: usize) -> u8
     requires { ⌜ FormatFits f ⌝ }
-    ensures { λ r. ⌜ r ≡ packDoor f (now (archive .entry)) room ⌝ }
+    ensures { λ r. ⌜ r ≡ packingNumber f (now (archive .entry)) room ⌝ }
 {
-    if 16777216 < archive.len() {
-        return 2;
-    }
-    if words::starts_with_magic(archive) {
-        if room < 4 * tables::table_words(f) {
-            return 13;
-        }
-        return 0;
-    }
-    1
+    format::archive_number(archive, 13, 4 * tables::table_words(f), room)
 }
 
 // The bytes are written, where the output holds them.
 fn write(f: Format, archive: &[u8], room: &mut [u32], output: &mut [u8], long: usize) -> Packed
-    requires { ⌜ (f ≡ smallFormat) × (doorOf f (now archive) (tableWords f) ≡ 0) × (refusalOf f (runOf f (now archive)) ≡ none) × (long ≡ writtenLength f (now archive)) ⌝ }
+    requires { ⌜ (f ≡ smallFormat) × (openingNumber f (now archive) (tableWords f) ≡ 0) × (refusalOf f (runOf f (now archive)) ≡ none) × (long ≡ writtenLength f (now archive)) ⌝ }
     requires { ⌜ (roomWords f ≤ length (now room)) × Tallies (now archive) (tableWords f) (drop (tableWords f) (now room)) (codes (lastOf f (now archive)) (usesAll (itemsOf (runOf f (now archive))))) ⌝ }
     ensures { λ r. ⌜ r ≡ writtenReply (length (now (output .entry))) long ⌝ }
     ensures { λ _. ⌜ now (output .exit) ≡ outputOf (writtenReply (length (now (output .entry))) long) (now (output .entry)) (ruleOf (itemsOf (runOf f (now (archive .entry))))) ⌝ }
@@ -52,21 +44,21 @@ fn write(f: Format, archive: &[u8], room: &mut [u32], output: &mut [u8], long: u
         };
     }
     let stretch = tables::table_words(f);
-    tally::choose(&mut room[stretch..], stretch);
+    indexing::choose(&mut room[stretch..], stretch);
     tables::clear(room, stretch);
-    writing::write_all(f, archive, room, output);
+    second_pass::write_all(f, archive, room, output);
     Packed::Written { length: long }
 }
 
 // Both passes, in a room that is clear.
 fn pack(f: Format, archive: &[u8], room: &mut [u32], output: &mut [u8]) -> Packed
-    requires { ⌜ (f ≡ smallFormat) × (doorOf f (now archive) (tableWords f) ≡ 0) × (roomWords f ≤ length (now room)) × ((i : ℕ) → i < roomWords f → getD (now room) i 0 ≡ 0) ⌝ }
-    ensures { λ r. ⌜ r ≡ refusedOr (refusalOf f (runOf f (now (archive .entry)))) (writtenReply (length (now (output .entry))) (writtenLength f (now (archive .entry)))) ⌝ }
-    ensures { λ _. ⌜ now (output .exit) ≡ outputOf (refusedOr (refusalOf f (runOf f (now (archive .entry)))) (writtenReply (length (now (output .entry))) (writtenLength f (now (archive .entry))))) (now (output .entry)) (ruleOf (itemsOf (runOf f (now (archive .entry))))) ⌝ }
+    requires { ⌜ (f ≡ smallFormat) × (openingNumber f (now archive) (tableWords f) ≡ 0) × (roomWords f ≤ length (now room)) × ((i : ℕ) → i < roomWords f → getD (now room) i 0 ≡ 0) ⌝ }
+    ensures { λ r. ⌜ r ≡ passesReply f (now (archive .entry)) (length (now (output .entry))) ⌝ }
+    ensures { λ _. ⌜ now (output .exit) ≡ outputOf (passesReply f (now (archive .entry)) (length (now (output .entry)))) (now (output .entry)) (ruleOf (itemsOf (runOf f (now (archive .entry))))) ⌝ }
     ensures { λ _. ⌜ (length (now (room .exit)) ≡ length (now (room .entry))) × (drop (roomWords f) (now (room .exit)) ≡ drop (roomWords f) (now (room .entry))) ⌝ }
 {
     let stretch = tables::table_words(f);
-    let count = counting::count_all(f, archive, room);
+    let count = first_pass::count_all(f, archive, room);
     match count {
         Count::Refused { number, place } => Packed::Refused { number, place },
         Count::Words(fixed) => {
@@ -84,7 +76,7 @@ pub fn repack(archive: &[u8], room: &mut [u32], output: &mut [u8]) -> Packed
     ensures { λ r. ⌜ Shortest smallFormat (now (archive .entry)) r (now (output .exit)) ⌝ }
 {
     let f = format::small_format();
-    let number = door(f, archive, room.len());
+    let number = packing_number(f, archive, room.len());
     if number != 0 {
         return Packed::Refused { number, place: 0 };
     }

@@ -6,16 +6,17 @@ use mathlib.Core.List.{List}
 use native.Mathlib.Numerals.{add-one}
 use borrow.Author.Tests.{eq-eqb}
 use lib.ListN.{length, replicate}
+use Rattle.effects.specs.Follow.{changed}
 use Rattle.format.specs.declared.Format.{Format}
 use Rattle.records.specs.Record.{recordAt}
 use Rattle.contexts.specs.declared.State.{State}
 use Rattle.contexts.specs.Context.{opening}
 use Rattle.tables.specs.Table.{tableWords}
-use Rattle.reader.specs.Step.{doorOf, stopping, changed, stepReply, stepTables}
+use Rattle.reader.specs.Step.{openingNumber, stopping, stepReply, stepTables}
 use Rattle.reader.proofs.Runs.{Sound}
 use Rattle.rule.proofs.Items.{end-is}
-use Rattle.passes.specs.Follow.{followed, followedTables}
-use Rattle.passes.specs.Last.{tablesFrom, tablesOf}
+use Rattle.passes.specs.Models.Follow.{afterRecord, tablesAfter}
+use Rattle.passes.specs.Models.Last.{tablesFrom, tablesOf}
 use Rattle.passes.proofs.Turns.{turn-state, turn-tables-step, turn-stops}
 
 -- tables of zeros, from opening, lead to the tables at the end
@@ -32,26 +33,26 @@ steps-stay f archive zero s tables same keeps = refl
 steps-stay f archive (suc steps) s tables same keeps = rw (same, keeps) (steps-stay f archive steps s tables same keeps)
 
 module _ (f : Format) (archive tables : List ℕ) (s : State) (steps : ℕ) (sound : Sound f archive s tables)
-    (door : doorOf f archive (length tables) ≡ 0) where
+    (opens : openingNumber f archive (length tables) ≡ 0) where
   -- at the archive's end the tables are those at the end
   pub tables-end : s .place ≡ length archive → tablesFrom f archive steps s tables ≡ tables
   unfolding stopping changed
   tables-end e =
-      let ends = end-is f archive tables s door sound (eq-eqb (s .place) (length archive) e) in
+      let ends = end-is f archive tables s opens sound (eq-eqb (s .place) (length archive) e) in
       steps-stay f archive steps s tables (rw ends) (rw ends)
 
   module _ (more : s .place < length archive) where
     -- where the record at the state's place goes on, so do the tables
-    pub tables-turn : followed f s (recordAt f archive (s .place) .content) (recordAt f archive (s .place) .next) .number ≡ 0
+    pub tables-turn : afterRecord s (recordAt f archive (s .place) .content) (recordAt f archive (s .place) .next) .number ≡ 0
         → tablesFrom f archive (suc steps) s tables
-        ≡ tablesFrom f archive steps (followed f s (recordAt f archive (s .place) .content) (recordAt f archive (s .place) .next) .state)
-        (followedTables f tables s (recordAt f archive (s .place) .content))
+        ≡ tablesFrom f archive steps (afterRecord s (recordAt f archive (s .place) .content) (recordAt f archive (s .place) .next) .state)
+        (tablesAfter f tables s (recordAt f archive (s .place) .content))
     unfolding tablesFrom
-    tables-turn goes = rw (turn-state f archive tables s sound door more goes, turn-tables-step f archive tables s sound door more goes)
+    tables-turn goes = rw (turn-state f archive tables s sound opens more goes, turn-tables-step f archive tables s sound opens more goes)
 
     -- where it stops the pass, the tables that it is followed in are those at the end
-    pub tables-stop : (followed f s (recordAt f archive (s .place) .content) (recordAt f archive (s .place) .next) .number ≡ 0 → ⊥)
-        → tablesFrom f archive steps s tables ≡ followedTables f tables s (recordAt f archive (s .place) .content)
+    pub tables-stop : (afterRecord s (recordAt f archive (s .place) .content) (recordAt f archive (s .place) .next) .number ≡ 0 → ⊥)
+        → tablesFrom f archive steps s tables ≡ tablesAfter f tables s (recordAt f archive (s .place) .content)
     tables-stop stop =
-        let k = turn-stops f archive tables s sound door more stop in
+        let k = turn-stops f archive tables s sound opens more stop in
         steps-stay f archive steps s tables (k .0) (k .1) ∙ sym (k .2)

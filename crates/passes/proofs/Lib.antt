@@ -1,5 +1,5 @@
+pub mod Codes
 pub mod Known
-pub mod Bounds
 pub mod Rooms
 pub mod Places
 pub mod Turns

@@ -1,45 +1,51 @@
 -- Where the bytes that a reference stands for stand: inside the archive, behind its first byte, and a thread's are 16. What is answered for such
 -- a place and length, and that no event stands at the archive's first byte.
 -- Assumes nothing.
-use Prim.Native.Nat.{ℕ, zero, suc, _+_, _-_, _≤_, _<_}
+use Prim.Native.Nat.{ℕ, zero, suc, _+_, _-_, _≤_, _<_, _^_}
 use mathlib.Core.Path.{_≡_, refl, sym, ap, subst, _∙_}
-use mathlib.Core.List.{List}
+use mathlib.Core.List.{[], List, _∷_}
 use mathlib.Core.Bool.{true}
 use native.Mathlib.Omega.{arith}
 use borrow.Author.Tests.{le-leb}
 use lib.Dec.{ltb}
 use lib.ListN.{length, take, drop, getD, length-take, length-drop, take-append-drop}
 use lib.Seq.{length-take-le}
-use Rattle.words.specs.Stream.{magic as magicBytes, startsWithMagic}
+use Rattle.records.proofs.Bounds.{ContentShort, record-short, ReportShort, lengthOf}
+use Rattle.records.proofs.Passes.{ThreadReference}
+use Rattle.encoding.proofs.EncodedItems.{magic-read, item-stands, magic-record}
+use Rattle.words.specs.Stream.{magic as magicBytes, startsWithMagic, partOf}
 use Rattle.words.proofs.Same.{same-true}
+use Rattle.words.proofs.Tests.{on-pick, cases}
 use Rattle.format.specs.declared.Format.{Format}
 use Rattle.format.specs.declared.Reference.{Reference}
 use Rattle.format.specs.declared.Reference.the-variants.{Inline, Index}
-use Rattle.format.specs.Part.{Inside}
-use Rattle.format.proofs.Parts.{on-pick}
+use Rattle.format.specs.Models.Bounds.{Inside}
 use Rattle.arguments.specs.declared.Value.{Value}
 use Rattle.arguments.specs.declared.Value.the-variants.{Scalar as ScalarValue, Text as TextValue}
-use Rattle.arguments.specs.declared.Argument.{Argument}
 use Rattle.arguments.specs.declared.Argued.{Argued}
 use Rattle.arguments.specs.declared.Argued.the-variants.{Refused as ArgumentRefused, Argument as ArgumentRead}
-use Rattle.arguments.specs.Argument.{argumentOf, Arguments, refused, arguments, prepend, onArgued, textIn, textsOf, argumentsOf}
-use Rattle.arguments.specs.Loss.{ValueInside}
-use Rattle.arguments.proofs.Arguments.{cases, argument-read}
-use Rattle.records.specs.declared.Event.{Event}
-use Rattle.records.specs.declared.Content.the-variants.{Refused, Magic, Event as EventRead}
+use Rattle.arguments.specs.Argument.{argumentOf, arguments, onArgued, textIn, argumentsRead}
+use Rattle.arguments.specs.Models.Bounds.{ValueInside}
+use Rattle.arguments.proofs.Arguments.{argument-read}
+use Rattle.records.specs.declared.Report.{Report}
+use Rattle.records.specs.declared.Content.the-variants.{Refused, Magic, Report as ReportRead}
 use Rattle.records.specs.Record.{recordAt}
-use Rattle.records.specs.Loss.{EventInside, ContentInside}
+use Rattle.records.specs.Models.Bounds.{ContentInside, ReportInside}
 use Rattle.records.specs.Item.{magic}
-use Rattle.records.proofs.WrittenRecords.{magic-read}
 use Rattle.tables.specs.declared.Resolved.the-variants.{Known}
-use Rattle.tables.specs.Table.{position, resolved}
+use Rattle.tables.specs.Table.{position, resolved, lookedUp}
 use Rattle.tables.proofs.Tables.{resolved-known}
-use Rattle.reader.specs.Step.{doorOf}
-use Rattle.reader.specs.Ask.{partOf}
-use Rattle.reader.proofs.Lookups.{ThreadReference, AllRead, ContentFits, record-whole}
-use Rattle.reader.proofs.NeverFour.{event-arguments}
-use Rattle.rule.proofs.Items.{item-stands}
-use Rattle.passes.proofs.Known.{Short, ContentShort, record-short, read-ends, registered, thread-short, texts-short}
+use Rattle.reader.specs.Step.{openingNumber}
+use Rattle.reader.proofs.Lookups.{record-whole, report-fits, LookupFits}
+use Rattle.reader.proofs.Steps.{report-stands as report-inside}
+use Rattle.records.specs.Lookups.{textLookup, reportLookups, argumentLookups}
+use Rattle.format.specs.Header.{archiveNumber}
+use Rattle.format.specs.Limits.{longestArchive}
+use Rattle.records.specs.declared.Lookup.{Lookup}
+use mathlib.Core.Logic.{inl, inr}
+use Rattle.reader.proofs.Changes.{Kind}
+use Rattle.passes.specs.Models.Known.{ReferenceFits}
+use Rattle.passes.proofs.Known.{Short, read-ends, registered, thread-short, argument-short}
 
 -- ---- what a reference stands for
 
@@ -82,65 +88,56 @@ thread-sixteen f archive tables context limit (Inline at n) place long h e = let
 thread-sixteen f archive tables context limit (Index index) place long h e =
     index-stands f archive tables context 3 index limit place long e .1 refl
 
--- ---- the references of an event
+-- ---- the references of a record
 
 -- a short reference inside a record that does not begin the archive
 inside-stands : (archive : List ℕ) (from to : ℕ) (r : Reference) → Inside from to r → Short r → 0 < from → to ≤ length archive → ReferenceStands archive r
 inside-stands archive from to (Inline place long) i s h l = record { inside = omega (arith, i .1); behind = λ some. omega (arith, i .0); short = s }
 inside-stands archive from to (Index index) i s h l = tt
 
--- an event that was read ends inside the archive
-pub event-ends : (f : Format) (archive : List ℕ) (place : ℕ) (e : Event) → recordAt f archive place .content ≡ EventRead e
+-- a reference that stands in an archive of bytes that can be counted fits a word and a label
+stands-fit : (archive : List ℕ) (r : Reference) → length archive < 2 ^ 31 → ReferenceStands archive r → ReferenceFits r
+stands-fit archive (Inline place long) low h = (omega (arith, h .inside), h .short)
+stands-fit archive (Index index) low h = tt
+
+-- a reference of a record: its table is one of the two, its bytes stand in the archive, and a thread's are 16
+pub record LookupStands (archive : List ℕ) (l : Lookup) : Type 0 where
+  pub table : Kind (l .table)
+  pub stands : ReferenceStands archive (l .reference)
+  pub sixteen : l .table ≡ 3 → ThreadReference (l .reference)
+
+-- each of a list does
+abbrev pub LookupsStand : List ℕ → List Lookup → Type 0
+LookupsStand archive [] = Unit {0}
+LookupsStand archive (l ∷ more) = LookupStands archive l × LookupsStand archive more
+
+-- so it fits
+pub lookup-fits : (archive : List ℕ) (l : Lookup) → length archive < 2 ^ 31 → LookupStands archive l → ReferenceFits (l .reference)
+lookup-fits archive l low h = stands-fit archive (l .reference) low (h .stands)
+
+-- what such a reference stands for in any tables, where it is known: bytes that stand in the archive, a thread's 16
+pub lookup-known : (f : Format) (archive tables : List ℕ) (context limit : ℕ) (l : Lookup) (place long : ℕ) → LookupStands archive l
+    → lookedUp f archive tables context limit l ≡ Known place long → KnownStands archive place long × (l .table ≡ 3 → long ≡ 16)
+lookup-known f archive tables context limit l place long h e = (
+  known-stands f archive tables context (l .table) limit (l .reference) place long (h .stands) e,
+  λ k. thread-sixteen f archive tables context limit (l .reference) place long (h .sixteen k) (rw k at e),
+)
+
+-- a record that was read ends inside the archive
+pub report-ends : (f : Format) (archive : List ℕ) (place : ℕ) (r : Report) → recordAt f archive place .content ≡ ReportRead r
     → recordAt f archive place .next ≤ length archive
-event-ends f archive place e k =
-    read-ends f archive place (λ number q. let z : EventRead e ≡ Refused number = sym k ∙ q in let z : _≡_ {A = ℕ} 0 1 = cc in omega arith)
+report-ends f archive place r k =
+    read-ends f archive place (λ number q. let z : ReportRead r ≡ Refused number = sym k ∙ q in let z : _≡_ {A = ℕ} 0 1 = cc in omega arith)
 
--- references of an event that all stand in the archive
-pub record EventStands (archive : List ℕ) (e : Event) : Type 0 where
-  pub thread : ReferenceStands archive (e .thread)
-  pub category : ReferenceStands archive (e .category)
-  pub name : ReferenceStands archive (e .name)
-  pub sixteen : ThreadReference (e .thread)
-
--- those of an event that was read, and does not begin the archive, do
-pub event-references-stand : (f : Format) (archive : List ℕ) (place : ℕ) (e : Event) → 0 < place → recordAt f archive place .content ≡ EventRead e
-    → EventStands archive e
-event-references-stand f archive place e h k =
-    let next = recordAt f archive place .next in
-    let r = record-whole f archive place in
-    let i = subst (ContentInside place next) k (r .inside) in
-    let t = subst (ContentFits f (take (next - place) (drop place archive)) place) k (r .holds) .0 in
-    let s = subst ContentShort k (record-short f archive place) in
-    let l = event-ends f archive place e k in
-    record {
-      thread = inside-stands archive place next (e .thread) (i .thread) (thread-short (e .thread) t) h l;
-      category = inside-stands archive place next (e .category) (i .category) (s .0) h l;
-      name = inside-stands archive place next (e .name) (i .name) (s .1) h l;
-      sixteen = t;
-    }
-
--- what they stand for, where it is known: bytes that stand in the archive, a thread's 16
-pub record EventKnown (f : Format) (archive tables : List ℕ) (context limit : ℕ) (e : Event) : Type 0 where
-  pub thread : (place long : ℕ) → resolved f archive tables context 3 limit (e .thread) ≡ Known place long
-      → KnownStands archive place long × (long ≡ 16)
-  pub category : (place long : ℕ) → resolved f archive tables context 2 limit (e .category) ≡ Known place long → KnownStands archive place long
-  pub name : (place long : ℕ) → resolved f archive tables context 2 limit (e .name) ≡ Known place long → KnownStands archive place long
-
--- so it is in any tables
-pub event-known : (f : Format) (archive tables : List ℕ) (context limit place : ℕ) (e : Event) → 0 < place
-    → recordAt f archive place .content ≡ EventRead e → EventKnown f archive tables context limit e
-event-known f archive tables context limit place e h k =
-    let s = event-references-stand f archive place e h k in
-    record {
-      thread = λ at long q. (
-        known-stands f archive tables context 3 limit (e .thread) at long (s .thread) q,
-        thread-sixteen f archive tables context limit (e .thread) at long (s .sixteen) q,
-      );
-      category = λ at long q. known-stands f archive tables context 2 limit (e .category) at long (s .category) q;
-      name = λ at long q. known-stands f archive tables context 2 limit (e .name) at long (s .name) q;
-    }
-
--- ---- the references of arguments
+-- a reference of a record stands so where it stands inside the record
+lookup-stands : (archive : List ℕ) (from to : ℕ) (l : Lookup) → LookupFits l → (l .table ≡ 2 → lengthOf (l .reference) < 65536)
+    → Inside from to (l .reference) → 0 < from → to ≤ length archive → LookupStands archive l
+lookup-stands archive from to l fit short i h e =
+    record { table = fit .kinds; stands = inside-stands archive from to (l .reference) i (of-table (fit .kinds)) h e; sixteen = fit .thread }
+  where
+    of-table : Kind (l .table) → Short (l .reference)
+    of-table (inl k) = short k
+    of-table (inr k) = thread-short (l .reference) (fit .thread k)
 
 -- the text of a value inside such a record; a scalar has none
 value-stands : (archive : List ℕ) (from to : ℕ) (v : Value) → ValueInside from to v → Short (textIn v) → 0 < from → to ≤ length archive
@@ -148,66 +145,74 @@ value-stands : (archive : List ℕ) (from to : ℕ) (v : Value) → ValueInside 
 value-stands archive from to (ScalarValue a) i s h l = record { inside = omega arith; behind = λ some. absurd (omega arith); short = s }
 value-stands archive from to (TextValue r) i s h l = inside-stands archive from to r i s h l
 
--- the name and the value's text of an argument that was read from `place` on, where what is left of its event stands in the archive
-pub argument-references-stand : (f : Format) (archive rest : List ℕ) (place : ℕ) (a : Argument) (size : ℕ) → 0 < place
-    → place + length rest ≤ length archive → argumentOf f rest place ≡ ArgumentRead a size
-    → ReferenceStands archive (a .name) × ReferenceStands archive (textIn (a .value))
-unfolding textsOf
-argument-references-stand f archive rest place a size h l e =
-    let k = argument-read f rest place a size e in
-    let s : Short (a .name) × Short (textIn (a .value)) = rw e at (texts-short f rest place) in (
-      inside-stands archive place (place + size) (a .name) (k .name) (s .0) h (omega (arith, k .inside)),
-      value-stands archive place (place + size) (a .value) (k .value) (s .1) h (omega (arith, k .inside)),
-    )
+-- a text that stands so
+text-stands : (archive : List ℕ) (r : Reference) → ReferenceStands archive r → LookupStands archive (textLookup r)
+text-stands archive r h = record { table = inl refl; stands = h; sixteen = λ k. absurd (omega (arith, k)) }
 
--- an argument is read, its references stand so, and so it goes on behind it
-abbrev pub ArgumentStands : List ℕ → Argued → (ℕ → Type 0) → Type 0
-ArgumentStands archive (ArgumentRefused number) then = ⊥
-ArgumentStands archive (ArgumentRead a size) then = ReferenceStands archive (a .name) × ReferenceStands archive (textIn (a .value)) × then size
-
--- so many arguments, one behind the other
-unfoldable pub ArgumentsStand : Format → List ℕ → ℕ → List ℕ → ℕ → Type 0
-ArgumentsStand f archive zero rest place = Unit {0}
-ArgumentsStand f archive (suc count) rest place =
-    ArgumentStands archive (argumentOf f rest place) (λ size. ArgumentsStand f archive count (drop size rest) (place + size))
-
--- behind an argument the others are read
-pub behind-read : (a : Argument) (q : Arguments) → AllRead (prepend a q) → AllRead q
-behind-read a (refused number) r = r
-behind-read a (arguments l next) r = tt
-
--- arguments that are all read stand so, where what is left of their event stands in the archive
+-- the arguments that are read from `place` on, where what is left of their record stands in the archive
 pub arguments-stand : (f : Format) (archive : List ℕ) (count : ℕ) (rest : List ℕ) (place : ℕ) → 0 < place → place + length rest ≤ length archive
-    → AllRead (argumentsOf f count rest place) → ArgumentsStand f archive count rest place
-unfolding ArgumentsStand argumentsOf
-arguments-stand f archive zero rest place h l r = tt
-arguments-stand f archive (suc count) rest place h l r =
-    go (λ more at. arguments-stand f archive count more at) (argumentOf f rest place) refl r
+    → LookupsStand archive (argumentLookups (argumentsRead f count rest place))
+unfolding argumentsRead
+arguments-stand f archive zero rest place h l = tt
+arguments-stand f archive (suc count) rest place h l = go (λ more at. arguments-stand f archive count more at) (argumentOf f rest place) refl
   where
-    go : ((more : List ℕ) (at : ℕ) → 0 < at → at + length more ≤ length archive → AllRead (argumentsOf f count more at)
-        → ArgumentsStand f archive count more at) → (x : Argued) → argumentOf f rest place ≡ x
-        → AllRead (onArgued x refused (λ a size. prepend a (argumentsOf f count (drop size rest) (place + size))))
-        → ArgumentStands archive x (λ size. ArgumentsStand f archive count (drop size rest) (place + size))
-    go more (ArgumentRefused number) e r = r
-    go more (ArgumentRead a size) e r =
-        let s = argument-references-stand f archive rest place a size h l e in
-        let k = argument-read f rest place a size e in (
-          s .0,
-          s .1,
-          more (drop size rest) (place + size) (omega arith) (omega (arith, k .inside, length-drop size rest))
-              (behind-read a (argumentsOf f count (drop size rest) (place + size)) r),
+    go : ((more : List ℕ) (at : ℕ) → 0 < at → at + length more ≤ length archive → LookupsStand archive (argumentLookups (argumentsRead f count more at)))
+        → (x : Argued) → argumentOf f rest place ≡ x
+        → LookupsStand archive
+        (argumentLookups (onArgued x (λ number. []) (λ a size. a ∷ argumentsRead f count (drop size rest) (place + size))))
+    go more (ArgumentRefused number) e = tt
+    go more (ArgumentRead a size) e =
+        let k = argument-read f rest place a size e in
+        let s = argument-short f rest place a size e in
+        let to = place + size in (
+          text-stands archive (a .name) (inside-stands archive place to (a .name) (k .name) (s .0) h (omega (arith, k .inside))),
+          (
+            text-stands archive (textIn (a .value)) (value-stands archive place to (a .value) (k .value) (s .1) h (omega (arith, k .inside))),
+            more (drop size rest) to (omega arith) (omega (arith, k .inside, length-drop size rest)),
+          ),
         )
 
--- so those of an event that does not begin the archive stand
-pub event-arguments-stand : (f : Format) (archive : List ℕ) (place : ℕ) (e : Event) → 0 < place → recordAt f archive place .content ≡ EventRead e
-    → ArgumentsStand f archive (e .count) (take (recordAt f archive place .next - e .arguments) (drop (e .arguments) archive)) (e .arguments)
-event-arguments-stand f archive place e h k =
+-- the references of a record that was read, and does not begin the archive, stand in the archive
+pub report-stands : (f : Format) (archive : List ℕ) (place : ℕ) (r : Report) → 0 < place → recordAt f archive place .content ≡ ReportRead r
+    → LookupsStand archive (reportLookups f archive r (recordAt f archive place .next))
+report-stands f archive place r h k =
     let next = recordAt f archive place .next in
-    let i : EventInside place next e = subst (ContentInside place next) k (record-whole f archive place .inside) in
-    let l = event-ends f archive place e k in
-    arguments-stand f archive (e .count) (take (next - e .arguments) (drop (e .arguments) archive)) (e .arguments) (omega (arith, i .behind))
-    (omega (arith, l, i .before, length-take (next - e .arguments) (drop (e .arguments) archive)))
-    (event-arguments f archive place e k)
+    let i : ReportInside place next r = subst (ContentInside place next) k (record-whole f archive place .inside) in
+    let fit = report-fits f archive place r k in
+    let s : ReportShort r = subst ContentShort k (record-short f archive place) in
+    let l = report-ends f archive place r k in (
+      lookup-stands archive place next (r .first) (fit .first) (s .first) (i .first) h l,
+      (
+        lookup-stands archive place next (r .second) (fit .second) (s .second) (i .second) h l,
+        (
+          lookup-stands archive place next (r .third) (fit .third) (s .third) (i .third) h l,
+          arguments-stand f archive (r .count) (take (next - r .arguments) (drop (r .arguments) archive)) (r .arguments) (omega (arith, i .behind))
+              (omega (arith, l, i .before, length-take (next - r .arguments) (drop (r .arguments) archive))),
+        ),
+      ),
+    )
+
+-- a record that ends at `next`: it has 15 arguments at most, which stand behind one another up to its end
+pub record ReportBounds (archive : List ℕ) (r : Report) (next : ℕ) : Type 0 where
+  pub few : r .count ≤ 15
+  pub first : r .arguments ≤ next
+  pub last : next ≤ length archive
+  pub part : r .arguments + length (take (next - r .arguments) (drop (r .arguments) archive)) ≡ next
+
+-- every record that was read stands so
+pub report-bounds : (f : Format) (archive : List ℕ) (place : ℕ) (r : Report) (next : ℕ) → place ≤ length archive
+    → recordAt f archive place ≡ record { content = ReportRead r; next = next } → ReportBounds archive r next
+report-bounds f archive place r next h k =
+    let s = report-inside f archive place r next h k in
+    let short : ReportShort r = subst ContentShort (ap (λ x. x .content) k) (record-short f archive place) in
+    record {
+      few = short .few;
+      first = s .1 .before;
+      last = s .0;
+      part =
+          rw (length-take-le (next - r .arguments) (drop (r .arguments) archive) (omega (arith, s .0, length-drop (r .arguments) archive)))
+          (omega (arith, s .1 .before));
+    }
 
 -- ---- parts of the archive
 
@@ -226,23 +231,24 @@ pub first-magic : (f : Format) (archive : List ℕ) → startsWithMagic archive 
 unfolding startsWithMagic
 first-magic f archive e =
     ap (λ r. r .content)
-    (item-stands f (λ key. 0) archive 0 magic tt (drop 8 archive, sym (take-append-drop 8 archive) ∙ rw (same-true (take 8 archive) magicBytes e)))
+    (item-stands f (λ key. 0) archive 0 magic (record { suits = tt; layout = record { pieces = tt; arguments = tt; last = tt; size = omega arith } })
+    (drop 8 archive, sym (take-append-drop 8 archive) ∙ rw (same-true (take 8 archive) magicBytes e, magic-record (λ key. 0))))
     ∙ magic-read f (λ key. 0) 0
 
--- so no event stands there
-pub event-later : (f : Format) (archive : List ℕ) (place : ℕ) (e : Event) → startsWithMagic archive ≡ true
-    → recordAt f archive place .content ≡ EventRead e → 0 < place
-event-later f archive zero e m k =
-    let q : Magic ≡ EventRead e = sym (first-magic f archive m) ∙ k in let z : _≡_ {A = ℕ} 0 1 = cc in absurd (omega arith)
-event-later f archive (suc place) e m k = omega arith
+-- so no record that refers to anything stands there
+pub report-later : (f : Format) (archive : List ℕ) (place : ℕ) (r : Report) → startsWithMagic archive ≡ true
+    → recordAt f archive place .content ≡ ReportRead r → 0 < place
+report-later f archive zero r m k =
+    let q : Magic ≡ ReportRead r = sym (first-magic f archive m) ∙ k in let z : _≡_ {A = ℕ} 0 1 = cc in absurd (omega arith)
+report-later f archive (suc place) r m k = omega arith
 
--- nor in an archive that the door lets in
-pub door-event : (f : Format) (archive : List ℕ) (room place : ℕ) (e : Event) → doorOf f archive room ≡ 0
-    → recordAt f archive place .content ≡ EventRead e → 0 < place
-unfolding doorOf
-door-event f archive room place e =
-    on-pick P (ltb 16777216 (length archive)) _ _ (λ q z. absurd (omega arith))
-    (λ q. cases (startsWithMagic archive) (λ m z k. event-later f archive place e m k) (λ m. rw m (λ z. absurd (omega arith))))
+-- nor in an archive that is let in
+pub opening-report : (f : Format) (archive : List ℕ) (room place : ℕ) (r : Report) → openingNumber f archive room ≡ 0
+    → recordAt f archive place .content ≡ ReportRead r → 0 < place
+unfolding openingNumber archiveNumber
+opening-report f archive room place r =
+    on-pick P (ltb longestArchive (length archive)) _ _ (λ q z. absurd (omega arith))
+    (λ q. cases (startsWithMagic archive) (λ m z k. report-later f archive place r m k) (λ m. rw m (λ z. absurd (omega arith))))
   where
     P : ℕ → Type 0
-    P n = n ≡ 0 → recordAt f archive place .content ≡ EventRead e → 0 < place
+    P n = n ≡ 0 → recordAt f archive place .content ≡ ReportRead r → 0 < place

@@ -1,50 +1,102 @@
--- One turn of a pass over an archive: what a record does to state, tables and items by `followed`, `followedTables` and `itemAt` is what a step
+-- One turn of a pass over an archive: what a record does to state, tables and items by `afterRecord`, `tablesAfter` and `itemAt` is what a step
 -- of the archive's run does, from any sound state. Assumes nothing.
-use Prim.Native.Nat.{ℕ, zero, suc, _+_, _-_, _≤_, _<_}
+use Prim.Native.Nat.{ℕ, zero, suc, _+_, _-_, _≤_, _<_, _%_}
 use mathlib.Core.Path.{_≡_, refl, sym, ap, subst, _∙_}
-use mathlib.Core.List.{List, [], _∷_}
+use mathlib.Core.List.{[], List, _∷_}
 use mathlib.Core.Option.{some}
 use mathlib.Core.Logic.{_⊎_, inl, inr}
 use native.Mathlib.Omega.{arith}
 use native.Mathlib.Nat.{add-zero, zero-add}
-use borrow.Author.Tests.{eq-eqb, ne-eqb}
-use lib.Dec.{eqb}
-use lib.ListN.{length, take, drop, length-set}
+use borrow.Author.Tests.{eq-eqb, ne-eqb, eqb-true, eqb-false, le-ltb, ltb-false}
+use lib.Dec.{eqb, ltb}
+use lib.ListN.{length, take, drop, length-set, getD}
+use Rattle.records.proofs.Lookups.{AllRead, behind-read}
+use Rattle.records.proofs.Passes.{RecordNumber}
+use Rattle.effects.specs.Follow.{changed, followedEntered, followed, changeOf}
+use Rattle.effects.specs.Models.Bounds.{EffectFits}
 use Rattle.words.specs.Word.{pick}
+use Rattle.words.proofs.Tests.{cases}
 use Rattle.format.specs.declared.Format.{Format}
 use Rattle.arguments.specs.declared.Argument.{Argument}
 use Rattle.arguments.specs.declared.Argued.{Argued}
 use Rattle.arguments.specs.declared.Argued.the-variants.{Refused as ArgumentRefused, Argument as ArgumentRead}
-use Rattle.arguments.specs.Argument.{argumentOf, refused, prepend as prependArgument, onArgued, argumentsOf, numberedOf}
-use Rattle.arguments.proofs.Arguments.{cases}
-use Rattle.records.specs.declared.Event.{Event}
+use Rattle.arguments.specs.Argument.{argumentOf, refused, prepend as prependArgument, onArgued, argumentsOf, numberedOf, argumentsRead}
+use Rattle.records.specs.declared.Report.{Report}
 use Rattle.records.specs.declared.Content.{Content}
-use Rattle.records.specs.declared.Content.the-variants.{Refused, Magic, ProviderInfo, Section, ProviderEvent, Initialization, String, Thread, Event as EventRead, Ignored, Skipped}
+use Rattle.records.specs.declared.Content.the-variants.{Refused, Magic, ProviderInfo, Section, ProviderEvent, Initialization, String, Thread, Report as ReportRead, Ignored, Skipped}
 use Rattle.records.specs.Record.{recordAt}
 use Rattle.contexts.specs.declared.State.{State}
 use Rattle.contexts.specs.Context.{moved, entering}
 use Rattle.contexts.proofs.Contexts.{entered-belongs}
-use Rattle.tables.specs.Table.{position}
-use Rattle.reader.specs.declared.Answer.{Answer}
-use Rattle.reader.specs.declared.Answer.the-variants.{End, ProviderInfo as ProviderInfoShown, Section as SectionShown, Event as EventShown}
+use Rattle.tables.specs.Table.{position, resolved, entryAt, highestOf}
+use Rattle.reader.specs.declared.Answer.the-variants.{End}
 use Rattle.reader.specs.declared.Asked.the-variants.{Refused as AskRefused}
 use Rattle.reader.specs.declared.Decision.{Decision}
-use Rattle.reader.specs.Shown.{shownEvent}
-use Rattle.reader.specs.Step.{doorOf, stopping, enteringAs, registering, contentDecision, decisionOf, changed, stepReply, stepTables}
+use Rattle.reader.specs.Shown.{shownReport, shownValue, noneBad, isBad}
+use Rattle.reader.specs.Step.{openingNumber, stopping, contentDecision, decisionOf, stepReply, stepTables, plainAnswer, effectDecision, reportAnswer, contentAnswer}
 use Rattle.reader.specs.Ask.{shownArgument, argumentReply}
 use Rattle.reader.specs.Reads.{prepend as prependItem, argumentItems, itemOf}
-use Rattle.reader.proofs.Lookups.{RecordNumber, AllRead, ContentFits, record-whole}
-use Rattle.reader.proofs.NeverFour.{argument-never-bad, event-arguments}
+use Rattle.reader.proofs.Lookups.{ContentFits, record-whole, index-fits, report-fits}
 use Rattle.reader.proofs.Runs.{Sound, step-sound, Grown, step-grows}
 use Rattle.rule.specs.Refusal.{Run, ended, passed, keepsAt, onAnswer, runFrom}
 use Rattle.rule.proofs.Events.{asked-is}
-use Rattle.rule.proofs.Items.{decision-is, end-is, shownAt, event-decided}
+use Rattle.rule.proofs.Items.{decision-is, end-is}
 use Rattle.rule.proofs.WholeRuns.{run-ends}
-use Rattle.passes.specs.Follow.{IndexFits, followedEntered, followed, followedTables}
-use Rattle.passes.specs.Item.{argumentAt, argumentsAt, eventAt, itemAt}
-use Rattle.passes.proofs.Places.{behind-read}
+use Rattle.records.specs.Effect.{effectOf}
+use Rattle.records.proofs.Contents.{RecordStands, record-read}
+use Rattle.reader.proofs.NeverFour.{none-bad, report-arguments, argument-tables, never-bad}
+use Rattle.records.specs.Lookups.{contentLookups, argumentLookups, reportLookups, argumentsTo}
+use Rattle.format.specs.declared.Reference.{Reference}
+use Rattle.format.specs.declared.Reference.the-variants.{Inline, Index}
+use Rattle.records.specs.declared.Effect.{Effect}
+use Rattle.records.specs.declared.Effect.the-variants.{Stop, Pass, Enter, SetRate, Register}
+use mathlib.Core.Bool.{true, false, true≢false}
+use Rattle.effects.specs.declared.Change.{Change}
+use Rattle.effects.specs.declared.Change.the-variants.{Keep, Set}
+use Rattle.arguments.specs.declared.Value.{Value as ReadValue}
+use Rattle.arguments.specs.declared.Value.the-variants.{Scalar as ScalarValue, Text as TextValue}
+use Rattle.passes.specs.Models.Follow.{afterRecord, tablesAfter}
+use Rattle.passes.specs.Models.Item.{argumentsAt, itemAt, reportAt, plainItem}
 
--- ---- the arguments of an event
+-- ---- the arguments of a record
+
+-- an entry that belongs, belongs at every later place and stands for the same
+resolved-later : (f : Format) (archive tables : List ℕ) (context kind limit later : ℕ) (r : Reference) → limit ≤ later
+    → isBad (resolved f archive tables context kind limit r) ≡ false
+    → resolved f archive tables context kind later r ≡ resolved f archive tables context kind limit r
+unfolding resolved entryAt isBad
+resolved-later f archive tables context kind limit later (Inline place long) h = λ k. refl
+resolved-later f archive tables context kind limit later (Index index) h =
+    cases (ltb (highestOf f kind) index) (λ e k. rw e)
+    (λ e. cases (eqb entry 0) (λ z k. rw (e, z))
+    (λ z. cases (eqb (entry % 8) 0)
+    (λ w. cases (ltb limit next) (λ l k. absurd (true≢false (rw (e, z, w, l) at k)))
+    (λ l k. rw (e, z, w, l, le-ltb later next (omega (arith, ltb-false limit next l)))))
+    (λ w k. rw (e, z, w))))
+  where
+    entry : ℕ
+    entry = getD tables (position f context kind index) 0
+
+    next : ℕ
+    next = recordAt f archive entry .next
+
+module _ (f : Format) (archive tables : List ℕ) (s : State) (sound : Sound f archive s tables) (later : ℕ) (behind : s .place ≤ later) where
+  -- so a text of a sound state is shown the same right after its record
+  text-later : (r : Reference) → resolved f archive tables (s .current) 2 later r ≡ resolved f archive tables (s .current) 2 (s .place) r
+  text-later r =
+      resolved-later f archive tables (s .current) 2 (s .place) later r behind (never-bad f archive tables s 2 r sound (inl refl))
+
+  -- and so are arguments
+  value-later : (v : ReadValue)
+      → shownValue f archive tables (s .current) later v ≡ shownValue f archive tables (s .current) (s .place) v
+  unfolding shownValue
+  value-later (ScalarValue x) = refl
+  value-later (TextValue r) = rw (text-later r)
+
+  arguments-later : (l : List Argument)
+      → argumentsAt f archive tables (s .current) later l ≡ argumentsAt f archive tables (s .current) (s .place) l
+  arguments-later [] = refl
+  arguments-later (a ∷ l) = rw (text-later (a .name), value-later (a .value), arguments-later l)
 
 module _ (f : Format) (archive tables : List ℕ) (s : State) (sound : Sound f archive s tables) (place total first : ℕ) (part : List ℕ)
     (asks : (n : ℕ) → n < total
@@ -53,8 +105,9 @@ module _ (f : Format) (archive tables : List ℕ) (s : State) (sound : Sound f a
   -- arguments that are all read, asked for from a number on, are those read one behind the other
   arguments-asked : (count number : ℕ) (rest : List ℕ) (at : ℕ) → number + count ≤ total → AllRead (argumentsOf f count rest at)
       → ((k : ℕ) → numberedOf f (number + k) part first ≡ numberedOf f k rest at)
-      → argumentItems f archive tables s place number count ≡ some (argumentsAt f archive tables (s .current) (s .place) count rest at)
-  unfolding argumentItems argumentsAt argumentsOf numberedOf shownArgument
+      → argumentItems f archive tables s place number count
+      ≡ some (argumentsAt f archive tables (s .current) (s .place) (argumentsRead f count rest at))
+  unfolding argumentItems argumentsRead argumentsOf numberedOf shownArgument
   arguments-asked zero number rest at low read same = refl
   arguments-asked (suc count) number rest at low read same =
       rw (asks number (omega arith), rw add-zero at (same 0))
@@ -72,16 +125,15 @@ module _ (f : Format) (archive tables : List ℕ) (s : State) (sound : Sound f a
           → ((size : ℕ) → AllRead (argumentsOf f count (drop size rest) (at + size))
           → ((k : ℕ) → numberedOf f (suc number + k) part first ≡ numberedOf f k (drop size rest) (at + size))
           → argumentItems f archive tables s place (suc number) count
-          ≡ some (argumentsAt f archive tables (s .current) (s .place) count (drop size rest) (at + size)))
+          ≡ some (argumentsAt f archive tables (s .current) (s .place) (argumentsRead f count (drop size rest) (at + size))))
           → prependItem archive (onArgued x (λ refused. AskRefused 4 (s .place)) (λ a size. shownArgument f archive tables s a))
           (argumentItems f archive tables s place (suc number) count)
-          ≡ some (onArgued x (λ number. [])
-          (λ a size. argumentAt f archive tables (s .current) (s .place) a
-          ∷ argumentsAt f archive tables (s .current) (s .place) count (drop size rest) (at + size)))
+          ≡ some (argumentsAt f archive tables (s .current) (s .place)
+          (onArgued x (λ number. []) (λ a size. a ∷ argumentsRead f count (drop size rest) (at + size))))
       of-argument (ArgumentRefused number) e r more = absurd r
       of-argument (ArgumentRead a size) e r more =
           rw (
-            argument-never-bad f archive tables s a sound,
+            none-bad f archive tables s (argumentLookups (a ∷ [])) sound (argument-tables (a ∷ [])),
             more size (behind-read a (argumentsOf f count (drop size rest) (at + size)) r) (next a size e),
           )
 
@@ -89,232 +141,251 @@ module _ (f : Format) (archive tables : List ℕ) (s : State) (sound : Sound f a
 
 -- the pass goes on as the step does
 record GoesOn (f : Format) (archive tables : List ℕ) (s : State) (c : Content) (next : ℕ) (d : Decision) : Type 0 where
-  number : followed f s c next .number ≡ 0
-  state : d .state ≡ followed f s c next .state
+  state : d .state ≡ afterRecord s c next .state
   place : d .state .place ≡ next
-  tables′ : changed tables (d .change) ≡ followedTables f tables s c
+  tables′ : changed tables (d .change) ≡ tablesAfter f tables s c
   item : itemOf f archive (changed tables (d .change)) (d .state) (d .answer) ≡ itemAt f archive tables s c next
   on : (run : Run) → onAnswer (d .answer) ended run ≡ run
 
 -- or it stops as the step does, and neither changes anything
 record Stops (f : Format) (tables : List ℕ) (s : State) (c : Content) (next : ℕ) (d : Decision) : Type 0 where
-  number : followed f s c next .number ≡ 0 → ⊥
-  answer : d .answer ≡ End (followed f s c next .number) (s .place)
+  answer : d .answer ≡ End (afterRecord s c next .number) (s .place)
   state : d .state ≡ s
   tables′ : changed tables (d .change) ≡ tables
-  keeps : followedTables f tables s c ≡ tables
+  keeps : tablesAfter f tables s c ≡ tables
 
--- one of the two
-abbrev Turned : Format → List ℕ → List ℕ → State → Content → ℕ → Decision → Type 0
-Turned f archive tables s c next d = GoesOn f archive tables s c next d ⊎ Stops f tables s c next d
+-- where a record stops the pass, it changes no table
+stopped-keeps : (f : Format) (tables : List ℕ) (s : State) (e : Effect) (next : ℕ) → (followed s e next .number ≡ 0 → ⊥)
+    → changed tables (changeOf f s e) ≡ tables
+unfolding changed changeOf followed
+stopped-keeps f tables s (Stop number) next h = refl
+stopped-keeps f tables s Pass next h = absurd (h refl)
+stopped-keeps f tables s (Enter id) next h = refl
+stopped-keeps f tables s (SetRate rate) next h = absurd (h refl)
+stopped-keeps f tables s (Register table index place long) next h = absurd (h refl)
 
-module _ (f : Format) (archive tables : List ℕ) (s : State) (sound : Sound f archive s tables) (door : doorOf f archive (length tables) ≡ 0) where
-  -- an event is shown with all of its arguments
-  event-item : (e : Event) (next : ℕ) → recordAt f archive (s .place) ≡ record { content = EventRead e; next = next }
-      → Sound f archive (moved s next) tables
-      → itemOf f archive tables (moved s next) (EventShown (shownAt f archive tables s e)) ≡ itemAt f archive tables s (EventRead e) next
-  unfolding itemOf itemAt eventAt shownEvent
-  event-item e next is later =
-      let part = take (next - e .arguments) (drop (e .arguments) archive) in
-      let read : AllRead (argumentsOf f (e .count) part (e .arguments)) =
-      rw is at (event-arguments f archive (s .place) e (ap (λ r. r .content) is)) in
-      rw (arguments-asked f archive tables (moved s next) later (s .place) (e .count) (e .arguments) part
-      (λ n low. asked-is f archive tables (moved s next) (s .place) n e later door (sound .whole) is low)
-      (e .count) 0 part (e .arguments) (omega arith) read (λ k. rw (zero-add k)))
+-- what is shown of a record is passed
+answer-on : (f : Format) (archive tables : List ℕ) (s : State) (c : Content) (run : Run) → onAnswer (contentAnswer f archive tables s c) ended run ≡ run
+unfolding plainAnswer reportAnswer
+answer-on f archive tables s (Refused number) run = refl
+answer-on f archive tables s Magic run = refl
+answer-on f archive tables s (ProviderInfo id at long) run = refl
+answer-on f archive tables s (Section id) run = refl
+answer-on f archive tables s (ProviderEvent id e) run = refl
+answer-on f archive tables s (Initialization rate) run = refl
+answer-on f archive tables s (String index at long) run = refl
+answer-on f archive tables s (Thread index at) run = refl
+answer-on f archive tables s (ReportRead r) run = refl
+answer-on f archive tables s Ignored run = refl
+answer-on f archive tables s (Skipped type size) run = refl
 
-  -- an event is passed
-  event-turn : (e : Event) (next : ℕ) → recordAt f archive (s .place) ≡ record { content = EventRead e; next = next }
-      → decisionOf f archive tables s ≡ contentDecision f archive tables s (EventRead e) next
-      → Turned f archive tables s (EventRead e) next (decisionOf f archive tables s)
-  unfolding contentDecision followed followedTables changed
-  event-turn e next is d =
-      let decided = event-decided f archive tables s e next sound d in
-      let later : Sound f archive (moved s next) tables = rw decided at (step-sound f archive tables s sound) in
-      rw decided (inl (record {
-        number = refl;
-        state = refl;
-        place = refl;
-        tables′ = refl;
-        item = event-item e next is later;
-        on = λ run. refl;
-      }))
+module _ (f : Format) (archive tables : List ℕ) (s : State) (sound : Sound f archive s tables) (opens : openingNumber f archive (length tables) ≡ 0) where
+  -- a record that refers to texts and threads is shown with all of its arguments
+  report-item : (r : Report) (next : ℕ) → recordAt f archive (s .place) ≡ record { content = ReportRead r; next = next }
+      → s .place ≤ next → Sound f archive (moved s next) tables
+      → itemOf f archive tables (moved s next) (reportAnswer f archive tables s r) ≡ itemAt f archive tables s (ReportRead r) next
+  unfolding itemOf reportAt reportAnswer shownReport
+  report-item r next is behind later =
+      let part = take (next - r .arguments) (drop (r .arguments) archive) in
+      let read : AllRead (argumentsOf f (r .count) part (r .arguments)) =
+      rw is at (report-arguments f archive (s .place) r (ap (λ x. x .content) is)) in
+      rw (
+        arguments-asked f archive tables (moved s next) later (s .place) (r .count) (r .arguments) part
+            (λ n low. asked-is f archive tables (moved s next) (s .place) n r later opens (sound .whole) is low)
+            (r .count) 0 part (r .arguments) (omega arith) read (λ k. rw (zero-add k)),
+        arguments-later f archive tables s sound next behind (argumentsRead f (r .count) part (r .arguments)),
+      )
 
-  -- a provider's id is made current, or is a ninth
-  entering-turn : (c : Content) (id next : ℕ) (answer : Answer)
-      → followed f s c next ≡ followedEntered (entering s id next) → followedTables f tables s c ≡ tables
-      → ((t : List ℕ) (z : State) → itemOf f archive t z answer ≡ itemAt f archive tables s c next)
-      → ((run : Run) → onAnswer answer ended run ≡ run)
-      → Turned f archive tables s c next (enteringAs s (entering s id next) answer)
-  unfolding enteringAs followedEntered stopping changed
-  entering-turn c id next answer is keeps item on =
-      cases (entering s id next .ninth)
-      (λ e. rw e (inr (record { number = rw (is, e) (λ z. omega arith); answer = rw (is, e); state = refl; tables′ = refl; keeps = keeps })))
-      (λ e. rw e (inl (record {
-        number = rw (is, e);
-        state = rw (is, e);
-        place = entered-belongs s id next (sound .count) (sound .eight) e .place-is;
-        tables′ = sym keeps;
-        item = item tables (entering s id next .state);
-        on = on;
-      })))
+  -- every record is shown as its item
+  content-item : (c : Content) (next : ℕ) → recordAt f archive (s .place) ≡ record { content = c; next = next } → s .place ≤ next
+      → Sound f archive (afterRecord s c next .state) (tablesAfter f tables s c)
+      → itemOf f archive (tablesAfter f tables s c) (afterRecord s c next .state) (contentAnswer f archive tables s c)
+      ≡ itemAt f archive tables s c next
+  unfolding itemOf plainAnswer plainItem effectOf followed changeOf changed
+  content-item (Refused number) next is behind later = refl
+  content-item Magic next is behind later = refl
+  content-item (ProviderInfo id at long) next is behind later = refl
+  content-item (Section id) next is behind later = refl
+  content-item (ProviderEvent id e) next is behind later = refl
+  content-item (Initialization rate) next is behind later = refl
+  content-item (String index at long) next is behind later = refl
+  content-item (Thread index at) next is behind later = refl
+  content-item (ReportRead r) next is behind later = report-item r next is behind later
+  content-item Ignored next is behind later = refl
+  content-item (Skipped type size) next is behind later = refl
 
-  -- every record is passed, or stops pass and step alike
-  content-turn : (c : Content) (next : ℕ) → recordAt f archive (s .place) ≡ record { content = c; next = next }
-      → ContentFits f (take (next - s .place) (drop (s .place) archive)) (s .place) c
-      → decisionOf f archive tables s ≡ contentDecision f archive tables s c next
-      → Turned f archive tables s c next (decisionOf f archive tables s)
-  unfolding contentDecision stopping registering changed followed followedTables itemOf itemAt
-  content-turn (Refused number) next is fits d =
-      rw d (inr (record { number = λ z. omega (arith, fits .0); answer = refl; state = refl; tables′ = refl; keeps = refl }))
-  content-turn Magic next is fits d =
-      rw d (inl (record { number = refl; state = refl; place = refl; tables′ = refl; item = refl; on = λ run. refl }))
-  content-turn (ProviderInfo id at long) next is fits d =
-      rw d (entering-turn (ProviderInfo id at long) id next (ProviderInfoShown id at long) refl refl (λ t z. refl) (λ run. refl))
-  content-turn (Section id) next is fits d =
-      rw d (entering-turn (Section id) id next (SectionShown id) refl refl (λ t z. refl) (λ run. refl))
-  content-turn (ProviderEvent id e) next is fits d =
-      rw d (inl (record { number = refl; state = refl; place = refl; tables′ = refl; item = refl; on = λ run. refl }))
-  content-turn (Initialization rate) next is fits d =
-      rw d (inl (record { number = refl; state = refl; place = refl; tables′ = refl; item = refl; on = λ run. refl }))
-  content-turn (String index at long) next is fits d =
-      rw d (inl (record { number = refl; state = refl; place = refl; tables′ = refl; item = refl; on = λ run. refl }))
-  content-turn (Thread index at) next is fits d =
-      rw d (inl (record { number = refl; state = refl; place = refl; tables′ = refl; item = refl; on = λ run. refl }))
-  content-turn (EventRead e) next is fits d = event-turn e next is d
-  content-turn Ignored next is fits d =
-      rw d (inl (record { number = refl; state = refl; place = refl; tables′ = refl; item = refl; on = λ run. refl }))
-  content-turn (Skipped type size) next is fits d =
-      rw d (inl (record { number = refl; state = refl; place = refl; tables′ = refl; item = refl; on = λ run. refl }))
+  -- an id that is made current moves the state on
+  entered : (id next : ℕ) → followedEntered (entering s id next) .number ≡ 0 → followedEntered (entering s id next) .state .place ≡ next
+  unfolding followedEntered
+  entered id next =
+      cases (entering s id next .ninth) (λ e z. let n : _≡_ {A = ℕ} 9 0 = rw e at z in absurd (omega arith))
+      (λ e z. rw e (entered-belongs s id next (sound .count) (sound .eight) e .place-is))
 
-  -- a run goes on or ends as the pass does
-  run-by : (c : Content) (next steps : ℕ) → Turned f archive tables s c next (decisionOf f archive tables s)
-      → runFrom f archive (suc steps) s tables
-      ≡ pick (eqb (followed f s c next .number) 0)
-      (passed (s .place) (keepsAt f archive (s .place)) (itemAt f archive tables s c next)
-      (runFrom f archive steps (followed f s c next .state) (followedTables f tables s c)))
-      (ended (followed f s c next .number) (s .place))
-  unfolding runFrom
-  run-by c next steps (inl g) = g .on _ ∙ rw (eq-eqb (followed f s c next .number) 0 (g .number), g .item, g .state, g .tables′)
-  run-by c next steps (inr h) =
-      run-ends f archive steps s tables (followed f s c next .number) (s .place) (h .answer)
-      ∙ rw (ne-eqb (followed f s c next .number) 0 (h .number))
+  -- where the pass goes on, the state stands behind the record
+  content-place : (c : Content) (next : ℕ) → ContentFits f (take (next - s .place) (drop (s .place) archive)) (s .place) c
+      → afterRecord s c next .number ≡ 0 → afterRecord s c next .state .place ≡ next
+  unfolding effectOf followed
+  content-place (Refused number) next fits z = absurd (omega (arith, fits .0))
+  content-place Magic next fits z = refl
+  content-place (ProviderInfo id at long) next fits z = entered id next z
+  content-place (Section id) next fits z = entered id next z
+  content-place (ProviderEvent id e) next fits z = refl
+  content-place (Initialization rate) next fits z = refl
+  content-place (String index at long) next fits z = refl
+  content-place (Thread index at) next fits z = refl
+  content-place (ReportRead r) next fits z = refl
+  content-place Ignored next fits z = refl
+  content-place (Skipped type size) next fits z = refl
 
--- where the number is 0 it goes on
-goes-on : (f : Format) (archive tables : List ℕ) (s : State) (c : Content) (next : ℕ) (d : Decision) → Turned f archive tables s c next d
-    → followed f s c next .number ≡ 0 → GoesOn f archive tables s c next d
-goes-on f archive tables s c next d (inl g) z = g
-goes-on f archive tables s c next d (inr h) z = absurd (h .number z)
+  -- no entry that a record is looked up in is bad
+  content-none-bad : (c : Content) (next : ℕ) → recordAt f archive (s .place) ≡ record { content = c; next = next }
+      → noneBad f archive tables (s .current) (s .place) (contentLookups f archive c next) ≡ true
+  unfolding noneBad
+  content-none-bad (Refused number) next is = refl
+  content-none-bad Magic next is = refl
+  content-none-bad (ProviderInfo id at long) next is = refl
+  content-none-bad (Section id) next is = refl
+  content-none-bad (ProviderEvent id e) next is = refl
+  content-none-bad (Initialization rate) next is = refl
+  content-none-bad (String index at long) next is = refl
+  content-none-bad (Thread index at) next is = refl
+  content-none-bad (ReportRead r) next is =
+      let fits = report-fits f archive (s .place) r (ap (λ x. x .content) is) in
+      none-bad f archive tables s (reportLookups f archive r next) sound
+      (fits .first .kinds, (fits .second .kinds, (fits .third .kinds, argument-tables (argumentsTo f archive r next))))
+  content-none-bad Ignored next is = refl
+  content-none-bad (Skipped type size) next is = refl
 
--- where it is not 0 it stops
-stops : (f : Format) (archive tables : List ℕ) (s : State) (c : Content) (next : ℕ) (d : Decision) → Turned f archive tables s c next d
-    → (followed f s c next .number ≡ 0 → ⊥) → Stops f tables s c next d
-stops f archive tables s c next d (inl g) stop = absurd (stop (g .number))
-stops f archive tables s c next d (inr h) stop = h
+  module _ (c : Content) (next : ℕ) (is : recordAt f archive (s .place) ≡ record { content = c; next = next })
+      (fits : ContentFits f (take (next - s .place) (drop (s .place) archive)) (s .place) c) (behind : s .place ≤ next)
+      (d : decisionOf f archive tables s ≡ contentDecision f archive tables s c next) where
+    -- the step does what the record's effect says
+    by-effect : decisionOf f archive tables s ≡ effectDecision f s (effectOf c) next (contentAnswer f archive tables s c)
+    unfolding contentDecision
+    by-effect = d ∙ rw (content-none-bad c next is)
+
+    -- where the number is 0 it goes on
+    content-on : afterRecord s c next .number ≡ 0 → GoesOn f archive tables s c next (decisionOf f archive tables s)
+    unfolding effectDecision
+    content-on z =
+        let decided : decisionOf f archive tables s
+        ≡ record { answer = contentAnswer f archive tables s c; state = afterRecord s c next .state; change = changeOf f s (effectOf c) } =
+        by-effect ∙ rw (eq-eqb (afterRecord s c next .number) 0 z) in
+        let later : Sound f archive (afterRecord s c next .state) (tablesAfter f tables s c) = rw decided at (step-sound f archive tables s sound) in
+        rw decided (record {
+          state = refl;
+          place = content-place c next fits z;
+          tables′ = refl;
+          item = content-item c next is behind later;
+          on = answer-on f archive tables s c;
+        })
+
+    -- where it is not 0 it stops
+    content-stops : (afterRecord s c next .number ≡ 0 → ⊥) → Stops f tables s c next (decisionOf f archive tables s)
+    unfolding effectDecision stopping changed
+    content-stops n =
+        let decided : decisionOf f archive tables s ≡ stopping s (afterRecord s c next .number) (s .place) =
+        by-effect ∙ rw (ne-eqb (afterRecord s c next .number) 0 n) in
+        rw decided (record { answer = refl; state = refl; tables′ = refl; keeps = stopped-keeps f tables s (effectOf c) next n })
+
+    -- a run goes on or ends as the pass does
+    run-by : (steps : ℕ)
+        → runFrom f archive (suc steps) s tables
+        ≡ pick (eqb (afterRecord s c next .number) 0)
+        (passed (s .place) (keepsAt f archive (s .place)) (itemAt f archive tables s c next)
+        (runFrom f archive steps (afterRecord s c next .state) (tablesAfter f tables s c)))
+        (ended (afterRecord s c next .number) (s .place))
+    unfolding runFrom
+    run-by steps =
+        cases (eqb (afterRecord s c next .number) 0)
+        (λ e. let g = content-on (eqb-true (afterRecord s c next .number) 0 e) in g .on _ ∙ rw (e, g .item, g .state, g .tables′))
+        (λ e. let h = content-stops (eqb-false (afterRecord s c next .number) 0 e) in
+        run-ends f archive steps s tables (afterRecord s c next .number) (s .place) (h .answer) ∙ rw e)
 
 -- ---- a turn of a pass
 
 -- a record sets one entry at most, and so keeps the number of table words
-pub turn-tables : (f : Format) (tables : List ℕ) (s : State) (c : Content) → length (followedTables f tables s c) ≡ length tables
-unfolding followedTables
-turn-tables f tables s (Refused number) = refl
-turn-tables f tables s Magic = refl
-turn-tables f tables s (ProviderInfo id at long) = refl
-turn-tables f tables s (Section id) = refl
-turn-tables f tables s (ProviderEvent id e) = refl
-turn-tables f tables s (Initialization rate) = refl
-turn-tables f tables s (String index at long) = length-set tables (position f (s .current) 2 index) (s .place)
-turn-tables f tables s (Thread index at) = length-set tables (position f (s .current) 3 index) (s .place)
-turn-tables f tables s (EventRead e) = refl
-turn-tables f tables s Ignored = refl
-turn-tables f tables s (Skipped type size) = refl
-
--- the index of a string or thread record that was read is one of its table, as `follow` asks
-pub record-index : (f : Format) (archive : List ℕ) (place : ℕ) → IndexFits f (recordAt f archive place .content)
-record-index f archive place = go (recordAt f archive place .content) (record-whole f archive place .holds)
+pub turn-tables : (f : Format) (tables : List ℕ) (s : State) (c : Content) → length (tablesAfter f tables s c) ≡ length tables
+unfolding changed
+turn-tables f tables s c = go (changeOf f s (effectOf c))
   where
-    source : List ℕ
-    source = take (recordAt f archive place .next - place) (drop place archive)
+    go : (x : Change) → length (changed tables x) ≡ length tables
+    go Keep = refl
+    go (Set position entry) = length-set tables position entry
 
-    go : (c : Content) → ContentFits f source place c → IndexFits f c
-    go (Refused number) h = tt
-    go Magic h = tt
-    go (ProviderInfo id at long) h = tt
-    go (Section id) h = tt
-    go (ProviderEvent id e) h = tt
-    go (Initialization rate) h = tt
-    go (String index at long) h = h .1
-    go (Thread index at) h = h .1
-    go (EventRead e) h = tt
-    go Ignored h = tt
-    go (Skipped type size) h = tt
+-- the index of what a record registers is one of its table, as `follow` asks
+pub record-index : (f : Format) (archive : List ℕ) (place : ℕ) → EffectFits f (effectOf (recordAt f archive place .content))
+record-index f archive place =
+    index-fits f (take (recordAt f archive place .next - place) (drop place archive)) place (recordAt f archive place .content)
+    (record-whole f archive place .holds)
 
 -- a run whose state stands at the archive's length ends there
-pub run-end : (f : Format) (archive tables : List ℕ) (s : State) (steps : ℕ) → Sound f archive s tables → doorOf f archive (length tables) ≡ 0
+pub run-end : (f : Format) (archive tables : List ℕ) (s : State) (steps : ℕ) → Sound f archive s tables → openingNumber f archive (length tables) ≡ 0
     → s .place ≡ length archive → runFrom f archive (suc steps) s tables ≡ ended 0 (s .place)
 unfolding stopping
-run-end f archive tables s steps sound door e =
-    run-ends f archive steps s tables 0 (s .place) (rw (end-is f archive tables s door sound (eq-eqb (s .place) (length archive) e)))
+run-end f archive tables s steps sound opens e =
+    run-ends f archive steps s tables 0 (s .place) (rw (end-is f archive tables s opens sound (eq-eqb (s .place) (length archive) e)))
 
-module _ (f : Format) (archive tables : List ℕ) (s : State) (sound : Sound f archive s tables) (door : doorOf f archive (length tables) ≡ 0)
+module _ (f : Format) (archive tables : List ℕ) (s : State) (sound : Sound f archive s tables) (opens : openingNumber f archive (length tables) ≡ 0)
     (more : s .place < length archive) where
-  -- a step from a sound state does as the pass does
-  turned : Turned f archive tables s (recordAt f archive (s .place) .content) (recordAt f archive (s .place) .next) (decisionOf f archive tables s)
-  turned =
-      let r = recordAt f archive (s .place) in
-      content-turn f archive tables s sound door (r .content) (r .next) refl (record-whole f archive (s .place) .holds)
-      (decision-is f archive tables s (r .content) (r .next) door sound (λ e. omega arith) refl)
+  -- the record at the state's place, and the place behind it
+  abbrev content : Content
+  content = recordAt f archive (s .place) .content
+
+  abbrev next : ℕ
+  next = recordAt f archive (s .place) .next
+
+  behind : s .place ≤ next
+  behind = go (record-read f archive (s .place))
+    where
+      go : ((number : ℕ) × (recordAt f archive (s .place) ≡ record { content = Refused number; next = s .place }))
+          ⊎ ((size : ℕ) × RecordStands f archive (s .place) size (recordAt f archive (s .place))) → s .place ≤ next
+      go (inl (number, e)) = omega (arith, ap (λ x. x .next) e)
+      go (inr (size, r)) = omega (arith, r .next)
+
+  decided : decisionOf f archive tables s ≡ contentDecision f archive tables s content next
+  decided = decision-is f archive tables s content next opens sound (λ e. omega arith) refl
 
   -- one turn of the run, by what the record at its place does
   pub run-turn : (steps : ℕ)
       → runFrom f archive (suc steps) s tables
-      ≡ pick (eqb (followed f s (recordAt f archive (s .place) .content) (recordAt f archive (s .place) .next) .number) 0)
-      (passed (s .place) (keepsAt f archive (s .place))
-      (itemAt f archive tables s (recordAt f archive (s .place) .content) (recordAt f archive (s .place) .next))
-      (runFrom f archive steps (followed f s (recordAt f archive (s .place) .content) (recordAt f archive (s .place) .next) .state)
-      (followedTables f tables s (recordAt f archive (s .place) .content))))
-      (ended (followed f s (recordAt f archive (s .place) .content) (recordAt f archive (s .place) .next) .number) (s .place))
-  run-turn steps =
-      run-by f archive tables s sound door (recordAt f archive (s .place) .content) (recordAt f archive (s .place) .next) steps turned
+      ≡ pick (eqb (afterRecord s content next .number) 0)
+      (passed (s .place) (keepsAt f archive (s .place)) (itemAt f archive tables s content next)
+      (runFrom f archive steps (afterRecord s content next .state) (tablesAfter f tables s content)))
+      (ended (afterRecord s content next .number) (s .place))
+  run-turn steps = run-by f archive tables s sound opens content next refl (record-whole f archive (s .place) .holds) behind decided steps
 
   -- where the record stops the pass, the step changes nothing, and neither does following the record
-  pub turn-stops : (followed f s (recordAt f archive (s .place) .content) (recordAt f archive (s .place) .next) .number ≡ 0 → ⊥)
-      → (stepReply f archive tables s .state ≡ s)
-      × (stepTables f archive tables s ≡ tables)
-      × (followedTables f tables s (recordAt f archive (s .place) .content) ≡ tables)
+  pub turn-stops : (afterRecord s content next .number ≡ 0 → ⊥)
+      → (stepReply f archive tables s .state ≡ s) × (stepTables f archive tables s ≡ tables) × (tablesAfter f tables s content ≡ tables)
   turn-stops stop =
-      let r = recordAt f archive (s .place) in
-      let h = stops f archive tables s (r .content) (r .next) (decisionOf f archive tables s) turned stop in
+      let h = content-stops f archive tables s sound opens content next refl (record-whole f archive (s .place) .holds) behind decided stop in
       (h .state, h .tables′, h .keeps)
 
-  module _ (goes : followed f s (recordAt f archive (s .place) .content) (recordAt f archive (s .place) .next) .number ≡ 0) where
+  module _ (goes : afterRecord s content next .number ≡ 0) where
     -- the step goes on
-    on-as : GoesOn f archive tables s (recordAt f archive (s .place) .content) (recordAt f archive (s .place) .next) (decisionOf f archive tables s)
-    on-as =
-        goes-on f archive tables s (recordAt f archive (s .place) .content) (recordAt f archive (s .place) .next) (decisionOf f archive tables s) turned goes
+    on-as : GoesOn f archive tables s content next (decisionOf f archive tables s)
+    on-as = content-on f archive tables s sound opens content next refl (record-whole f archive (s .place) .holds) behind decided goes
 
     -- where the pass goes on, its state is the step's
-    pub turn-state : stepReply f archive tables s .state
-        ≡ followed f s (recordAt f archive (s .place) .content) (recordAt f archive (s .place) .next) .state
+    pub turn-state : stepReply f archive tables s .state ≡ afterRecord s content next .state
     turn-state = on-as .state
 
     -- and so are its tables
-    pub turn-tables-step : stepTables f archive tables s ≡ followedTables f tables s (recordAt f archive (s .place) .content)
+    pub turn-tables-step : stepTables f archive tables s ≡ tablesAfter f tables s content
     turn-tables-step = on-as .tables′
 
     -- so state and tables stay sound
-    pub turn-sound : Sound f archive (followed f s (recordAt f archive (s .place) .content) (recordAt f archive (s .place) .next) .state)
-        (followedTables f tables s (recordAt f archive (s .place) .content))
+    pub turn-sound : Sound f archive (afterRecord s content next .state) (tablesAfter f tables s content)
     turn-sound = rw (← turn-state, ← turn-tables-step) (step-sound f archive tables s sound)
 
     -- places and ids only grow
-    pub turn-grows : Grown s (followed f s (recordAt f archive (s .place) .content) (recordAt f archive (s .place) .next) .state)
+    pub turn-grows : Grown s (afterRecord s content next .state)
     turn-grows = rw (← turn-state) (step-grows f archive tables s)
 
     -- and the state stands behind the record, a word further at least, and inside the archive
-    pub turn-place : (followed f s (recordAt f archive (s .place) .content) (recordAt f archive (s .place) .next) .state .place
-        ≡ recordAt f archive (s .place) .next)
-        × (s .place + 8 ≤ recordAt f archive (s .place) .next) × (recordAt f archive (s .place) .next ≤ length archive)
-    unfolding followed
+    pub turn-place : (afterRecord s content next .state .place ≡ next) × (s .place + 8 ≤ next) × (next ≤ length archive)
+    unfolding effectOf followed
     turn-place = (
       sym (ap (λ t. t .place) turn-state) ∙ on-as .place,
       go (record-whole f archive (s .place) .some),
@@ -322,10 +393,9 @@ module _ (f : Format) (archive tables : List ℕ) (s : State) (sound : Sound f a
     )
       where
         source : List ℕ
-        source = take (recordAt f archive (s .place) .next - s .place) (drop (s .place) archive)
+        source = take (next - s .place) (drop (s .place) archive)
 
-        go : ((number : ℕ) × (recordAt f archive (s .place) .content ≡ Refused number)) ⊎ (s .place + 8 ≤ recordAt f archive (s .place) .next)
-            → s .place + 8 ≤ recordAt f archive (s .place) .next
+        go : ((number : ℕ) × (content ≡ Refused number)) ⊎ (s .place + 8 ≤ next) → s .place + 8 ≤ next
         go (inl (number, e)) =
             let fits : RecordNumber number = subst (ContentFits f source (s .place)) e (record-whole f archive (s .place) .holds) in
             let z : number ≡ 0 = rw e at goes in

@@ -1,4 +1,1 @@
-pub mod Follow
-pub mod Item
-pub mod Known
-pub mod Last
+pub mod Models

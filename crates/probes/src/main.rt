@@ -137,10 +137,10 @@ fn put_argument(
     archive: &[u8],
     state: State,
     tables: &[u32],
-    event: usize,
+    place: usize,
     number: usize,
 ) -> usize {
-    let asked = reader::argument(archive, state, tables, event, number);
+    let asked = reader::argument(archive, state, tables, place, number);
     listings::put_asked(out, at, archive, asked)
 }
 

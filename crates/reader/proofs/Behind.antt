@@ -1,8 +1,8 @@
 -- Table words behind the first tableWords are never looked at, and a step treats the first ones the same whatever stands behind. Assumes nothing.
-use Prim.Native.Nat.{ℕ, zero, suc, _+_, _-_, _%_, _≤_, _<_}
+use Prim.Native.Nat.{ℕ, zero, suc, _-_, _%_, _≤_, _<_}
 use mathlib.Core.Path.{_≡_, refl, sym, ap, fun-ext, _∙_}
-use mathlib.Core.List.{List}
-use mathlib.Core.Bool.{Bool, true, false}
+use mathlib.Core.List.{[], List, _∷_}
+use mathlib.Core.Bool.{true}
 use mathlib.Core.Option.{some}
 use native.Mathlib.Omega.{arith}
 use borrow.Author.Tests.{ltb-true, ltb-false, le-ltb, eq-eqb}
@@ -10,17 +10,17 @@ use lib.Dec.{eqb, ltb, leb}
 use lib.ListN.{length, take, drop, getD, set, replicate, length-set, length-append, length-replicate}
 use lib.Seq.{getD-take, take-append-le, take-set-le, take-set-lt}
 use Rattle.words.specs.Word.{pick}
+use Rattle.words.proofs.Tests.{cases}
 use Rattle.format.specs.declared.Format.{Format}
 use Rattle.format.specs.declared.Reference.{Reference}
 use Rattle.format.specs.declared.Reference.the-variants.{Inline, Index}
 use Rattle.arguments.specs.declared.Value.{Value}
 use Rattle.arguments.specs.declared.Value.the-variants.{Scalar as ScalarValue, Text as TextValue}
 use Rattle.arguments.specs.declared.Argument.{Argument}
-use Rattle.arguments.specs.Argument.{argumentOf, onArgued, numberedOf}
-use Rattle.arguments.proofs.Arguments.{cases}
-use Rattle.records.specs.declared.Event.{Event}
+use Rattle.arguments.specs.Argument.{onArgued, numberedOf}
+use Rattle.records.specs.declared.Report.{Report}
 use Rattle.records.specs.declared.Content.{Content}
-use Rattle.records.specs.declared.Content.the-variants.{Refused, Magic, ProviderInfo, Section, ProviderEvent, Initialization, String, Thread, Event as EventRead, Ignored, Skipped}
+use Rattle.records.specs.declared.Content.the-variants.{Refused, Magic, ProviderInfo, Section, ProviderEvent, Initialization, String, Thread, Report as ReportRead, Ignored, Skipped}
 use Rattle.records.specs.Record.{recordAt}
 use Rattle.records.specs.Item.{Item}
 use Rattle.contexts.specs.declared.State.{State}
@@ -28,15 +28,19 @@ use Rattle.contexts.specs.Context.{opening, belongsTo}
 use Rattle.contexts.proofs.Contexts.{belongs-facts}
 use Rattle.tables.proofs.Tables.{position-lt}
 use Rattle.tables.specs.Table.{tableWords, highestOf, position, resolved}
+use Rattle.records.specs.Lookups.{onReport, argumentLookups, contentLookups}
+use Rattle.records.specs.declared.Lookup.{Lookup}
+use Rattle.format.specs.Header.{archiveNumber}
 use Rattle.reader.specs.declared.Answer.{Answer}
-use Rattle.reader.specs.declared.Answer.the-variants.{End, Nothing, Magic as MagicShown, ProviderInfo as ProviderInfoShown, Section as SectionShown, ProviderEvent as ProviderEventShown, Initialization as InitializationShown, Event as EventShown, Skipped as SkippedShown}
-use Rattle.reader.specs.declared.Change.{Change}
-use Rattle.reader.specs.declared.Change.the-variants.{Keep, Set}
+use Rattle.reader.specs.declared.Answer.the-variants.{End, Nothing, Magic as MagicShown, ProviderInfo as ProviderInfoShown, Section as SectionShown, ProviderEvent as ProviderEventShown, Initialization as InitializationShown, Report as ReportShown, Skipped as SkippedShown}
+use Rattle.effects.specs.declared.Change.{Change}
+use Rattle.effects.specs.declared.Change.the-variants.{Keep, Set}
 use Rattle.reader.specs.declared.Asked.{Asked}
 use Rattle.reader.specs.declared.Asked.the-variants.{Refused as AskedRefused}
-use Rattle.reader.specs.Shown.{valueBad, argumentBad, argumentsFound, shownValue}
-use Rattle.reader.specs.Step.{doorOf, eventDecision, contentDecision, placeDecision, decisionOf, changed, stepReply, stepTables, openTables}
-use Rattle.reader.specs.Ask.{shownArgument, askedEvent, onEvent, askedPlace, argumentReply}
+use Rattle.reader.specs.Shown.{shownValue, noneBad}
+use Rattle.effects.specs.Follow.{changed}
+use Rattle.reader.specs.Step.{openingNumber, contentDecision, placeDecision, decisionOf, stepReply, stepTables, openTables, reportAnswer, contentAnswer}
+use Rattle.reader.specs.Ask.{shownArgument, askedReport, askedPlace, argumentReply}
 use Rattle.reader.specs.Reads.{argumentItems, itemOf, Reads, ends, passes, shows, ReadsAs}
 use Rattle.reader.proofs.Steps.{admitted}
 
@@ -61,73 +65,72 @@ resolved-behind f archive t t′ context kind limit (Index index) a h =
     cases (ltb (highestOf f kind) index) (λ e. rw e)
     (λ e. rw (e, agree-at f t t′ (position f context kind index) a (position-lt f context kind index h (ltb-false (highestOf f kind) index e))))
 
+-- and so is a value
 value-behind : (f : Format) (archive t t′ : List ℕ) (context limit : ℕ) (v : Value) → Agree f t t′ → context ≤ 8
-    → (valueBad f archive t context limit v ≡ valueBad f archive t′ context limit v)
-    × (shownValue f archive t context limit v ≡ shownValue f archive t′ context limit v)
-unfolding valueBad shownValue
-value-behind f archive t t′ context limit (ScalarValue x) a h = (refl, refl)
-value-behind f archive t t′ context limit (TextValue r) a h =
-    let e = resolved-behind f archive t t′ context 2 limit r a h in (rw e, rw e)
+    → shownValue f archive t context limit v ≡ shownValue f archive t′ context limit v
+unfolding shownValue
+value-behind f archive t t′ context limit (ScalarValue x) a h = refl
+value-behind f archive t t′ context limit (TextValue r) a h = rw (resolved-behind f archive t t′ context 2 limit r a h)
 
-argument-behind : (f : Format) (archive t t′ : List ℕ) (context limit : ℕ) (x : Argument) → Agree f t t′ → context ≤ 8
-    → argumentBad f archive t context limit x ≡ argumentBad f archive t′ context limit x
-unfolding argumentBad
-argument-behind f archive t t′ context limit x a h =
-    rw (resolved-behind f archive t t′ context 2 limit (x .name) a h, value-behind f archive t t′ context limit (x .value) a h .0)
-
-arguments-behind : (f : Format) (archive t t′ : List ℕ) (context limit count : ℕ) (rest : List ℕ) (place : ℕ) → Agree f t t′ → context ≤ 8
-    → argumentsFound f archive t context limit count rest place ≡ argumentsFound f archive t′ context limit count rest place
-unfolding argumentsFound
-arguments-behind f archive t t′ context limit zero rest place a h = refl
-arguments-behind f archive t t′ context limit (suc count) rest place a h =
-    ap (λ (g : Argument → ℕ → Bool). onArgued (argumentOf f rest place) (λ number. false) g)
-    (fun-ext (λ x. fun-ext (λ size.
-    rw (argument-behind f archive t t′ context limit x a h, arguments-behind f archive t t′ context limit count (drop size rest) (place + size) a h))))
+-- the entries of a list of references are found bad or not alike
+bad-behind : (f : Format) (archive t t′ : List ℕ) (context limit : ℕ) (ls : List Lookup) → Agree f t t′ → context ≤ 8
+    → noneBad f archive t context limit ls ≡ noneBad f archive t′ context limit ls
+unfolding noneBad
+bad-behind f archive t t′ context limit [] a h = refl
+bad-behind f archive t t′ context limit (l ∷ more) a h =
+    rw (resolved-behind f archive t t′ context (l .table) limit (l .reference) a h, bad-behind f archive t t′ context limit more a h)
 
 -- ---- a step
 
--- tables of any length that is enough pass the door alike
-pub door-behind : (f : Format) (archive : List ℕ) (room room′ : ℕ) → tableWords f ≤ room → tableWords f ≤ room′
-    → doorOf f archive room ≡ doorOf f archive room′
-unfolding doorOf
-door-behind f archive room room′ h h′ = rw (le-ltb room (tableWords f) h, le-ltb room′ (tableWords f) h′)
+-- tables of any length that is enough pass the first checks alike
+pub opening-behind : (f : Format) (archive : List ℕ) (room room′ : ℕ) → tableWords f ≤ room → tableWords f ≤ room′
+    → openingNumber f archive room ≡ openingNumber f archive room′
+unfolding openingNumber archiveNumber
+opening-behind f archive room room′ h h′ = rw (le-ltb room (tableWords f) h, le-ltb room′ (tableWords f) h′)
 
 -- the current context of a state that belongs is one of nine
 belongs-current : (s : State) (n : ℕ) → belongsTo s n ≡ true → s .current ≤ 8
 belongs-current s n e = let b = belongs-facts s n e in omega (arith, b .few, b .known)
 
+-- what a record is shown as
+answer-behind : (f : Format) (archive t t′ : List ℕ) (s : State) (c : Content) → Agree f t t′ → s .current ≤ 8
+    → contentAnswer f archive t s c ≡ contentAnswer f archive t′ s c
+unfolding reportAnswer
+answer-behind f archive t t′ s (Refused number) a h = refl
+answer-behind f archive t t′ s Magic a h = refl
+answer-behind f archive t t′ s (ProviderInfo id at long) a h = refl
+answer-behind f archive t t′ s (Section id) a h = refl
+answer-behind f archive t t′ s (ProviderEvent id n) a h = refl
+answer-behind f archive t t′ s (Initialization rate) a h = refl
+answer-behind f archive t t′ s (String index at long) a h = refl
+answer-behind f archive t t′ s (Thread index at) a h = refl
+answer-behind f archive t t′ s (ReportRead e) a h =
+    rw (
+      resolved-behind f archive t t′ (s .current) (e .first .table) (s .place) (e .first .reference) a h,
+      resolved-behind f archive t t′ (s .current) (e .second .table) (s .place) (e .second .reference) a h,
+      resolved-behind f archive t t′ (s .current) (e .third .table) (s .place) (e .third .reference) a h,
+    )
+answer-behind f archive t t′ s Ignored a h = refl
+answer-behind f archive t t′ s (Skipped type size) a h = refl
+
+-- what a record does
 content-behind : (f : Format) (archive t t′ : List ℕ) (s : State) (c : Content) (next : ℕ) → Agree f t t′ → s .current ≤ 8
     → contentDecision f archive t s c next ≡ contentDecision f archive t′ s c next
-unfolding contentDecision eventDecision
-content-behind f archive t t′ s (Refused number) next a h = refl
-content-behind f archive t t′ s Magic next a h = refl
-content-behind f archive t t′ s (ProviderInfo id at long) next a h = refl
-content-behind f archive t t′ s (Section id) next a h = refl
-content-behind f archive t t′ s (ProviderEvent id n) next a h = refl
-content-behind f archive t t′ s (Initialization rate) next a h = refl
-content-behind f archive t t′ s (String index at long) next a h = refl
-content-behind f archive t t′ s (Thread index at) next a h = refl
-content-behind f archive t t′ s (EventRead e) next a h =
-    rw (
-      resolved-behind f archive t t′ (s .current) 3 (s .place) (e .thread) a h,
-      resolved-behind f archive t t′ (s .current) 2 (s .place) (e .category) a h,
-      resolved-behind f archive t t′ (s .current) 2 (s .place) (e .name) a h,
-      arguments-behind f archive t t′ (s .current) (s .place) (e .count) (take (next - e .arguments) (drop (e .arguments) archive)) (e .arguments) a h,
-    )
-content-behind f archive t t′ s Ignored next a h = refl
-content-behind f archive t t′ s (Skipped type size) next a h = refl
+unfolding contentDecision
+content-behind f archive t t′ s c next a h =
+    rw (bad-behind f archive t t′ (s .current) (s .place) (contentLookups f archive c next) a h, answer-behind f archive t t′ s c a h)
 
 decision-behind : (f : Format) (archive t t′ : List ℕ) (s : State) → Agree f t t′ → decisionOf f archive t s ≡ decisionOf f archive t′ s
 unfolding decisionOf placeDecision
 decision-behind f archive t t′ s a =
     cases (belongsTo s (length archive))
     (λ e. rw (
-      door-behind f archive (length t) (length t′) (a .room) (a .room′),
+      opening-behind f archive (length t) (length t′) (a .room) (a .room′),
       e,
       content-behind f archive t t′ s (recordAt f archive (s .place) .content) (recordAt f archive (s .place) .next) a
           (belongs-current s (length archive) e),
     ))
-    (λ e. rw (door-behind f archive (length t) (length t′) (a .room) (a .room′), e))
+    (λ e. rw (opening-behind f archive (length t) (length t′) (a .room) (a .room′), e))
 
 -- a step replies the same
 pub reply-behind : (f : Format) (archive t t′ : List ℕ) (s : State) → Agree f t t′ → stepReply f archive t s ≡ stepReply f archive t′ s
@@ -162,15 +165,15 @@ shown-behind : (f : Format) (archive t t′ : List ℕ) (s : State) (x : Argumen
 unfolding shownArgument
 shown-behind f archive t t′ s x a h =
     rw (
-      argument-behind f archive t t′ (s .current) (s .place) x a h,
+      bad-behind f archive t t′ (s .current) (s .place) (argumentLookups (x ∷ [])) a h,
       resolved-behind f archive t t′ (s .current) 2 (s .place) (x .name) a h,
-      value-behind f archive t t′ (s .current) (s .place) (x .value) a h .1,
+      value-behind f archive t t′ (s .current) (s .place) (x .value) a h,
     )
 
-event-behind : (f : Format) (archive t t′ : List ℕ) (s : State) (e : Event) (number : ℕ) → Agree f t t′ → s .current ≤ 8
-    → askedEvent f archive t s e number ≡ askedEvent f archive t′ s e number
-unfolding askedEvent
-event-behind f archive t t′ s e number a h =
+report-behind : (f : Format) (archive t t′ : List ℕ) (s : State) (e : Report) (number : ℕ) → Agree f t t′ → s .current ≤ 8
+    → askedReport f archive t s e number ≡ askedReport f archive t′ s e number
+unfolding askedReport
+report-behind f archive t t′ s e number a h =
     ap (λ (g : Argument → ℕ → Asked). pick (leb (e .count) number) (AskedRefused 4 (s .place))
     (onArgued (numberedOf f number (take (s .place - e .arguments) (drop (e .arguments) archive)) (e .arguments)) (λ refused. AskedRefused 4 (s .place)) g))
     (fun-ext (λ x. fun-ext (λ size. shown-behind f archive t t′ s x a h)))
@@ -181,14 +184,14 @@ pub argument-reply-behind : (f : Format) (archive t t′ : List ℕ) (s : State)
 unfolding argumentReply askedPlace
 argument-reply-behind f archive t t′ s at number a =
     cases (belongsTo s (length archive))
-    (λ e. rw (door-behind f archive (length t) (length t′) (a .room) (a .room′), e)
-    (ap (λ (g : Event → Asked). pick (eqb (doorOf f archive (length t′)) 0)
+    (λ e. rw (opening-behind f archive (length t) (length t′) (a .room) (a .room′), e)
+    (ap (λ (g : Report → Asked). pick (eqb (openingNumber f archive (length t′)) 0)
     (pick (eqb (at % 8) 0)
-    (pick (eqb (recordAt f archive at .next) (s .place)) (onEvent (recordAt f archive at .content) (AskedRefused 4 (s .place)) g) (AskedRefused 4 (s .place)))
+    (pick (eqb (recordAt f archive at .next) (s .place)) (onReport (recordAt f archive at .content) (AskedRefused 4 (s .place)) g) (AskedRefused 4 (s .place)))
     (AskedRefused 4 (s .place)))
-    (AskedRefused (doorOf f archive (length t′)) 0))
-    (fun-ext (λ x. event-behind f archive t t′ s x number a (belongs-current s (length archive) e)))))
-    (λ e. rw (door-behind f archive (length t) (length t′) (a .room) (a .room′), e))
+    (AskedRefused (openingNumber f archive (length t′)) 0))
+    (fun-ext (λ x. report-behind f archive t t′ s x number a (belongs-current s (length archive) e)))))
+    (λ e. rw (opening-behind f archive (length t) (length t′) (a .room) (a .room′), e))
 
 -- ---- a whole reading
 
@@ -209,7 +212,7 @@ item-behind f archive t t′ s (ProviderInfoShown id place long) a = refl
 item-behind f archive t t′ s (SectionShown id) a = refl
 item-behind f archive t t′ s (ProviderEventShown id e) a = refl
 item-behind f archive t t′ s (InitializationShown rate) a = refl
-item-behind f archive t t′ s (EventShown e) a = rw (items-behind f archive t t′ s (e .place) 0 (e .count) a)
+item-behind f archive t t′ s (ReportShown e) a = rw (items-behind f archive t t′ s (e .place) 0 (e .count) a)
 item-behind f archive t t′ s (SkippedShown type size) a = refl
 
 -- an archive reads as the same list with any two tables that agree
@@ -231,10 +234,10 @@ reads-behind f archive {t′ = t′} (shows s t i l e r) a =
         (tables-behind f archive t t′ s a)) ∙ e)
 
 -- tables that opening has cleared agree with tables of zeros
-opened-agree : (f : Format) (archive tables : List ℕ) → doorOf f archive (length tables) ≡ 0
+opened-agree : (f : Format) (archive tables : List ℕ) → openingNumber f archive (length tables) ≡ 0
     → Agree f (openTables f archive tables) (replicate (tableWords f) 0)
 opened-agree f archive tables d =
-    rw (eq-eqb (doorOf f archive (length tables)) 0 d)
+    rw (eq-eqb (openingNumber f archive (length tables)) 0 d)
     (record {
       room = omega (arith, length-append (replicate n 0) (drop n tables), long);
       room′ = omega (arith, long);
@@ -251,12 +254,12 @@ agree-back : (f : Format) (t t′ : List ℕ) → Agree f t t′ → Agree f t�
 agree-back f t t′ a = record { room = a .room′; room′ = a .room; same = sym (a .same) }
 
 -- so an archive reads to its end as a list exactly when it does with any tables that opening takes
-pub reads-with-any : (f : Format) (archive tables : List ℕ) (l : List Item) → doorOf f archive (length tables) ≡ 0
+pub reads-with-any : (f : Format) (archive tables : List ℕ) (l : List Item) → openingNumber f archive (length tables) ≡ 0
     → (ReadsAs f archive l → Reads f archive opening (openTables f archive tables) l)
     × (Reads f archive opening (openTables f archive tables) l → ReadsAs f archive l)
 reads-with-any f archive tables l d = (
   λ r. reads-behind f archive (r .1) (agree-back f (openTables f archive tables) (replicate (tableWords f) 0) a),
-  λ r. (door-behind f archive (tableWords f) (length tables) (omega arith) (admitted f archive (length tables) d .enough) ∙ d, reads-behind f archive r a),
+  λ r. (opening-behind f archive (tableWords f) (length tables) (omega arith) (admitted f archive (length tables) d .enough) ∙ d, reads-behind f archive r a),
 )
   where
     a : Agree f (openTables f archive tables) (replicate (tableWords f) 0)

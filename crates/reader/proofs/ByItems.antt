@@ -1,22 +1,22 @@
 -- Ids, their number, the current context and the rate depend on the items shown, and on nothing else of an archive. Assumes nothing.
 use Prim.Native.Nat.{ℕ, _+_}
 use mathlib.Core.Path.{_≡_, refl, sym, ap, _∙_}
-use mathlib.Core.List.{List, [], _∷_}
+use mathlib.Core.List.{[], List, _∷_}
 use mathlib.Core.Option.{Option, none, some}
 use borrow.Author.Tests.{ne-eqb}
 use Rattle.format.specs.declared.Format.{Format}
 use Rattle.records.specs.Record.{recordAt}
-use Rattle.records.specs.Item.{Argument, Item, magic, providerInfo, section, providerEvent, initialization, event, skipped}
+use Rattle.records.specs.Item.{Argument, Item, magic, providerInfo, section, providerEvent, initialization, report, skipped}
 use Rattle.contexts.specs.declared.State.{State}
 use Rattle.contexts.specs.declared.Found.the-variants.{At, Nothing as NotFound}
 use Rattle.contexts.specs.Context.{findId, moved, rated, inContext, withId, entering}
 use Rattle.reader.specs.declared.Answer.{Answer}
-use Rattle.reader.specs.declared.Answer.the-variants.{End, Nothing, Magic as MagicShown, ProviderInfo as ProviderInfoShown, Section as SectionShown, ProviderEvent as ProviderEventShown, Initialization as InitializationShown, Event as EventShown, Skipped as SkippedShown}
-use Rattle.reader.specs.declared.ShownEvent.{ShownEvent}
+use Rattle.reader.specs.declared.Answer.the-variants.{End, Nothing, Magic as MagicShown, ProviderInfo as ProviderInfoShown, Section as SectionShown, ProviderEvent as ProviderEventShown, Initialization as InitializationShown, Report as ReportShown, Skipped as SkippedShown}
+use Rattle.reader.specs.declared.ShownReport.{ShownReport}
 use Rattle.reader.specs.declared.Decision.{Decision}
-use Rattle.reader.specs.Step.{stopping, registering, stepReply, stepTables}
-use Rattle.reader.specs.Reads.{argumentItems, eventItem, itemOf}
-use Rattle.reader.proofs.Changes.{Plain, Names, on-decision, on-entering, on-event}
+use Rattle.reader.specs.Step.{stopping, stepReply, stepTables}
+use Rattle.reader.specs.Reads.{argumentItems, reportItem, itemOf}
+use Rattle.reader.proofs.Changes.{Plain, Names, on-decision, on-entering, on-report, registering}
 use Rattle.reader.proofs.Runs.{Run, still, passing, showing}
 
 -- a state without its place: ids, their number, the current context and the rate
@@ -30,7 +30,7 @@ after c (providerInfo id name) = entering c id 0 .state
 after c (section id) = entering c id 0 .state
 after c (providerEvent id e) = c
 after c (initialization rate) = rated c rate 0
-after c (event e) = c
+after c (report e) = c
 after c (skipped type size) = c
 
 -- what a step's item, if it shows one, makes of them
@@ -44,11 +44,11 @@ afterAll c [] = c
 afterAll c (i ∷ items) = afterAll (after c i) items
 
 -- an event leaves them
-event-keeps : (f : Format) (archive tables : List ℕ) (s c : State) (e : ShownEvent) → c ≡ afterShown c (itemOf f archive tables s (EventShown e))
+report-keeps : (f : Format) (archive tables : List ℕ) (s c : State) (e : ShownReport) → c ≡ afterShown c (itemOf f archive tables s (ReportShown e))
 unfolding itemOf after
-event-keeps f archive tables s c e = of-arguments (argumentItems f archive tables s (e .place) 0 (e .count))
+report-keeps f archive tables s c e = of-arguments (argumentItems f archive tables s (e .place) 0 (e .count))
   where
-    of-arguments : (l : Option (List Argument)) → c ≡ afterShown c (eventItem archive e l)
+    of-arguments : (l : Option (List Argument)) → c ≡ afterShown c (reportItem archive e l)
     of-arguments none = refl
     of-arguments (some l) = refl
 
@@ -63,7 +63,7 @@ plain-keeps f archive tables s c (ProviderInfoShown id place long) h = absurd h
 plain-keeps f archive tables s c (SectionShown id) h = absurd h
 plain-keeps f archive tables s c (ProviderEventShown id e) h = refl
 plain-keeps f archive tables s c (InitializationShown rate) h = absurd h
-plain-keeps f archive tables s c (EventShown e) h = absurd h
+plain-keeps f archive tables s c (ReportShown e) h = absurd h
 plain-keeps f archive tables s c (SkippedShown type size) h = refl
 
 -- an answer that names an id makes it current
@@ -77,7 +77,7 @@ names-enter f archive tables s c id (ProviderInfoShown other place long) h = rw 
 names-enter f archive tables s c id (SectionShown other) h = rw h
 names-enter f archive tables s c id (ProviderEventShown other e) h = absurd h
 names-enter f archive tables s c id (InitializationShown rate) h = absurd h
-names-enter f archive tables s c id (EventShown e) h = absurd h
+names-enter f archive tables s c id (ReportShown e) h = absurd h
 names-enter f archive tables s c id (SkippedShown type size) h = absurd h
 
 -- ids, their number, the current context and the rate after a step are those that its item makes of them; a step that shows no item leaves them
@@ -93,7 +93,7 @@ contexts-by-items f archive tables s =
     (λ i e t z. again id i e ∙ names-enter f archive t z (contextsOf s) id answer h)
     (λ e n t z. new id e n ∙ names-enter f archive t z (contextsOf s) id answer h))
     (λ kind index r t z. refl)
-    (λ e k. on-event P f archive tables s e next (λ t z. refl) (λ shown t z. event-keeps f archive t z (contextsOf s) shown))
+    (λ e k. on-report P f archive tables s e next (λ t z. refl) (λ shown t z. report-keeps f archive t z (contextsOf s) shown))
     (stepTables f archive tables s) (stepReply f archive tables s .state)
   where
     next : ℕ

@@ -1,37 +1,43 @@
 -- What a step can do, by cases, and the one table word that it can change. Assumes nothing.
 use Prim.Native.Nat.{ℕ, _+_, _-_, _≤_, _<_}
-use mathlib.Core.Path.{_≡_, refl}
+use mathlib.Core.Path.{_≡_, refl, sym, subst}
 use mathlib.Core.List.{List}
 use mathlib.Core.Bool.{true, false}
 use mathlib.Core.Logic.{_⊎_, inl, inr}
 use native.Mathlib.Omega.{arith}
-use borrow.Author.Tests.{eqb-false}
+use borrow.Author.Tests.{eqb-false, ne-eqb}
 use lib.Dec.{eqb, ltb}
 use lib.ListN.{length, take, drop, getD, set}
 use lib.Seq.{getD-set-other}
 use Rattle.words.specs.Word.{pick}
 use Rattle.words.specs.Stream.{startsWithMagic}
+use Rattle.words.proofs.Tests.{on-pick, cases}
 use Rattle.format.specs.declared.Format.{Format}
-use Rattle.format.proofs.Parts.{on-pick}
-use Rattle.arguments.proofs.Arguments.{cases}
-use Rattle.records.specs.declared.Event.{Event}
+use Rattle.format.specs.Limits.{longestArchive}
+use Rattle.format.specs.Header.{archiveNumber}
+use Rattle.records.specs.declared.Report.{Report}
+use Rattle.records.specs.declared.Effect.the-variants.{Stop, Enter}
 use Rattle.records.specs.declared.Content.{Content}
-use Rattle.records.specs.declared.Content.the-variants.{Refused, Magic, ProviderInfo, Section, ProviderEvent, Initialization, String, Thread, Event as EventRead, Ignored, Skipped}
+use Rattle.records.specs.declared.Content.the-variants.{Refused, Magic, ProviderInfo, Section, ProviderEvent, Initialization, String, Thread, Report as ReportRead, Ignored, Skipped}
 use Rattle.records.specs.Record.{recordAt}
+use Rattle.records.specs.Lookups.{reportLookups}
+use Rattle.records.specs.Effect.{effectOf}
 use Rattle.contexts.specs.declared.State.{State}
+use Rattle.contexts.specs.declared.Entered.{Entered}
 use Rattle.contexts.specs.declared.Found.{Found}
 use Rattle.contexts.specs.declared.Found.the-variants.{At, Nothing as NotFound}
-use Rattle.contexts.specs.Context.{belongsTo, findId, rated, inContext, withId, onFound, entering}
+use Rattle.contexts.specs.Context.{belongsTo, findId, moved, rated, inContext, withId, onFound, entering}
 use Rattle.tables.specs.declared.Registration.the-variants.{Entry}
 use Rattle.tables.proofs.Tables.{position-apart}
 use Rattle.tables.specs.Table.{tableWords, highestOf, position, registrationOf}
+use Rattle.effects.specs.declared.Change.the-variants.{Keep, Set}
+use Rattle.effects.specs.Follow.{followedEntered, followed, changeOf, changed}
 use Rattle.reader.specs.declared.Answer.{Answer}
-use Rattle.reader.specs.declared.Answer.the-variants.{End, Nothing, Magic as MagicShown, ProviderInfo as ProviderInfoShown, Section as SectionShown, ProviderEvent as ProviderEventShown, Initialization as InitializationShown, Event as EventShown, Skipped as SkippedShown}
-use Rattle.reader.specs.declared.ShownEvent.{ShownEvent}
-use Rattle.reader.specs.declared.Change.the-variants.{Keep}
+use Rattle.reader.specs.declared.Answer.the-variants.{End, Nothing, Magic as MagicShown, ProviderInfo as ProviderInfoShown, Section as SectionShown, ProviderEvent as ProviderEventShown, Initialization as InitializationShown, Report as ReportShown, Skipped as SkippedShown}
+use Rattle.reader.specs.declared.ShownReport.{ShownReport}
 use Rattle.reader.specs.declared.Decision.{Decision}
-use Rattle.reader.specs.Shown.{isBad, argumentsFound}
-use Rattle.reader.specs.Step.{doorOf, stopping, showing, enteringAs, registering, eventDecision, contentDecision, placeDecision, decisionOf, changed, stepTables}
+use Rattle.reader.specs.Shown.{noneBad}
+use Rattle.reader.specs.Step.{openingNumber, stopping, reportAnswer, plainAnswer, effectDecision, contentDecision, placeDecision, decisionOf, stepTables}
 use Rattle.reader.proofs.Lookups.{ContentFits, record-whole}
 
 -- ---- what a step can do
@@ -45,7 +51,7 @@ Plain (ProviderInfoShown id place long) = ⊥
 Plain (SectionShown id) = ⊥
 Plain (ProviderEventShown id event) = Unit {0}
 Plain (InitializationShown rate) = ⊥
-Plain (EventShown e) = ⊥
+Plain (ReportShown e) = ⊥
 Plain (SkippedShown type size) = Unit {0}
 
 -- the answers that make an id current
@@ -57,8 +63,31 @@ Names id (ProviderInfoShown other place long) = id ≡ other
 Names id (SectionShown other) = id ≡ other
 Names id (ProviderEventShown other event) = ⊥
 Names id (InitializationShown rate) = ⊥
-Names id (EventShown e) = ⊥
+Names id (ReportShown e) = ⊥
 Names id (SkippedShown type size) = ⊥
+
+-- the forms that a step's decision takes: it shows this and moves on; it makes an id current, or refuses a ninth; it registers
+abbrev pub showing : State → Answer → ℕ → Decision
+showing s answer next = record { answer = answer; state = moved s next; change = Keep }
+
+unfoldable pub enteringAs : State → Entered → Answer → Decision
+enteringAs s e answer = pick (e .ninth) (stopping s 9 (s .place)) (record { answer = answer; state = e .state; change = Keep })
+
+unfoldable pub registering : Format → State → ℕ → ℕ → ℕ → Decision
+registering f s kind index next =
+    record { answer = Nothing; state = moved s next; change = Set (position f (s .current) kind index) (s .place) }
+
+-- a record that is refused stops the reading by its number
+pub stop-decided : (f : Format) (s : State) (number next : ℕ) (answer : Answer) → 5 ≤ number
+    → effectDecision f s (Stop number) next answer ≡ stopping s number (s .place)
+unfolding effectDecision followed
+stop-decided f s number next answer h = rw (ne-eqb number 0 (λ z. omega arith))
+
+-- an id that is made current has the second form
+pub entering-decided : (f : Format) (s : State) (id next : ℕ) (answer : Answer)
+    → effectDecision f s (Enter id) next answer ≡ enteringAs s (entering s id next) answer
+unfolding effectDecision followed followedEntered changeOf enteringAs
+entering-decided f s id next answer = cases (entering s id next .ninth) (λ e. rw e) (λ e. rw e)
 
 -- the kinds of entries: the record types of strings and of threads
 abbrev pub Kind : ℕ → Type 0
@@ -81,41 +110,43 @@ pub on-decision : (P : Decision → Type 0) (f : Format) (archive tables : List 
     → ((rate : ℕ) → P (record { answer = InitializationShown rate; state = rated s rate (recordAt f archive (s .place) .next); change = Keep }))
     → ((id : ℕ) (answer : Answer) → Names id answer → P (enteringAs s (entering s id (recordAt f archive (s .place) .next)) answer))
     → ((kind index : ℕ) → Registers f archive (s .place) kind index → P (registering f s kind index (recordAt f archive (s .place) .next)))
-    → ((e : Event) → recordAt f archive (s .place) .content ≡ EventRead e
-    → P (eventDecision f archive tables s e (recordAt f archive (s .place) .next)))
+    → ((e : Report) → recordAt f archive (s .place) .content ≡ ReportRead e
+    → P (contentDecision f archive tables s (ReportRead e) (recordAt f archive (s .place) .next)))
     → P (decisionOf f archive tables s)
-unfolding decisionOf placeDecision contentDecision doorOf registrationOf
+unfolding decisionOf placeDecision contentDecision effectDecision plainAnswer noneBad followed changeOf registering openingNumber archiveNumber registrationOf effectOf
 on-decision P f archive tables s stop show rate enter register event =
-    on-pick P (eqb (doorOf f archive (length tables)) 0) _ _
+    on-pick P (eqb (openingNumber f archive (length tables)) 0) _ _
     (λ e. on-pick P (belongsTo s (length archive)) _ _
     (λ e. on-pick P (eqb (s .place) (length archive)) _ _ (λ e. stop 0 (s .place) (λ z. absurd (omega arith)))
     (λ e. of-content (recordAt f archive (s .place) .content) refl (record-whole f archive (s .place) .holds)))
     (λ e. stop 4 (s .place) (λ z. e)))
-    (λ e. stop (doorOf f archive (length tables)) 0 (λ z. absurd (door-is z)))
+    (λ e. stop (openingNumber f archive (length tables)) 0 (λ z. absurd (opening-is z)))
   where
     next : ℕ
     next = recordAt f archive (s .place) .next
 
-    door-is : doorOf f archive (length tables) ≡ 4 → ⊥
-    door-is =
-        on-pick (λ n. n ≡ 4 → ⊥) (ltb 16777216 (length archive)) _ _ (λ e z. omega arith)
+    opening-is : openingNumber f archive (length tables) ≡ 4 → ⊥
+    opening-is =
+        on-pick (λ n. n ≡ 4 → ⊥) (ltb longestArchive (length archive)) _ _ (λ e z. omega arith)
         (λ e. on-pick (λ n. n ≡ 4 → ⊥) (startsWithMagic archive) _ _
         (λ e. on-pick (λ n. n ≡ 4 → ⊥) (ltb (length tables) (tableWords f)) _ _ (λ e z. omega arith) (λ e z. omega arith))
         (λ e z. omega arith))
 
     of-content : (c : Content) → recordAt f archive (s .place) .content ≡ c
         → ContentFits f (take (next - s .place) (drop (s .place) archive)) (s .place) c → P (contentDecision f archive tables s c next)
-    of-content (Refused number) e h = stop number (s .place) (λ z. absurd (omega (arith, h .0)))
+    of-content (Refused number) e h =
+        subst P (sym (stop-decided f s number next Nothing (h .0))) (stop number (s .place) (λ z. absurd (omega (arith, h .0))))
     of-content Magic e h = show MagicShown tt
-    of-content (ProviderInfo id at long) e h = enter id (ProviderInfoShown id at long) refl
-    of-content (Section id) e h = enter id (SectionShown id) refl
+    of-content (ProviderInfo id at long) e h =
+        subst P (sym (entering-decided f s id next (ProviderInfoShown id at long))) (enter id (ProviderInfoShown id at long) refl)
+    of-content (Section id) e h = subst P (sym (entering-decided f s id next (SectionShown id))) (enter id (SectionShown id) refl)
     of-content (ProviderEvent id n) e h = show (ProviderEventShown id n) tt
     of-content (Initialization r) e h = rate r
     of-content (String index at long) e h =
         register 2 index (record { at = at; long = long; is = rw e; kinds = inl refl; some = h .0; fits = h .1 })
     of-content (Thread index at) e h =
         register 3 index (record { at = at; long = 16; is = rw e; kinds = inr refl; some = h .0; fits = h .1 })
-    of-content (EventRead ev) e h = event ev e
+    of-content (ReportRead ev) e h = event ev e
     of-content Ignored e h = show Nothing tt
     of-content (Skipped type size) e h = show (SkippedShown type size) tt
 
@@ -135,14 +166,11 @@ on-entering P s id next answer ninth again new = go (findId (s .ids) (s .count) 
     go NotFound e = cases (eqb (s .count) 8) (λ z. rw z ninth) (λ z. rw z (new e (eqb-false (s .count) 8 z)))
 
 -- what holds of number 4 and of the event shown holds of whatever an event makes of a state
-pub on-event : (P : Decision → Type 0) (f : Format) (archive tables : List ℕ) (s : State) (e : Event) (next : ℕ) → P (stopping s 4 (s .place))
-    → ((shown : ShownEvent) → P (showing s (EventShown shown) next)) → P (eventDecision f archive tables s e next)
-unfolding eventDecision
-on-event P f archive tables s e next bad good =
-    on-pick P (isBad _) _ _ (λ q. bad)
-    (λ q. on-pick P (isBad _) _ _ (λ q. bad)
-    (λ q. on-pick P (isBad _) _ _ (λ q. bad)
-    (λ q. on-pick P (argumentsFound f archive tables (s .current) (s .place) (e .count) _ (e .arguments)) _ _ (λ q. good _) (λ q. bad))))
+pub on-report : (P : Decision → Type 0) (f : Format) (archive tables : List ℕ) (s : State) (e : Report) (next : ℕ) → P (stopping s 4 (s .place))
+    → ((shown : ShownReport) → P (showing s (ReportShown shown) next)) → P (contentDecision f archive tables s (ReportRead e) next)
+unfolding contentDecision effectDecision reportAnswer followed changeOf effectOf
+on-report P f archive tables s e next bad good =
+    on-pick P (noneBad f archive tables (s .current) (s .place) (reportLookups f archive e next)) _ _ (λ q. good _) (λ q. bad)
 
 -- ---- the one table word that a step can change
 
@@ -161,7 +189,7 @@ own-context f archive tables s =
     on-decision P f archive tables s (λ number place h. inl refl) (λ answer h. inl refl) (λ rate. inl refl)
     (λ id answer h. on-entering P s id next answer (inl refl) (λ i e. inl refl) (λ e z. inl refl))
     (λ kind index r. inr (record { kind = kind; index = index; registers = r; is = refl }))
-    (λ e k. on-event P f archive tables s e next (inl refl) (λ shown. inl refl))
+    (λ e k. on-report P f archive tables s e next (inl refl) (λ shown. inl refl))
   where
     next : ℕ
     next = recordAt f archive (s .place) .next

@@ -1,7 +1,7 @@
 -- Along a run from opening no step gives number 4, no looked-up entry is bad, and every event has all of its arguments. Assumes nothing.
 use Prim.Native.Nat.{ℕ, zero, suc, _+_, _-_, _%_, _≤_, _<_}
 use mathlib.Core.Path.{_≡_, refl, sym, ap, subst, _∙_}
-use mathlib.Core.List.{List, [], _∷_}
+use mathlib.Core.List.{[], List, _∷_}
 use mathlib.Core.Bool.{true, false, true≢false}
 use mathlib.Core.Option.{Option, none, some}
 use mathlib.Core.Logic.{_⊎_, inl, inr}
@@ -10,39 +10,40 @@ use borrow.Author.Tests.{ltb-false, le-ltb, lt-leb, eqb-true, eqb-false, eq-eqb}
 use lib.Dec.{eqb, ltb}
 use lib.ListN.{length, take, drop, getD}
 use lib.Seq.{drop-drop, take-nil}
-use Rattle.words.specs.Word.{pick}
+use Rattle.words.proofs.Tests.{on-pick, cases}
 use Rattle.format.specs.declared.Format.{Format}
 use Rattle.format.specs.declared.Reference.{Reference}
 use Rattle.format.specs.declared.Reference.the-variants.{Inline, Index}
-use Rattle.format.proofs.Parts.{on-pick}
-use Rattle.arguments.specs.declared.Value.{Value}
-use Rattle.arguments.specs.declared.Value.the-variants.{Scalar as ScalarValue, Text as TextValue}
 use Rattle.arguments.specs.declared.Argument.{Argument}
 use Rattle.arguments.specs.declared.Argued.{Argued}
 use Rattle.arguments.specs.declared.Argued.the-variants.{Refused as ArgumentRefused, Argument as ArgumentRead}
-use Rattle.arguments.specs.Argument.{argumentOf, Arguments, refused, arguments, prepend as prependArgument, onArgued, argumentsOf, numberedOf}
-use Rattle.arguments.proofs.Arguments.{cases}
-use Rattle.records.specs.declared.Event.{Event}
-use Rattle.records.specs.declared.Content.the-variants.{Event as EventRead}
+use Rattle.arguments.specs.Argument.{argumentOf, refused, arguments, prepend as prependArgument, onArgued, argumentsOf, numberedOf}
+use Rattle.records.specs.declared.Report.{Report}
+use Rattle.records.specs.declared.Content.the-variants.{Report as ReportRead}
 use Rattle.records.specs.Record.{recordAt}
-use Rattle.records.specs.Loss.{ContentInside}
+use Rattle.records.specs.Models.Bounds.{ContentInside}
 use Rattle.records.specs.Item.{Argument as ArgumentItem, Item}
 use Rattle.contexts.specs.declared.State.{State}
 use Rattle.contexts.specs.Context.{belongsTo, moved}
 use Rattle.contexts.proofs.Contexts.{facts-belong}
 use Rattle.tables.specs.declared.Resolved.{Resolved}
 use Rattle.tables.specs.Table.{highestOf, position, entryAt, resolved}
-use Rattle.reader.specs.declared.Answer.the-variants.{End, Event as EventShown}
-use Rattle.reader.specs.declared.ShownEvent.{ShownEvent}
+use Rattle.records.proofs.Lookups.{AllRead, behind-read}
+use Rattle.records.specs.Lookups.{argumentLookups, reportLookups, argumentsTo}
+use Rattle.records.specs.declared.Lookup.{Lookup}
+use Rattle.records.specs.Effect.{effectOf}
+use Rattle.reader.specs.declared.Answer.the-variants.{End, Report as ReportShown}
+use Rattle.reader.specs.declared.ShownReport.{ShownReport}
 use Rattle.reader.specs.declared.Asked.{Asked}
 use Rattle.reader.specs.declared.Asked.the-variants.{Refused, Argument as ArgumentShown}
 use Rattle.reader.specs.declared.Decision.{Decision}
-use Rattle.reader.specs.Shown.{isBad, valueBad, argumentBad, argumentsFound, shownEvent}
-use Rattle.reader.specs.Step.{doorOf, stopping, showing, registering, eventDecision, decisionOf, changed, stepReply, stepTables}
-use Rattle.reader.specs.Ask.{shownArgument, askedEvent, askedPlace, argumentReply}
-use Rattle.reader.specs.Reads.{prepend as prependItem, argumentItems, eventItem, itemOf}
-use Rattle.reader.proofs.Lookups.{AllRead, ContentFits, record-whole}
-use Rattle.reader.proofs.Changes.{Plain, Names, Kind, on-decision, on-entering}
+use Rattle.reader.specs.Shown.{isBad, shownReport, noneBad}
+use Rattle.effects.specs.Follow.{changed, followed, changeOf}
+use Rattle.reader.specs.Step.{openingNumber, stopping, decisionOf, stepReply, stepTables, reportAnswer, effectDecision, contentDecision}
+use Rattle.reader.specs.Ask.{shownArgument, askedReport, askedPlace, argumentReply}
+use Rattle.reader.specs.Reads.{prepend as prependItem, argumentItems, reportItem, itemOf}
+use Rattle.reader.proofs.Lookups.{record-whole, ReportFits, report-fits}
+use Rattle.reader.proofs.Changes.{Plain, Names, Kind, on-decision, on-entering, showing, registering}
 use Rattle.reader.proofs.Runs.{Held, Sound, step-sound, Run, run-sound}
 
 -- ---- no looked-up entry is bad
@@ -80,38 +81,23 @@ never-bad f archive tables s kind (Index index) h k =
     set z (inl e) = absurd (eqb-false entry 0 z e)
     set z (inr q) = held-found f archive (s .place) kind index entry q
 
--- nor is one that an argument looks up
-pub argument-never-bad : (f : Format) (archive tables : List ℕ) (s : State) (a : Argument) → Sound f archive s tables
-    → argumentBad f archive tables (s .current) (s .place) a ≡ false
-unfolding argumentBad valueBad
-argument-never-bad f archive tables s a h = rw (never-bad f archive tables s 2 (a .name) h (inl refl)) (of-value (a .value))
-  where
-    of-value : (v : Value) → valueBad f archive tables (s .current) (s .place) v ≡ false
-    of-value (ScalarValue x) = refl
-    of-value (TextValue reference) = never-bad f archive tables s 2 reference h (inl refl)
+-- every reference of a list is looked up in one of the two tables
+abbrev pub Tabled : List Lookup → Type 0
+Tabled [] = Unit {0}
+Tabled (l ∷ more) = Kind (l .table) × Tabled more
 
-behind-read : (a : Argument) (q : Arguments) → AllRead (prependArgument a q) → AllRead q
-behind-read a (refused number) r = r
-behind-read a (arguments l next) r = tt
+-- those of arguments are
+pub argument-tables : (l : List Argument) → Tabled (argumentLookups l)
+argument-tables [] = tt
+argument-tables (a ∷ l) = (inl refl, (inl refl, argument-tables l))
 
--- so the entries of arguments that are read are found
-arguments-found : (f : Format) (archive tables : List ℕ) (s : State) (count : ℕ) (rest : List ℕ) (place : ℕ) → Sound f archive s tables
-    → AllRead (argumentsOf f count rest place) → argumentsFound f archive tables (s .current) (s .place) count rest place ≡ true
-unfolding argumentsFound argumentsOf
-arguments-found f archive tables s zero rest place h r = refl
-arguments-found f archive tables s (suc count) rest place h r =
-    go (λ more at. arguments-found f archive tables s count more at h) (argumentOf f rest place) r
-  where
-    go : ((more : List ℕ) (at : ℕ) → AllRead (argumentsOf f count more at)
-        → argumentsFound f archive tables (s .current) (s .place) count more at ≡ true) → (x : Argued)
-        → AllRead (onArgued x refused (λ a size. prependArgument a (argumentsOf f count (drop size rest) (place + size))))
-        → onArgued x (λ number. false)
-        (λ a size. pick (argumentBad f archive tables (s .current) (s .place) a) false
-        (argumentsFound f archive tables (s .current) (s .place) count (drop size rest) (place + size))) ≡ true
-    go found (ArgumentRefused number) r = absurd r
-    go found (ArgumentRead a size) r =
-        rw (argument-never-bad f archive tables s a h)
-        (found (drop size rest) (place + size) (behind-read a (argumentsOf f count (drop size rest) (place + size)) r))
+-- so no entry of a list is bad
+pub none-bad : (f : Format) (archive tables : List ℕ) (s : State) (ls : List Lookup) → Sound f archive s tables → Tabled ls
+    → noneBad f archive tables (s .current) (s .place) ls ≡ true
+unfolding noneBad
+none-bad f archive tables s [] h k = refl
+none-bad f archive tables s (l ∷ more) h k =
+    rw (never-bad f archive tables s (l .table) (l .reference) h (k .0)) (none-bad f archive tables s more h (k .1))
 
 -- ---- an event in a sound state is shown
 
@@ -136,40 +122,36 @@ part-behind archive place at next h =
     left = omega arith
 
 -- the arguments of an event that is read are all read, from the part of the archive that a step and an asking take them from
-pub event-arguments : (f : Format) (archive : List ℕ) (place : ℕ) (e : Event) → recordAt f archive place .content ≡ EventRead e
+pub report-arguments : (f : Format) (archive : List ℕ) (place : ℕ) (e : Report) → recordAt f archive place .content ≡ ReportRead e
     → AllRead (argumentsOf f (e .count) (take (recordAt f archive place .next - e .arguments) (drop (e .arguments) archive)) (e .arguments))
-event-arguments f archive place e k =
-    rw (part-behind archive place (e .arguments) next (inside .behind)) at (holds .1)
+report-arguments f archive place e k =
+    rw (part-behind archive place (e .arguments) next (inside .behind)) at (holds .read)
   where
     next : ℕ
     next = recordAt f archive place .next
 
-    inside : ContentInside place next (EventRead e)
+    inside : ContentInside place next (ReportRead e)
     inside = subst (ContentInside place next) k (record-whole f archive place .inside)
 
-    holds : ContentFits f (take (next - place) (drop place archive)) place (EventRead e)
-    holds = subst (ContentFits f (take (next - place) (drop place archive)) place) k (record-whole f archive place .holds)
+    holds : ReportFits f (take (next - place) (drop place archive)) place e
+    holds = report-fits f archive place e k
 
 -- the event that a step from a sound state shows
-abbrev shownAt : Format → List ℕ → List ℕ → State → Event → ShownEvent
+abbrev shownAt : Format → List ℕ → List ℕ → State → Report → ShownReport
 shownAt f archive tables s e =
-    shownEvent archive s e (resolved f archive tables (s .current) 3 (s .place) (e .thread))
-    (resolved f archive tables (s .current) 2 (s .place) (e .category)) (resolved f archive tables (s .current) 2 (s .place) (e .name))
+    shownReport archive s e (resolved f archive tables (s .current) (e .first .table) (s .place) (e .first .reference))
+    (resolved f archive tables (s .current) (e .second .table) (s .place) (e .second .reference))
+    (resolved f archive tables (s .current) (e .third .table) (s .place) (e .third .reference))
 
-event-shown : (f : Format) (archive tables : List ℕ) (s : State) (e : Event) → Sound f archive s tables
-    → recordAt f archive (s .place) .content ≡ EventRead e
-    → eventDecision f archive tables s e (recordAt f archive (s .place) .next)
-    ≡ showing s (EventShown (shownAt f archive tables s e)) (recordAt f archive (s .place) .next)
-unfolding eventDecision
-event-shown f archive tables s e h k =
-    rw (
-      never-bad f archive tables s 3 (e .thread) h (inr refl),
-      never-bad f archive tables s 2 (e .category) h (inl refl),
-      never-bad f archive tables s 2 (e .name) h (inl refl),
-      arguments-found f archive tables s (e .count)
-          (take (recordAt f archive (s .place) .next - e .arguments) (drop (e .arguments) archive)) (e .arguments) h
-          (event-arguments f archive (s .place) e k),
-    )
+report-shown : (f : Format) (archive tables : List ℕ) (s : State) (e : Report) → Sound f archive s tables
+    → recordAt f archive (s .place) .content ≡ ReportRead e
+    → contentDecision f archive tables s (ReportRead e) (recordAt f archive (s .place) .next)
+    ≡ showing s (ReportShown (shownAt f archive tables s e)) (recordAt f archive (s .place) .next)
+unfolding contentDecision effectDecision reportAnswer followed changeOf effectOf
+report-shown f archive tables s e h k =
+    let fits = report-fits f archive (s .place) e k in
+    rw (none-bad f archive tables s (reportLookups f archive e (recordAt f archive (s .place) .next)) h
+    (fits .first .kinds, (fits .second .kinds, (fits .third .kinds, argument-tables (argumentsTo f archive e (recordAt f archive (s .place) .next))))))
 
 -- a sound state belongs to its archive
 pub sound-belongs : (f : Format) (archive tables : List ℕ) (s : State) → Sound f archive s tables → belongsTo s (length archive) ≡ true
@@ -187,7 +169,7 @@ never-four f archive tables s h =
     (λ id answer k. on-entering P s id next answer (λ place e. let z : _≡_ {A = ℕ} 9 4 = cc in omega arith)
     (λ i q place e. subst (Names id) e k) (λ q z place e. subst (Names id) e k))
     (λ kind index r place e. let z : _≡_ {A = ℕ} 0 1 = cc in omega arith)
-    (λ ev k. rw (event-shown f archive tables s ev h k) (λ place e. let z : _≡_ {A = ℕ} 0 1 = cc in omega arith))
+    (λ ev k. rw (report-shown f archive tables s ev h k) (λ place e. let z : _≡_ {A = ℕ} 0 1 = cc in omega arith))
   where
     next : ℕ
     next = recordAt f archive (s .place) .next
@@ -203,27 +185,27 @@ run-never-four f archive {s′ = s′} {tables′ = tables′} r h = never-four 
 -- ---- an event has all of its arguments
 
 -- what a step that shows an event has read, and what it leaves
-pub record EventStep (f : Format) (archive tables : List ℕ) (s : State) (e : ShownEvent) (d : Decision) : Type 0 where
-  pub event : Event
-  pub is : recordAt f archive (s .place) .content ≡ EventRead event
+pub record ReportStep (f : Format) (archive tables : List ℕ) (s : State) (e : ShownReport) (d : Decision) : Type 0 where
+  pub report : Report
+  pub is : recordAt f archive (s .place) .content ≡ ReportRead report
   pub place : e .place ≡ s .place
-  pub count : e .count ≡ event .count
+  pub count : e .count ≡ report .count
   pub state : d .state ≡ moved s (recordAt f archive (s .place) .next)
   pub tables′ : changed tables (d .change) ≡ tables
 
-pub event-step : (f : Format) (archive tables : List ℕ) (s : State) (e : ShownEvent) → Sound f archive s tables
-    → stepReply f archive tables s .answer ≡ EventShown e → EventStep f archive tables s e (decisionOf f archive tables s)
-unfolding stopping registering shownEvent changed
-event-step f archive tables s e h =
+pub report-step : (f : Format) (archive tables : List ℕ) (s : State) (e : ShownReport) → Sound f archive s tables
+    → stepReply f archive tables s .answer ≡ ReportShown e → ReportStep f archive tables s e (decisionOf f archive tables s)
+unfolding stopping registering shownReport changed
+report-step f archive tables s e h =
     on-decision P f archive tables s (λ number at k q. let z : _≡_ {A = ℕ} 0 1 = cc in absurd (omega arith))
     (λ answer k q. absurd (subst Plain q k)) (λ rate q. let z : _≡_ {A = ℕ} 0 1 = cc in absurd (omega arith))
     (λ id answer k. on-entering P s id next answer (λ q. let z : _≡_ {A = ℕ} 0 1 = cc in absurd (omega arith))
     (λ i n q. absurd (subst (Names id) q k)) (λ n z q. absurd (subst (Names id) q k)))
     (λ kind index r q. let z : _≡_ {A = ℕ} 0 1 = cc in absurd (omega arith))
-    (λ ev k. rw (event-shown f archive tables s ev h k)
+    (λ ev k. rw (report-shown f archive tables s ev h k)
     (λ q. let e′ : shownAt f archive tables s ev ≡ e = cc in
     record {
-      event = ev;
+      report = ev;
       is = k;
       place = sym (ap (λ x. x .place) e′);
       count = sym (ap (λ x. x .count) e′);
@@ -235,15 +217,15 @@ event-step f archive tables s e h =
     next = recordAt f archive (s .place) .next
 
     P : Decision → Type 0
-    P d = d .answer ≡ EventShown e → EventStep f archive tables s e d
+    P d = d .answer ≡ ReportShown e → ReportStep f archive tables s e d
 
--- a step that shows an event is past the door
-event-door : (f : Format) (archive tables : List ℕ) (s : State) (e : ShownEvent) → stepReply f archive tables s .answer ≡ EventShown e
-    → doorOf f archive (length tables) ≡ 0
+-- a step that shows an event is past the first checks
+report-opening : (f : Format) (archive tables : List ℕ) (s : State) (e : ShownReport) → stepReply f archive tables s .answer ≡ ReportShown e
+    → openingNumber f archive (length tables) ≡ 0
 unfolding decisionOf stopping
-event-door f archive tables s e q =
-    cases (eqb (doorOf f archive (length tables)) 0) (λ b. eqb-true (doorOf f archive (length tables)) 0 b)
-    (λ b. let q′ : End (doorOf f archive (length tables)) 0 ≡ EventShown e = rw b at q in let z : _≡_ {A = ℕ} 0 1 = cc in absurd (omega arith))
+report-opening f archive tables s e q =
+    cases (eqb (openingNumber f archive (length tables)) 0) (λ b. eqb-true (openingNumber f archive (length tables)) 0 b)
+    (λ b. let q′ : End (openingNumber f archive (length tables)) 0 ≡ ReportShown e = rw b at q in let z : _≡_ {A = ℕ} 0 1 = cc in absurd (omega arith))
 
 -- of arguments that are all read there is one of each number
 abbrev Numbered : Argued → Type 0
@@ -273,13 +255,13 @@ abbrev pub IsArgument : Asked → Type 0
 IsArgument (Refused number place) = ⊥
 IsArgument (ArgumentShown a) = Unit {0}
 
-argument-at : (f : Format) (archive tables : List ℕ) (s : State) (place number : ℕ) (e : Event) → Sound f archive s tables
-    → doorOf f archive (length tables) ≡ 0 → place % 8 ≡ 0 → recordAt f archive place .next ≡ s .place
-    → recordAt f archive place .content ≡ EventRead e → number < e .count → IsArgument (argumentReply f archive tables s place number)
-unfolding argumentReply askedPlace askedEvent shownArgument
+argument-at : (f : Format) (archive tables : List ℕ) (s : State) (place number : ℕ) (e : Report) → Sound f archive s tables
+    → openingNumber f archive (length tables) ≡ 0 → place % 8 ≡ 0 → recordAt f archive place .next ≡ s .place
+    → recordAt f archive place .content ≡ ReportRead e → number < e .count → IsArgument (argumentReply f archive tables s place number)
+unfolding argumentReply askedPlace askedReport shownArgument
 argument-at f archive tables s place number e h d w n k l =
     rw (
-      eq-eqb (doorOf f archive (length tables)) 0 d,
+      eq-eqb (openingNumber f archive (length tables)) 0 d,
       sound-belongs f archive tables s h,
       eq-eqb (place % 8) 0 w,
       eq-eqb (recordAt f archive place .next) (s .place) n,
@@ -288,24 +270,24 @@ argument-at f archive tables s place number e h d w n k l =
     )
     (of-argument (numberedOf f number (take (s .place - e .arguments) (drop (e .arguments) archive)) (e .arguments))
     (numbered-read f number (e .count) (take (s .place - e .arguments) (drop (e .arguments) archive)) (e .arguments) l
-    (rw n at (event-arguments f archive place e k))))
+    (rw n at (report-arguments f archive place e k))))
   where
     of-argument : (x : Argued) → Numbered x
         → IsArgument (onArgued x (λ refused. Refused 4 (s .place)) (λ a size. shownArgument f archive tables s a))
     of-argument (ArgumentRefused number) r = r
-    of-argument (ArgumentRead a size) r = rw (argument-never-bad f archive tables s a h) tt
+    of-argument (ArgumentRead a size) r = rw (none-bad f archive tables s (argumentLookups (a ∷ [])) h (argument-tables (a ∷ []))) tt
 
 -- right after an event of a sound run each of its arguments is shown
-pub argument-shown : (f : Format) (archive tables : List ℕ) (s : State) (e : ShownEvent) (number : ℕ) → Sound f archive s tables
-    → stepReply f archive tables s .answer ≡ EventShown e → number < e .count
+pub argument-shown : (f : Format) (archive tables : List ℕ) (s : State) (e : ShownReport) (number : ℕ) → Sound f archive s tables
+    → stepReply f archive tables s .answer ≡ ReportShown e → number < e .count
     → IsArgument (argumentReply f archive (stepTables f archive tables s) (stepReply f archive tables s .state) (e .place) number)
-argument-shown f archive tables s e number h q l = go (event-step f archive tables s e h q)
+argument-shown f archive tables s e number h q l = go (report-step f archive tables s e h q)
   where
-    go : EventStep f archive tables s e (decisionOf f archive tables s)
+    go : ReportStep f archive tables s e (decisionOf f archive tables s)
         → IsArgument (argumentReply f archive (stepTables f archive tables s) (stepReply f archive tables s .state) (e .place) number)
     go r =
-        argument-at f archive (stepTables f archive tables s) (stepReply f archive tables s .state) (e .place) number (r .event)
-        (step-sound f archive tables s h) (rw (r .tables′) (event-door f archive tables s e q)) (rw (r .place) (h .whole))
+        argument-at f archive (stepTables f archive tables s) (stepReply f archive tables s .state) (e .place) number (r .report)
+        (step-sound f archive tables s h) (rw (r .tables′) (report-opening f archive tables s e q)) (rw (r .place) (h .whole))
         (rw (r .place, r .state)) (rw (r .place) (r .is)) (omega (arith, l, r .count))
 
 -- what is there
@@ -328,16 +310,16 @@ items-given f archive tables s place number (suc count) h =
     go (ArgumentShown a) h (some l) k = tt
 
 -- so an event that a step from a sound state shows is an item
-pub event-item : (f : Format) (archive tables : List ℕ) (s : State) (e : ShownEvent) → Sound f archive s tables
-    → stepReply f archive tables s .answer ≡ EventShown e
+pub report-item : (f : Format) (archive tables : List ℕ) (s : State) (e : ShownReport) → Sound f archive s tables
+    → stepReply f archive tables s .answer ≡ ReportShown e
     → (i : Item) × (itemOf f archive (stepTables f archive tables s) (stepReply f archive tables s .state) (stepReply f archive tables s .answer) ≡ some i)
 unfolding itemOf
-event-item f archive tables s e h q =
+report-item f archive tables s e h q =
     rw q
     (go (argumentItems f archive (stepTables f archive tables s) (stepReply f archive tables s .state) (e .place) 0 (e .count))
     (items-given f archive (stepTables f archive tables s) (stepReply f archive tables s .state) (e .place) 0 (e .count)
     (λ n l. argument-shown f archive tables s e n h q (omega (arith, l)))))
   where
-    go : (l : Option (List ArgumentItem)) → Given l → (i : Item) × (eventItem archive e l ≡ some i)
+    go : (l : Option (List ArgumentItem)) → Given l → (i : Item) × (reportItem archive e l ≡ some i)
     go none k = absurd k
     go (some l) k = (_, refl)

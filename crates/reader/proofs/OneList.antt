@@ -8,7 +8,7 @@ use Rattle.format.specs.declared.Format.{Format}
 use Rattle.records.specs.Item.{Item}
 use Rattle.contexts.specs.declared.State.{State}
 use Rattle.reader.specs.declared.Answer.{Answer}
-use Rattle.reader.specs.declared.Answer.the-variants.{End, Nothing, Magic, ProviderInfo, Section, ProviderEvent, Initialization, Event, Skipped}
+use Rattle.reader.specs.declared.Answer.the-variants.{End, Nothing, Magic, ProviderInfo, Section, ProviderEvent, Initialization, Report, Skipped}
 use Rattle.reader.specs.Reads.{itemOf, Reads, ends, passes, shows, ReadsAs}
 
 -- the answers that show nothing: an end, a refusal, and nothing
@@ -20,7 +20,7 @@ Silent (ProviderInfo id place long) = ⊥
 Silent (Section id) = ⊥
 Silent (ProviderEvent id e) = ⊥
 Silent (Initialization rate) = ⊥
-Silent (Event e) = ⊥
+Silent (Report e) = ⊥
 Silent (Skipped type size) = ⊥
 
 -- they are no item
@@ -33,7 +33,7 @@ silent-none f archive tables s (ProviderInfo id place long) i h k = h
 silent-none f archive tables s (Section id) i h k = h
 silent-none f archive tables s (ProviderEvent id e) i h k = h
 silent-none f archive tables s (Initialization rate) i h k = h
-silent-none f archive tables s (Event e) i h k = h
+silent-none f archive tables s (Report e) i h k = h
 silent-none f archive tables s (Skipped type size) i h k = h
 
 end-or-nothing : (a : Answer) (place : ℕ) → a ≡ End 0 place → a ≡ Nothing → ⊥

@@ -2,8 +2,7 @@
 -- of that kind and index that was read in that very context. Assumes nothing.
 use Prim.Native.Nat.{ℕ, _+_, _-_, _%_, _≤_, _<_}
 use mathlib.Core.Path.{_≡_, refl, sym, _∙_}
-use mathlib.Core.List.{List, [], _∷_}
-use mathlib.Core.Bool.{true}
+use mathlib.Core.List.{[], List, _∷_}
 use mathlib.Core.Option.{some}
 use mathlib.Core.Logic.{_⊎_, inl, inr}
 use native.Mathlib.Omega.{arith}
@@ -11,8 +10,8 @@ use borrow.Author.Tests.{ltb-true, ltb-false, eqb-true, eqb-false, eq-eqb}
 use lib.Dec.{eqb, ltb}
 use lib.ListN.{length, getD, set, replicate, length-set, length-replicate, getD-replicate}
 use lib.Seq.{getD-set-same, getD-set-other}
+use Rattle.words.proofs.Tests.{cases}
 use Rattle.format.specs.declared.Format.{Format}
-use Rattle.arguments.proofs.Arguments.{cases}
 use Rattle.records.specs.declared.Content.the-variants.{Refused}
 use Rattle.records.specs.Record.{recordAt}
 use Rattle.records.specs.Item.{Item}
@@ -24,12 +23,14 @@ use Rattle.tables.specs.declared.Registration.the-variants.{Nothing as NoEntry,
 use Rattle.tables.specs.Table.{tableWords, highestOf, position, cleared, registrationOf}
 use Rattle.reader.specs.declared.Answer.the-variants.{End, Nothing}
 use Rattle.reader.specs.declared.Decision.{Decision}
-use Rattle.reader.specs.Step.{doorOf, stopping, registering, changed, stepReply, stepTables, openTables}
+use Rattle.effects.specs.Follow.{changed}
+use Rattle.reader.specs.Step.{openingNumber, stopping, stepReply, stepTables, openTables}
 use Rattle.reader.specs.Reads.{itemOf, Reads, ends, passes, shows}
 use Rattle.tables.proofs.Tables.{position-lt, position-apart, cleared-zero, length-cleared}
 use Rattle.reader.proofs.Steps.{admitted}
 use Rattle.reader.proofs.Lookups.{RecordFits, record-whole}
-use Rattle.reader.proofs.Changes.{Kind, Registers, Sets, on-decision, on-entering, on-event, own-context}
+use Rattle.reader.proofs.Changes.{Kind, Registers, Sets, on-decision, on-entering, on-report, own-context, registering}
+use Rattle.records.specs.Effect.{effectOf}
 
 -- ---- what is true of a state and its tables along a run
 
@@ -74,10 +75,10 @@ zeros-sound f archive tables h z =
     }
 
 -- what opening hands back is sound
-pub opening-sound : (f : Format) (archive tables : List ℕ) → doorOf f archive (length tables) ≡ 0
+pub opening-sound : (f : Format) (archive tables : List ℕ) → openingNumber f archive (length tables) ≡ 0
     → Sound f archive opening (openTables f archive tables)
 opening-sound f archive tables h =
-    rw (eq-eqb (doorOf f archive (length tables)) 0 h)
+    rw (eq-eqb (openingNumber f archive (length tables)) 0 h)
     (zeros-sound f archive (cleared (tableWords f) tables) (omega (arith, enough, length-cleared (tableWords f) tables enough))
     (cleared-zero (tableWords f) tables))
   where
@@ -102,7 +103,7 @@ held-later f archive limit later kind index entry h (inr k) =
 -- a record that registers something has a word at least
 registers-some : (f : Format) (archive : List ℕ) (place kind index : ℕ) → Registers f archive place kind index
     → place < recordAt f archive place .next
-unfolding registrationOf
+unfolding registrationOf effectOf
 registers-some f archive place kind index r = go (record-whole f archive place .some)
   where
     go : ((number : ℕ) × (recordAt f archive place .content ≡ Refused number)) ⊎ (place + 8 ≤ recordAt f archive place .next)
@@ -241,7 +242,7 @@ step-sound f archive tables s h =
     (λ i e. sound-next f archive tables s (s .rate) (i + 1) h (omega (arith, found-lt (s .ids) (s .count) id i e)))
     (λ e z. sound-new f archive tables s id h e z))
     (λ kind index r. sound-registered f archive tables s kind index h r)
-    (λ e k. on-event P f archive tables s e next h (λ shown. moves))
+    (λ e k. on-report P f archive tables s e next h (λ shown. moves))
   where
     next : ℕ
     next = recordAt f archive (s .place) .next
@@ -284,7 +285,7 @@ run-sound f archive (showing s tables i items s′ tables′ e r) h = run-sound 
 
 -- every state of a run from opening is sound
 pub opened-sound : (f : Format) (archive tables : List ℕ) {items : List Item} {s′ : State} {tables′ : List ℕ}
-    → doorOf f archive (length tables) ≡ 0 → Run f archive opening (openTables f archive tables) items s′ tables′ → Sound f archive s′ tables′
+    → openingNumber f archive (length tables) ≡ 0 → Run f archive opening (openTables f archive tables) items s′ tables′ → Sound f archive s′ tables′
 opened-sound f archive tables h r = run-sound f archive r (opening-sound f archive tables h)
 
 -- an entry was set along a run: at a state of it that stood at the entry's place in the entry's very context, where a record of its kind
@@ -427,7 +428,7 @@ step-grows f archive tables s =
     on-decision P f archive tables s (λ number place k. same) (λ answer k. on) (λ rate. on)
     (λ id answer k. on-entering P s id next answer same (λ i e. on)
     (λ e z. record { place = behind; count = omega arith; ids = λ i l. getD-set-other (s .ids) (s .count) i id 0 (λ q. omega arith) }))
-    (λ kind index r. on) (λ e k. on-event P f archive tables s e next same (λ shown. on))
+    (λ kind index r. on) (λ e k. on-report P f archive tables s e next same (λ shown. on))
   where
     next : ℕ
     next = recordAt f archive (s .place) .next

@@ -1,25 +1,27 @@
 -- Document 01's number and values for each case of an answer: "Where an answer is an enum, a definition gives this paper's number and values for
 -- each of its cases."
 use Prim.Native.Nat.{ℕ}
-use mathlib.Core.List.{List, [], _∷_, _++_}
+use mathlib.Core.List.{[], List, _∷_, _++_}
 use mathlib.Core.Option.{Option, none, some}
 use Rattle.arguments.specs.declared.Scalar.{Scalar}
 use Rattle.arguments.specs.declared.Scalar.the-variants.{Null, Signed32, Unsigned32, Signed64, Unsigned64, Double, Pointer, KernelObject, Boolean, Unknown}
-use Rattle.records.specs.Written.{unsigned, bit, scalarType}
+use Rattle.words.specs.Word.{unsigned, bit}
+use Rattle.arguments.specs.Argument.{scalarType}
 use Rattle.contexts.specs.declared.Provider.{Provider}
 use Rattle.contexts.specs.declared.Provider.the-variants.{None, Id}
 use Rattle.reader.specs.declared.ShownText.{ShownText}
 use Rattle.reader.specs.declared.ShownText.the-variants.{At, Unresolved}
 use Rattle.reader.specs.declared.ShownThread.{ShownThread}
 use Rattle.reader.specs.declared.ShownThread.the-variants.{Words, Unresolved as ThreadUnresolved}
-use Rattle.reader.specs.declared.ShownEvent.{ShownEvent}
+use Rattle.reader.specs.declared.ShownReport.{ShownReport}
+use Rattle.reader.specs.declared.ShownReferent.{ShownReferent}
+use Rattle.reader.specs.declared.ShownReferent.the-variants.{Text as TextReferent, Thread as ThreadReferent}
 use Rattle.reader.specs.declared.ShownValue.{ShownValue}
 use Rattle.reader.specs.declared.ShownValue.the-variants.{Scalar as ScalarShown, Text as TextShown}
-use Rattle.reader.specs.declared.ShownArgument.{ShownArgument}
 use Rattle.reader.specs.declared.Asked.{Asked}
 use Rattle.reader.specs.declared.Asked.the-variants.{Refused, Argument as ArgumentShown}
 use Rattle.reader.specs.declared.Answer.{Answer}
-use Rattle.reader.specs.declared.Answer.the-variants.{End, Nothing, Magic, ProviderInfo, Section, ProviderEvent, Initialization, Event, Skipped}
+use Rattle.reader.specs.declared.Answer.the-variants.{End, Nothing, Magic, ProviderInfo, Section, ProviderEvent, Initialization, Report, Skipped}
 
 -- the number of an answer that ends or is refused; an answer that goes on has none
 abbrev pub answerNumber : Answer → Option ℕ
@@ -30,7 +32,7 @@ answerNumber (ProviderInfo id place long) = none
 answerNumber (Section id) = none
 answerNumber (ProviderEvent id event) = none
 answerNumber (Initialization rate) = none
-answerNumber (Event e) = none
+answerNumber (Report r) = none
 answerNumber (Skipped type size) = none
 
 abbrev pub askedNumber : Asked → Option ℕ
@@ -70,11 +72,16 @@ abbrev pub valueValues : ShownValue → List ℕ
 valueValues (ScalarShown s) = scalarType s ∷ scalarValue s ∷ 0 ∷ 0 ∷ []
 valueValues (TextShown t) = 6 ∷ textValues t
 
+-- what a record refers to
+abbrev pub referentValues : ShownReferent → List ℕ
+referentValues (TextReferent t) = textValues t
+referentValues (ThreadReferent t) = threadValues t
+
 -- an event in document 01's order, with the place by which its arguments are asked for
-abbrev pub eventValues : ShownEvent → List ℕ
-eventValues e =
-    e .place ∷ (providerValues (e .provider) ++ (e .kind ∷ e .timestamp ∷ e .rate
-    ∷ (threadValues (e .thread) ++ (textValues (e .category) ++ (textValues (e .name) ++ (e .count ∷ e .extra ∷ []))))))
+abbrev pub reportValues : ShownReport → List ℕ
+reportValues r =
+    r .place ∷ (providerValues (r .provider) ++ (r .own .variant ∷ r .own .timestamp ∷ r .rate
+    ∷ (referentValues (r .first) ++ (referentValues (r .second) ++ (referentValues (r .third) ++ (r .count ∷ r .last ∷ []))))))
 
 -- what a step or an opening answers: which case it is, then its values. 1 with number and place is an end or a refusal in every kind of answer
 abbrev pub answerValues : Answer → List ℕ
@@ -85,7 +92,7 @@ answerValues (ProviderInfo id place long) = 4 ∷ id ∷ place ∷ long ∷ []
 answerValues (Section id) = 5 ∷ id ∷ []
 answerValues (ProviderEvent id event) = 6 ∷ id ∷ event ∷ []
 answerValues (Initialization rate) = 7 ∷ rate ∷ []
-answerValues (Event e) = 8 ∷ eventValues e
+answerValues (Report r) = 8 ∷ reportValues r
 answerValues (Skipped type size) = 9 ∷ type ∷ size ∷ []
 
 -- what is answered for an argument

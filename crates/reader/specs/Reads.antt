@@ -2,30 +2,34 @@
 -- `step`, `argument` and `text` cite, from the state and the tables that opening leaves (proofs `Opening.reads-as-opened`).
 use Prim.Native.Nat.{ℕ, zero, suc}
 use mathlib.Core.Path.{_≡_}
-use mathlib.Core.List.{List, [], _∷_}
+use mathlib.Core.List.{[], List, _∷_}
 use mathlib.Core.Option.{Option, none, some}
 use lib.ListN.{replicate}
+use Rattle.words.specs.Stream.{partOf}
 use Rattle.format.specs.declared.Format.{Format}
-use Rattle.records.specs.Item.{Shown, known, unresolved, Thread, thread, Text, Value, scalar, text, Argument, Event, Item, magic, providerInfo, section, providerEvent, initialization, event, skipped}
+use Rattle.records.specs.Item.{Shown, known, unresolved, Thread, thread, Text, Value, scalar, text, Argument, Referent, textReferent, threadReferent, Item, magic, providerInfo, section, providerEvent, initialization, report, skipped}
 use Rattle.contexts.specs.declared.State.{State}
 use Rattle.contexts.specs.declared.Provider.{Provider}
 use Rattle.contexts.specs.declared.Provider.the-variants.{None, Id}
 use Rattle.contexts.specs.Context.{opening}
 use Rattle.tables.specs.Table.{tableWords}
+use Rattle.reader.specs.declared.ShownStream.{ShownStream}
 use Rattle.reader.specs.declared.ShownText.{ShownText}
 use Rattle.reader.specs.declared.ShownText.the-variants.{At, Unresolved}
 use Rattle.reader.specs.declared.ShownThread.{ShownThread}
 use Rattle.reader.specs.declared.ShownThread.the-variants.{Words, Unresolved as ThreadUnresolved}
-use Rattle.reader.specs.declared.ShownEvent.{ShownEvent}
+use Rattle.reader.specs.declared.ShownReferent.{ShownReferent}
+use Rattle.reader.specs.declared.ShownReferent.the-variants.{Text as TextReferentShown, Thread as ThreadShown}
+use Rattle.reader.specs.declared.ShownReport.{ShownReport}
 use Rattle.reader.specs.declared.ShownValue.{ShownValue}
 use Rattle.reader.specs.declared.ShownValue.the-variants.{Scalar as ScalarShown, Text as TextValue}
 use Rattle.reader.specs.declared.ShownArgument.{ShownArgument}
 use Rattle.reader.specs.declared.Asked.{Asked}
 use Rattle.reader.specs.declared.Asked.the-variants.{Refused, Argument as ArgumentShown}
 use Rattle.reader.specs.declared.Answer.{Answer}
-use Rattle.reader.specs.declared.Answer.the-variants.{End, Nothing, Magic, ProviderInfo, Section, ProviderEvent, Initialization, Event as EventShown, Skipped}
-use Rattle.reader.specs.Step.{doorOf, stepReply, stepTables}
-use Rattle.reader.specs.Ask.{argumentReply, partOf}
+use Rattle.reader.specs.declared.Answer.the-variants.{End, Nothing, Magic, ProviderInfo, Section, ProviderEvent, Initialization, Report as ReportShown, Skipped}
+use Rattle.reader.specs.Step.{openingNumber, stepReply, stepTables}
+use Rattle.reader.specs.Ask.{argumentReply}
 
 -- "a string's bytes are the part of the archive answered for the place and length shown"
 abbrev pub textItem : List ℕ → ShownText → Text
@@ -59,19 +63,27 @@ argumentItems f archive tables s place number zero = some []
 argumentItems f archive tables s place number (suc count) =
     prepend archive (argumentReply f archive tables s place number) (argumentItems f archive tables s place (suc number) count)
 
-abbrev pub eventItem : List ℕ → ShownEvent → Option (List Argument) → Option Item
-eventItem archive e none = none
-eventItem archive e (some l) =
-    some (event (record {
-      provider = providerItem (e .provider);
-      type = e .kind;
-      timestamp = e .timestamp;
-      rate = e .rate;
-      thread = threadItem (e .thread);
-      category = textItem archive (e .category);
-      name = textItem archive (e .name);
+abbrev pub referentItem : List ℕ → ShownReferent → Referent
+referentItem archive (TextReferentShown t) = textReferent (textItem archive t)
+referentItem archive (ThreadShown t) = threadReferent (threadItem t)
+
+-- the bytes of a stream
+abbrev pub streamItem : List ℕ → ShownStream → List ℕ
+streamItem archive s = partOf archive (s .place) (s .length)
+
+abbrev pub reportItem : List ℕ → ShownReport → Option (List Argument) → Option Item
+reportItem archive r none = none
+reportItem archive r (some l) =
+    some (report (record {
+      provider = providerItem (r .provider);
+      rate = r .rate;
+      own = r .own;
+      first = referentItem archive (r .first);
+      second = referentItem archive (r .second);
+      third = referentItem archive (r .third);
+      stream = streamItem archive (r .stream);
       arguments = l;
-      extra = e .extra;
+      last = r .last;
     }))
 
 -- the item of an answer, with the state and the tables that the step hands back
@@ -83,7 +95,7 @@ itemOf f archive tables s (ProviderInfo id place long) = some (providerInfo id (
 itemOf f archive tables s (Section id) = some (section id)
 itemOf f archive tables s (ProviderEvent id e) = some (providerEvent id e)
 itemOf f archive tables s (Initialization rate) = some (initialization rate)
-itemOf f archive tables s (EventShown e) = eventItem archive e (argumentItems f archive tables s (e .place) 0 (e .count))
+itemOf f archive tables s (ReportShown r) = reportItem archive r (argumentItems f archive tables s (r .place) 0 (r .count))
 itemOf f archive tables s (Skipped type size) = some (skipped type size)
 
 -- the steps from a state "show exactly the list's items, in order, until one replies 0". "Each step gets the archive unchanged, and the state and
@@ -97,7 +109,7 @@ pub data Reads (f : Format) (archive : List ℕ) : State → List ℕ → List I
       → Reads f archive (stepReply f archive tables s .state) (stepTables f archive tables s) items → Reads f archive s tables (i ∷ items)
 
 -- "An archive reads to its end as a list when opening takes it, given long enough tables, and the steps from there show exactly the list's items".
--- Here opening is spelled out: its door, its state, and zeros for the tables. That `open`'s reply and tables say the same, whatever long enough
+-- Here opening is spelled out: its first checks, its state, and zeros for the tables. That `open`'s reply and tables say the same, whatever long enough
 -- tables held before and however long they are, is the law `Opening.reads-as-opened`.
 abbrev pub ReadsAs : Format → List ℕ → List Item → Type 0
-ReadsAs f archive items = (doorOf f archive (tableWords f) ≡ 0) × Reads f archive opening (replicate (tableWords f) 0) items
+ReadsAs f archive items = (openingNumber f archive (tableWords f) ≡ 0) × Reads f archive opening (replicate (tableWords f) 0) items

@@ -1,25 +1,29 @@
 -- What references are shown as in an event and in an argument, after "The list of items" and number 4 of document 01.
-use Prim.Native.Nat.{ℕ, zero, suc, _+_, _≤_}
-use mathlib.Core.List.{List}
-use mathlib.Core.Bool.{Bool, true, false, _||_, not, _&&_}
-use lib.ListN.{drop}
+use Prim.Native.Nat.{ℕ, _+_}
+use mathlib.Core.List.{[], List, _∷_}
+use mathlib.Core.Bool.{Bool, true, false}
+use lib.Dec.{eqb}
 use Rattle.words.specs.Word.{pick, wordAt}
 use Rattle.format.specs.declared.Format.{Format}
+use Rattle.format.specs.declared.Reference.{Reference}
+use Rattle.format.specs.declared.Reference.the-variants.{Inline, Index}
 use Rattle.arguments.specs.declared.Value.{Value}
 use Rattle.arguments.specs.declared.Value.the-variants.{Scalar, Text as ValueText}
-use Rattle.arguments.specs.declared.Argument.{Argument}
-use Rattle.arguments.specs.Argument.{argumentOf, onArgued}
-use Rattle.records.specs.declared.Event.{Event}
+use Rattle.records.specs.declared.Lookup.{Lookup}
+use Rattle.records.specs.declared.Report.{Report}
 use Rattle.contexts.specs.declared.State.{State}
 use Rattle.contexts.specs.Context.{providerOf}
 use Rattle.tables.specs.declared.Resolved.{Resolved}
 use Rattle.tables.specs.declared.Resolved.the-variants.{Bad, Known, Unresolved}
-use Rattle.tables.specs.Table.{resolved}
+use Rattle.tables.specs.Table.{resolved, lookedUp}
+use Rattle.reader.specs.declared.ShownStream.{ShownStream}
 use Rattle.reader.specs.declared.ShownText.{ShownText}
 use Rattle.reader.specs.declared.ShownText.the-variants.{At, Unresolved as TextUnresolved}
 use Rattle.reader.specs.declared.ShownThread.{ShownThread}
 use Rattle.reader.specs.declared.ShownThread.the-variants.{Words, Unresolved as ThreadUnresolved}
-use Rattle.reader.specs.declared.ShownEvent.{ShownEvent}
+use Rattle.reader.specs.declared.ShownReferent.{ShownReferent}
+use Rattle.reader.specs.declared.ShownReferent.the-variants.{Text as TextReferentShown, Thread as ThreadShown}
+use Rattle.reader.specs.declared.ShownReport.{ShownReport}
 use Rattle.reader.specs.declared.ShownValue.{ShownValue}
 use Rattle.reader.specs.declared.ShownValue.the-variants.{Scalar as ScalarShown, Text as TextShown}
 
@@ -41,46 +45,37 @@ shownThread archive Bad = ThreadUnresolved 0
 shownThread archive (Known place length) = Words (wordAt archive place) (wordAt archive (place + 8))
 shownThread archive (Unresolved index) = ThreadUnresolved index
 
--- a thread's two words stand inside the archive
-abbrev pub ThreadInside : ℕ → Resolved → Type 0
-ThreadInside n Bad = Unit {0}
-ThreadInside n (Known place length) = place + 16 ≤ n
-ThreadInside n (Unresolved index) = Unit {0}
+-- what a record refers to, by its table
+unfoldable pub shownReferent : List ℕ → ℕ → Resolved → ShownReferent
+shownReferent archive table r = pick (eqb table 3) (ThreadShown (shownThread archive r)) (TextReferentShown (shownText r))
+
+-- a stream that is no reference
+unfoldable pub shownStream : Reference → ShownStream
+shownStream (Inline place length) = record { place = place; length = length }
+shownStream (Index index) = record { place = 0; length = 0 }
 
 -- "An event item holds its provider id or none, type, timestamp, the rate in force, process and thread (or unresolved), category, name,
 -- arguments, and extra word."
-unfoldable pub shownEvent : List ℕ → State → Event → Resolved → Resolved → Resolved → ShownEvent
-shownEvent archive s e thread category name =
+unfoldable pub shownReport : List ℕ → State → Report → Resolved → Resolved → Resolved → ShownReport
+shownReport archive s r a b c =
     record {
       place = s .place;
       provider = providerOf s;
-      kind = e .kind;
-      timestamp = e .timestamp;
       rate = s .rate;
-      thread = shownThread archive thread;
-      category = shownText category;
-      name = shownText name;
-      count = e .count;
-      extra = e .extra;
+      own = r .own;
+      first = shownReferent archive (r .first .table) a;
+      second = shownReferent archive (r .second .table) b;
+      third = shownReferent archive (r .third .table) c;
+      stream = shownStream (r .stream);
+      count = r .count;
+      last = r .last;
     }
 
--- the entries that an argument is looked up in: its name's and its text's
-unfoldable pub valueBad : Format → List ℕ → List ℕ → ℕ → ℕ → Value → Bool
-valueBad f archive tables context limit (Scalar s) = false
-valueBad f archive tables context limit (ValueText reference) = isBad (resolved f archive tables context 2 limit reference)
-
-unfoldable pub argumentBad : Format → List ℕ → List ℕ → ℕ → ℕ → Argument → Bool
-argumentBad f archive tables context limit a =
-    pick (isBad (resolved f archive tables context 2 limit (a .name))) true (valueBad f archive tables context limit (a .value))
-
--- whether no entry of so many arguments is bad
-unfoldable pub argumentsFound : Format → List ℕ → List ℕ → ℕ → ℕ → ℕ → List ℕ → ℕ → Bool
-argumentsFound f archive tables context limit zero rest place = true
-argumentsFound f archive tables context limit (suc count) rest place =
-    onArgued (argumentOf f rest place) (λ number. false)
-    (λ a size.
-    pick (argumentBad f archive tables context limit a) false
-    (argumentsFound f archive tables context limit count (drop size rest) (place + size)))
+-- whether no entry that a record is looked up in is bad
+unfoldable pub noneBad : Format → List ℕ → List ℕ → ℕ → ℕ → List Lookup → Bool
+noneBad f archive tables context limit [] = true
+noneBad f archive tables context limit (l ∷ more) =
+    pick (isBad (lookedUp f archive tables context limit l)) false (noneBad f archive tables context limit more)
 
 unfoldable pub shownValue : Format → List ℕ → List ℕ → ℕ → ℕ → Value → ShownValue
 shownValue f archive tables context limit (Scalar s) = ScalarShown s

@@ -1,78 +1,73 @@
 -- Opening an archive and reading one record of it, after "Contexts", "The list of items" and "Numbers and replies" of document 01.
-use Prim.Native.Nat.{ℕ, _-_}
+use Prim.Native.Nat.{ℕ}
 use mathlib.Core.List.{List}
-use mathlib.Core.Bool.{Bool, true, false}
-use lib.ListN.{length, take, drop, set}
-use lib.Dec.{eqb, ltb}
+use lib.ListN.{length}
+use lib.Dec.{eqb}
 use Rattle.words.specs.Word.{pick}
-use Rattle.words.specs.Stream.{startsWithMagic}
 use Rattle.format.specs.declared.Format.{Format}
-use Rattle.records.specs.declared.Event.{Event}
+use Rattle.format.specs.Header.{archiveNumber}
+use Rattle.records.specs.declared.Report.{Report}
 use Rattle.records.specs.declared.Content.{Content}
-use Rattle.records.specs.declared.Content.the-variants.{Refused, Magic, ProviderInfo, Section, ProviderEvent, Initialization, String, Thread, Event as EventRead, Ignored, Skipped}
+use Rattle.records.specs.declared.Content.the-variants.{Refused, Magic, ProviderInfo, Section, ProviderEvent, Initialization, String, Thread, Report as ReportRead, Ignored, Skipped}
 use Rattle.records.specs.Record.{recordAt}
+use Rattle.records.specs.declared.Effect.{Effect}
+use Rattle.records.specs.Effect.{effectOf}
+use Rattle.records.specs.Lookups.{onReport, contentLookups}
 use Rattle.contexts.specs.declared.State.{State}
-use Rattle.contexts.specs.declared.Entered.{Entered}
-use Rattle.contexts.specs.Context.{opening, belongsTo, moved, rated, entering}
-use Rattle.tables.specs.declared.Resolved.{Resolved}
-use Rattle.tables.specs.Table.{tableWords, position, cleared, resolved}
+use Rattle.contexts.specs.Context.{opening, belongsTo}
+use Rattle.tables.specs.Table.{tableWords, cleared, lookedUp}
+use Rattle.effects.specs.declared.Change.the-variants.{Keep}
+use Rattle.effects.specs.Follow.{followed, changeOf, changed}
 use Rattle.reader.specs.declared.Answer.{Answer}
-use Rattle.reader.specs.declared.Answer.the-variants.{End, Nothing, Magic as MagicShown, ProviderInfo as ProviderInfoShown, Section as SectionShown, ProviderEvent as ProviderEventShown, Initialization as InitializationShown, Event as EventShown, Skipped as SkippedShown}
+use Rattle.reader.specs.declared.Answer.the-variants.{End, Nothing, Magic as MagicShown, ProviderInfo as ProviderInfoShown, Section as SectionShown, ProviderEvent as ProviderEventShown, Initialization as InitializationShown, Report as ReportShown, Skipped as SkippedShown}
 use Rattle.reader.specs.declared.Reply.{Reply}
-use Rattle.reader.specs.declared.Change.{Change}
-use Rattle.reader.specs.declared.Change.the-variants.{Keep, Set}
 use Rattle.reader.specs.declared.Decision.{Decision}
-use Rattle.reader.specs.Shown.{isBad, shownEvent, argumentsFound}
+use Rattle.reader.specs.Shown.{noneBad, shownReport}
 
--- "checks 2, 1, 3": the number that archive and tables are refused by, or 0. "Archive at most 16,777,216 bytes"
-unfoldable pub doorOf : Format → List ℕ → ℕ → ℕ
-doorOf f archive room =
-    pick (ltb 16777216 (length archive)) 2 (pick (startsWithMagic archive) (pick (ltb room (tableWords f)) 3 0) 1)
+-- "checks 2, 1, 3": the number that archive and tables are refused by, or 0.
+unfoldable pub openingNumber : Format → List ℕ → ℕ → ℕ
+openingNumber f archive room = archiveNumber archive 3 (tableWords f) room
 
 -- a step that ends or is refused: "A step that is refused, or at the end, changes nothing."
 unfoldable pub stopping : State → ℕ → ℕ → Decision
 stopping s number place = record { answer = End number place; state = s; change = Keep }
 
--- a step that shows this and moves on
-abbrev pub showing : State → Answer → ℕ → Decision
-showing s answer next = record { answer = answer; state = moved s next; change = Keep }
+-- a record that refers to texts and threads, which are looked up in the current context's tables as they stand
+unfoldable pub reportAnswer : Format → List ℕ → List ℕ → State → Report → Answer
+reportAnswer f archive tables s r =
+    let found = lookedUp f archive tables (s .current) (s .place) in
+    ReportShown (shownReport archive s r (found (r .first)) (found (r .second)) (found (r .third)))
 
--- provider info and a section: number 9 is "a ninth provider id"
-unfoldable pub enteringAs : State → Entered → Answer → Decision
-enteringAs s e answer = pick (e .ninth) (stopping s 9 (s .place)) (record { answer = answer; state = e .state; change = Keep })
+-- what any other record is shown as: string and thread records are not, and one that is refused never comes to this
+unfoldable pub plainAnswer : Content → Answer
+plainAnswer (Refused number) = Nothing
+plainAnswer Magic = MagicShown
+plainAnswer (ProviderInfo id place long) = ProviderInfoShown id place long
+plainAnswer (Section id) = SectionShown id
+plainAnswer (ProviderEvent id event) = ProviderEventShown id event
+plainAnswer (Initialization rate) = InitializationShown rate
+plainAnswer (String index place long) = Nothing
+plainAnswer (Thread index place) = Nothing
+plainAnswer (ReportRead r) = Nothing
+plainAnswer Ignored = Nothing
+plainAnswer (Skipped type size) = SkippedShown type size
 
--- "A string or thread record sets one entry of the current context's table, replacing what stood there."
-unfoldable pub registering : Format → State → ℕ → ℕ → ℕ → Decision
-registering f s kind index next =
-    record { answer = Nothing; state = moved s next; change = Set (position f (s .current) kind index) (s .place) }
+abbrev pub contentAnswer : Format → List ℕ → List ℕ → State → Content → Answer
+contentAnswer f archive tables s content = onReport content (plainAnswer content) (λ r. reportAnswer f archive tables s r)
 
--- an event, whose references are looked up in the current context's tables as they stand; "last of all 4 for looked-up entries, those of arguments too"
-unfoldable pub eventDecision : Format → List ℕ → List ℕ → State → Event → ℕ → Decision
-eventDecision f archive tables s e next =
-    let thread = resolved f archive tables (s .current) 3 (s .place) (e .thread) in
-    let category = resolved f archive tables (s .current) 2 (s .place) (e .category) in
-    let name = resolved f archive tables (s .current) 2 (s .place) (e .name) in
-    pick (isBad thread) (stopping s 4 (s .place))
-    (pick (isBad category) (stopping s 4 (s .place))
-    (pick (isBad name) (stopping s 4 (s .place))
-    (pick (argumentsFound f archive tables (s .current) (s .place) (e .count) (take (next - e .arguments) (drop (e .arguments) archive)) (e .arguments))
-    (showing s (EventShown (shownEvent archive s e thread category name)) next)
-    (stopping s 4 (s .place)))))
+-- a record with this effect, shown as this: it stops the reading, as one that is refused and "a ninth provider id" do, or the reading goes on
+unfoldable pub effectDecision : Format → State → Effect → ℕ → Answer → Decision
+effectDecision f s effect next answer =
+    pick (eqb (followed s effect next .number) 0)
+    (record { answer = answer; state = followed s effect next .state; change = changeOf f s effect })
+    (stopping s (followed s effect next .number) (s .place))
 
--- a record that ends at `next`, by what stands in it. "Provider event makes nothing current and opens nothing."
+-- a record that ends at `next`, by what stands in it: "last of all 4 for looked-up entries, those of arguments too". A record that stops the
+-- reading refers to nothing.
 unfoldable pub contentDecision : Format → List ℕ → List ℕ → State → Content → ℕ → Decision
-contentDecision f archive tables s (Refused number) next = stopping s number (s .place)
-contentDecision f archive tables s Magic next = showing s MagicShown next
-contentDecision f archive tables s (ProviderInfo id place long) next = enteringAs s (entering s id next) (ProviderInfoShown id place long)
-contentDecision f archive tables s (Section id) next = enteringAs s (entering s id next) (SectionShown id)
-contentDecision f archive tables s (ProviderEvent id event) next = showing s (ProviderEventShown id event) next
-contentDecision f archive tables s (Initialization rate) next =
-    record { answer = InitializationShown rate; state = rated s rate next; change = Keep }
-contentDecision f archive tables s (String index place long) next = registering f s 2 index next
-contentDecision f archive tables s (Thread index place) next = registering f s 3 index next
-contentDecision f archive tables s (EventRead e) next = eventDecision f archive tables s e next
-contentDecision f archive tables s Ignored next = showing s Nothing next
-contentDecision f archive tables s (Skipped type size) next = showing s (SkippedShown type size) next
+contentDecision f archive tables s content next =
+    pick (noneBad f archive tables (s .current) (s .place) (contentLookups f archive content next))
+    (effectDecision f s (effectOf content) next (contentAnswer f archive tables s content)) (stopping s 4 (s .place))
 
 -- "then end, then 5 for the tail, 6 for size 0, 5 for the record, then its fields"; "the length for 0"
 unfoldable pub placeDecision : Format → List ℕ → List ℕ → State → Decision
@@ -83,13 +78,9 @@ placeDecision f archive tables s =
 -- "A step checks 2, 1, 3, 4"; "The place reported is 0 for 1, 2 and 3, the state's for 4"
 unfoldable pub decisionOf : Format → List ℕ → List ℕ → State → Decision
 decisionOf f archive tables s =
-    pick (eqb (doorOf f archive (length tables)) 0)
+    pick (eqb (openingNumber f archive (length tables)) 0)
     (pick (belongsTo s (length archive)) (placeDecision f archive tables s) (stopping s 4 (s .place)))
-    (stopping s (doorOf f archive (length tables)) 0)
-
-unfoldable pub changed : List ℕ → Change → List ℕ
-changed tables Keep = tables
-changed tables (Set position entry) = set tables position entry
+    (stopping s (openingNumber f archive (length tables)) 0)
 
 -- a step: its answer with the state to go on from, and the tables after it
 abbrev pub stepReply : Format → List ℕ → List ℕ → State → Reply
@@ -101,8 +92,8 @@ stepTables f archive tables s = changed tables (decisionOf f archive tables s .c
 -- "a refused opening hands back the same state and touches no table"
 abbrev pub openReply : Format → List ℕ → ℕ → Reply
 openReply f archive room =
-    record { answer = pick (eqb (doorOf f archive room) 0) Nothing (End (doorOf f archive room) 0); state = opening }
+    record { answer = pick (eqb (openingNumber f archive room) 0) Nothing (End (openingNumber f archive room) 0); state = opening }
 
 -- "it clears the first 6,912 table words, touches no others"
 abbrev pub openTables : Format → List ℕ → List ℕ → List ℕ
-openTables f archive tables = pick (eqb (doorOf f archive (length tables)) 0) (cleared (tableWords f) tables) tables
+openTables f archive tables = pick (eqb (openingNumber f archive (length tables)) 0) (cleared (tableWords f) tables) tables

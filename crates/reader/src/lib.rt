@@ -1,26 +1,35 @@
 // Reading a trace: opening, stepping, asking for an argument and for a text. Nothing here asks anything of its caller.
 ghost use mathlib.Core.Path.{_≡_};
-ghost use Prim.Native.Nat.{ℕ, _+_, _-_, _*_, _^_, _<_, _≤_};
+ghost use Prim.Native.Nat.{_+_, _-_, _^_, _<_, _≤_};
 ghost use mathlib.Core.Bool.{true};
 ghost use lib.ListN.{length};
+ghost use Rattle.words.specs.Stream.{partOf};
 ghost use Rattle.format.specs.Limits.{smallFormat};
-ghost use Rattle.tables.specs.Table.{FormatFits, tableWords, highestOf};
+ghost use Rattle.tables.specs.Table.{tableWords};
+ghost use Rattle.tables.specs.Models.Entries.{FormatFits};
 ghost use Rattle.contexts.specs.Context.{belongsTo};
+ghost use Rattle.arguments.specs.Argument.{argumentsRead};
 ghost use Rattle.records.specs.Record.{recordAt};
-ghost use Rattle.reader.specs.Shown.{isBad, shownText, shownThread, ThreadInside, shownEvent, argumentsFound};
-ghost use Rattle.reader.specs.Step.{doorOf, stopping, enteringAs, registering, eventDecision, contentDecision, placeDecision, decisionOf, changed, openReply, openTables, stepReply, stepTables};
-ghost use Rattle.reader.specs.Ask.{shownArgument, askedEvent, askedPlace, argumentReply, partOf};
+ghost use Rattle.records.specs.Lookups.{argumentLookups};
+ghost use Rattle.effects.specs.Models.Bounds.{EffectFits};
+ghost use Rattle.reader.specs.Shown.{isBad, shownText, shownThread, shownReferent, shownStream, shownReport, noneBad};
+ghost use Rattle.reader.specs.Models.Bounds.{ThreadInside, ReferentInside};
+ghost use Rattle.reader.specs.Step.{openingNumber, stopping, plainAnswer, effectDecision, contentDecision, placeDecision, decisionOf, openReply, openTables, stepReply, stepTables};
+ghost use Rattle.reader.specs.Ask.{shownArgument, askedReport, askedPlace, argumentReply};
 use arguments::Argued;
 use arguments::Argument;
 use arguments::Scalar;
 use arguments::Texts;
 use arguments::Value;
-use contexts::Entered;
 use contexts::Provider;
 use contexts::State;
+use effects::Change;
 use format::Format;
+use format::Reference;
 use records::Content;
+use records::Effect;
 use records::Event;
+use records::Report;
 use tables::Resolved;
 
 // A text by its place and length in the archive, or its index where nothing is set for it.
@@ -35,18 +44,31 @@ pub enum ShownThread {
     Unresolved { index: usize },
 }
 
-// An event with the place by which its arguments are asked for; the extra word is 0 where its type has none.
-pub struct ShownEvent {
+// A stream that is no reference, by its place and length in the archive.
+pub struct ShownStream {
+    pub place: usize,
+    pub length: usize,
+}
+
+// What a record refers to, as it is shown.
+pub enum ShownReferent {
+    Text(ShownText),
+    Thread(ShownThread),
+}
+
+// A record that refers to texts and threads, with the place by which its arguments are asked for. An event's references
+// are its thread, category and name, its last word is the extra word, 0 where its type has none; it has no stream.
+pub struct ShownReport {
     pub place: usize,
     pub provider: Provider,
-    pub kind: u8,
-    pub timestamp: u64,
     pub rate: u64,
-    pub thread: ShownThread,
-    pub category: ShownText,
-    pub name: ShownText,
+    pub own: Event,
+    pub first: ShownReferent,
+    pub second: ShownReferent,
+    pub third: ShownReferent,
+    pub stream: ShownStream,
     pub count: usize,
-    pub extra: u64,
+    pub last: u64,
 }
 
 pub enum ShownValue {
@@ -82,9 +104,9 @@ pub enum Answer {
     Initialization {
         rate: u64,
     },
-    Event(ShownEvent),
+    Report(ShownReport),
     Skipped {
-        kind: u8,
+        record_type: u8,
         size: u64,
     },
 }
@@ -100,12 +122,7 @@ pub enum Asked {
     Argument(ShownArgument),
 }
 
-// What a step does to the tables.
-pub enum Change {
-    Keep,
-    Set { position: usize, entry: u32 },
-}
-
+// What a step does: its answer, the state to go on from, and what becomes of the tables.
 pub struct Decision {
     pub answer: Answer,
     pub state: State,
@@ -113,20 +130,11 @@ pub struct Decision {
 }
 
 // The number that archive and tables are refused by, or 0.
-fn door(f: Format, archive: &[u8], room: usize) -> u8
+fn opening_number(f: Format, archive: &[u8], room: usize) -> u8
     requires { ⌜ FormatFits f ⌝ }
-    ensures { λ r. ⌜ r ≡ doorOf f (now (archive .entry)) room ⌝ }
+    ensures { λ r. ⌜ r ≡ openingNumber f (now (archive .entry)) room ⌝ }
 {
-    if 16777216 < archive.len() {
-        return 2;
-    }
-    if words::starts_with_magic(archive) {
-        if room < tables::table_words(f) {
-            return 3;
-        }
-        return 0;
-    }
-    1
+    format::archive_number(archive, 3, tables::table_words(f), room)
 }
 
 fn is_bad(r: Resolved) -> bool
@@ -178,7 +186,7 @@ fn arguments_found(
     count: usize,
 ) -> bool
     requires { ⌜ FormatFits f × (length (now archive) < 2 ^ 62) × (tableWords f ≤ length (now tables)) × (context ≤ 8) × (place + length (now part) < 2 ^ 63) ⌝ }
-    ensures { λ r. ⌜ r ≡ argumentsFound f (now (archive .entry)) (now (tables .entry)) context limit count (now (part .entry)) place ⌝ }
+    ensures { λ r. ⌜ r ≡ noneBad f (now (archive .entry)) (now (tables .entry)) context limit (argumentLookups (argumentsRead f count (now (part .entry)) place)) ⌝ }
 {
     let mut rest = part;
     let mut at = place;
@@ -187,7 +195,7 @@ fn arguments_found(
         let texts = arguments::texts_of(f, rest, at);
         match texts {
             Texts::Refused(_) => {
-                return false;
+                return true;
             }
             Texts::Texts { name, value, size } => {
                 if is_bad(tables::resolve(f, archive, tables, context, 2, name, limit)) {
@@ -216,96 +224,153 @@ fn stop(s: State, number: u8, place: usize) -> Decision
     }
 }
 
-// A step that makes an id current and shows this, unless it is a ninth id.
-fn enter_as(s: State, entered: Entered, answer: Answer) -> Decision
-    ensures { λ r. ⌜ r ≡ enteringAs s entered answer ⌝ }
+// What a record refers to, as it is shown, by its table.
+fn shown_referent(archive: &[u8], table: u64, r: Resolved) -> ShownReferent
+    requires { ⌜ ReferentInside (length (now archive)) table r ⌝ }
+    ensures { λ t. ⌜ t ≡ shownReferent (now (archive .entry)) table r ⌝ }
 {
-    let ninth = entered.ninth;
-    if ninth {
-        return stop(s, 9, s.place);
+    if table == 3 {
+        return ShownReferent::Thread(shown_thread(archive, r));
     }
-    let state = entered.state;
-    Decision {
-        answer,
-        state,
-        change: Change::Keep,
+    ShownReferent::Text(shown_text(r))
+}
+
+// A stream that is no reference, as it is shown.
+fn shown_stream(stream: Reference) -> ShownStream
+    ensures { λ t. ⌜ t ≡ shownStream stream ⌝ }
+{
+    match stream {
+        Reference::Inline { place, length } => ShownStream { place, length },
+        Reference::Index(_) => ShownStream {
+            place: 0,
+            length: 0,
+        },
     }
 }
 
-// The event as it is shown.
-fn shown_event(
+// A record that refers to texts and threads, as it is shown.
+fn shown_report(
     archive: &[u8],
     s: State,
-    event: Event,
-    thread: Resolved,
-    category: Resolved,
-    name: Resolved,
-) -> ShownEvent
-    requires { ⌜ (s .current ≤ 8) × ThreadInside (length (now archive)) thread ⌝ }
-    ensures { λ r. ⌜ r ≡ shownEvent (now (archive .entry)) s event thread category name ⌝ }
+    report: Report,
+    a: Resolved,
+    b: Resolved,
+    c: Resolved,
+) -> ShownReport
+    requires { ⌜ (s .current ≤ 8) × ReferentInside (length (now archive)) (report .first .table) a × ReferentInside (length (now archive)) (report .second .table) b × ReferentInside (length (now archive)) (report .third .table) c ⌝ }
+    ensures { λ r. ⌜ r ≡ shownReport (now (archive .entry)) s report a b c ⌝ }
 {
-    ShownEvent {
+    let own = report.own;
+    let first = report.first;
+    let second = report.second;
+    let third = report.third;
+    let stream = report.stream;
+    ShownReport {
         place: s.place,
         provider: contexts::provider_of(s),
-        kind: event.kind,
-        timestamp: event.timestamp,
         rate: s.rate,
-        thread: shown_thread(archive, thread),
-        category: shown_text(category),
-        name: shown_text(name),
-        count: event.count,
-        extra: event.extra,
+        own,
+        first: shown_referent(archive, first.table, a),
+        second: shown_referent(archive, second.table, b),
+        third: shown_referent(archive, third.table, c),
+        stream: shown_stream(stream),
+        count: report.count,
+        last: report.last,
     }
 }
 
-// A step at an event that ends at `next`.
-fn decide_event(
+// A step at a record that refers to texts and threads and ends at `next`.
+fn decide_report(
     f: Format,
     archive: &[u8],
     tables: &[u32],
     s: State,
-    event: Event,
+    report: Report,
     next: usize,
 ) -> Decision
-    requires { ⌜ FormatFits f × (length (now archive) < 2 ^ 62) × (tableWords f ≤ length (now tables)) × (s .current ≤ 8) × (s .place ≤ length (now archive)) × (recordAt f (now archive) (s .place) ≡ record { content = Content.Event event; next = next }) ⌝ }
-    ensures { λ r. ⌜ r ≡ eventDecision f (now (archive .entry)) (now (tables .entry)) s event next ⌝ }
+    requires { ⌜ FormatFits f × (length (now archive) < 2 ^ 62) × (tableWords f ≤ length (now tables)) × (s .current ≤ 8) × (s .place ≤ length (now archive)) × (recordAt f (now archive) (s .place) ≡ record { content = Content.Report report; next = next }) ⌝ }
+    ensures { λ r. ⌜ r ≡ contentDecision f (now (archive .entry)) (now (tables .entry)) s (Content.Report report) next ⌝ }
 {
     let place = s.place;
     let context = s.current;
-    let thread = event.thread;
-    let category = event.category;
-    let name = event.name;
-    let t = tables::resolve(f, archive, tables, context, 3, thread, place);
-    let c = tables::resolve(f, archive, tables, context, 2, category, place);
-    let n = tables::resolve(f, archive, tables, context, 2, name, place);
-    if is_bad(t) {
+    let first = report.first;
+    let second = report.second;
+    let third = report.third;
+    let one = first.reference;
+    let two = second.reference;
+    let three = third.reference;
+    let a = tables::resolve(f, archive, tables, context, first.table, one, place);
+    let b = tables::resolve(f, archive, tables, context, second.table, two, place);
+    let c = tables::resolve(f, archive, tables, context, third.table, three, place);
+    if is_bad(a) {
+        return stop(s, 4, place);
+    }
+    if is_bad(b) {
         return stop(s, 4, place);
     }
     if is_bad(c) {
         return stop(s, 4, place);
     }
-    if is_bad(n) {
-        return stop(s, 4, place);
-    }
-    let first = event.arguments;
-    let count = event.count;
+    let from = report.arguments;
+    let count = report.count;
     if arguments_found(
         f,
         archive,
         tables,
         context,
         place,
-        &archive[first..next],
-        first,
+        &archive[from..next],
+        from,
         count,
     ) {
         return Decision {
-            answer: Answer::Event(shown_event(archive, s, event, t, c, n)),
+            answer: Answer::Report(shown_report(archive, s, report, a, b, c)),
             state: contexts::move_to(s, next),
             change: Change::Keep,
         };
     }
     stop(s, 4, place)
+}
+
+// What a record that refers to nothing is shown as.
+fn plain_answer(content: Content) -> Answer
+    ensures { λ r. ⌜ r ≡ plainAnswer content ⌝ }
+{
+    match content {
+        Content::Magic => Answer::Magic,
+        Content::ProviderInfo { id, place, length } => Answer::ProviderInfo { id, place, length },
+        Content::Section { id } => Answer::Section { id },
+        Content::ProviderEvent { id, event } => Answer::ProviderEvent { id, event },
+        Content::Initialization { rate } => Answer::Initialization { rate },
+        Content::Skipped { record_type, size } => Answer::Skipped { record_type, size },
+        Content::Report(_) => Answer::Nothing,
+        Content::Refused(_) => Answer::Nothing,
+        Content::String {
+            index: _,
+            place: _,
+            length: _,
+        } => Answer::Nothing,
+        Content::Thread { index: _, place: _ } => Answer::Nothing,
+        Content::Ignored => Answer::Nothing,
+    }
+}
+
+// A step at a record of this effect that ends at `next` and is shown as this.
+fn decide_effect(f: Format, s: State, effect: Effect, next: usize, answer: Answer) -> Decision
+    requires { ⌜ FormatFits f × (s .count ≤ 8) × (s .current ≤ 8) × (s .place < 2 ^ 32) × EffectFits f effect ⌝ }
+    ensures { λ r. ⌜ r ≡ effectDecision f s effect next answer ⌝ }
+{
+    let followed = effects::follow(s, effect, next);
+    let number = followed.number;
+    if number != 0 {
+        return stop(s, number, s.place);
+    }
+    let state = followed.state;
+    Decision {
+        answer,
+        state,
+        change: effects::change_of(f, s, effect),
+    }
 }
 
 // A step at a record that ends at `next` and in which this was read.
@@ -321,62 +386,14 @@ fn decide_content(
     ensures { λ r. ⌜ r ≡ contentDecision f (now (archive .entry)) (now (tables .entry)) s content next ⌝ }
 {
     match content {
-        Content::Refused(number) => stop(s, number, s.place),
-        Content::Magic => Decision {
-            answer: Answer::Magic,
-            state: contexts::move_to(s, next),
-            change: Change::Keep,
-        },
-        Content::ProviderInfo { id, place, length } => enter_as(
+        Content::Report(report) => decide_report(f, archive, tables, s, report, next),
+        _ => decide_effect(
+            f,
             s,
-            contexts::enter(s, id, next),
-            Answer::ProviderInfo { id, place, length },
+            records::effect_of(content),
+            next,
+            plain_answer(content),
         ),
-        Content::Section { id } => {
-            enter_as(s, contexts::enter(s, id, next), Answer::Section { id })
-        }
-        Content::ProviderEvent { id, event } => Decision {
-            answer: Answer::ProviderEvent { id, event },
-            state: contexts::move_to(s, next),
-            change: Change::Keep,
-        },
-        Content::Initialization { rate } => Decision {
-            answer: Answer::Initialization { rate },
-            state: contexts::set_rate(s, rate, next),
-            change: Change::Keep,
-        },
-        Content::String {
-            index,
-            place: _,
-            length: _,
-        } => register(f, s, 2, index, next),
-        Content::Thread { index, place: _ } => register(f, s, 3, index, next),
-        Content::Event(event) => decide_event(f, archive, tables, s, event, next),
-        Content::Ignored => Decision {
-            answer: Answer::Nothing,
-            state: contexts::move_to(s, next),
-            change: Change::Keep,
-        },
-        Content::Skipped { kind, size } => Decision {
-            answer: Answer::Skipped { kind, size },
-            state: contexts::move_to(s, next),
-            change: Change::Keep,
-        },
-    }
-}
-
-// A step at a string or thread record.
-fn register(f: Format, s: State, kind: u64, index: usize, next: usize) -> Decision
-    requires { ⌜ FormatFits f × (s .current ≤ 8) × (s .place < 2 ^ 32) × (index ≤ highestOf f kind) ⌝ }
-    ensures { λ r. ⌜ r ≡ registering f s kind index next ⌝ }
-{
-    Decision {
-        answer: Answer::Nothing,
-        state: contexts::move_to(s, next),
-        change: Change::Set {
-            position: tables::position_of(f, s.current, kind, index),
-            entry: s.place as u32,
-        },
     }
 }
 
@@ -399,7 +416,7 @@ fn decide(f: Format, archive: &[u8], tables: &[u32], s: State) -> Decision
     requires { ⌜ FormatFits f ⌝ }
     ensures { λ r. ⌜ r ≡ decisionOf f (now (archive .entry)) (now (tables .entry)) s ⌝ }
 {
-    let number = door(f, archive, tables.len());
+    let number = opening_number(f, archive, tables.len());
     if number != 0 {
         return stop(s, number, 0);
     }
@@ -409,20 +426,6 @@ fn decide(f: Format, archive: &[u8], tables: &[u32], s: State) -> Decision
     stop(s, 4, s.place)
 }
 
-// The tables are changed.
-fn apply(tables: &mut [u32], change: Change)
-    ensures { λ _. ⌜ now (tables .exit) ≡ changed (now (tables .entry)) change ⌝ }
-{
-    match change {
-        Change::Keep => {}
-        Change::Set { position, entry } => {
-            if position < tables.len() {
-                tables[position] = entry;
-            }
-        }
-    }
-}
-
 // Opens an archive: the tables are cleared, and the state stands at its start.
 pub fn open(archive: &[u8], tables: &mut [u32]) -> Reply
     ensures { λ r. ⌜ r ≡ openReply smallFormat (now (archive .entry)) (length (now (tables .entry))) ⌝ }
@@ -430,7 +433,7 @@ pub fn open(archive: &[u8], tables: &mut [u32]) -> Reply
 {
     let f = format::small_format();
     let state = contexts::opening_state();
-    let number = door(f, archive, tables.len());
+    let number = opening_number(f, archive, tables.len());
     if number != 0 {
         return Reply {
             answer: Answer::End { number, place: 0 },
@@ -453,7 +456,7 @@ pub fn step(archive: &[u8], state: State, tables: &mut [u32]) -> Reply
     let change = decision.change;
     let answer = decision.answer;
     let next = decision.state;
-    apply(tables, change);
+    effects::apply(tables, change);
     Reply {
         answer,
         state: next,
@@ -491,21 +494,21 @@ fn show_argument(f: Format, archive: &[u8], tables: &[u32], s: State, argument: 
     }
 }
 
-// The argument of this number of an event that ends at the state's place.
-fn ask_event(
+// The argument of this number of a record that ends at the state's place.
+fn ask_report(
     f: Format,
     archive: &[u8],
     tables: &[u32],
     s: State,
-    event: Event,
+    report: Report,
     number: usize,
 ) -> Asked
-    requires { ⌜ FormatFits f × (length (now archive) < 2 ^ 62) × (tableWords f ≤ length (now tables)) × (s .current ≤ 8) × (s .place ≤ length (now archive)) × (event .arguments ≤ s .place) ⌝ }
-    ensures { λ r. ⌜ r ≡ askedEvent f (now (archive .entry)) (now (tables .entry)) s event number ⌝ }
+    requires { ⌜ FormatFits f × (length (now archive) < 2 ^ 62) × (tableWords f ≤ length (now tables)) × (s .current ≤ 8) × (s .place ≤ length (now archive)) × (report .arguments ≤ s .place) ⌝ }
+    ensures { λ r. ⌜ r ≡ askedReport f (now (archive .entry)) (now (tables .entry)) s report number ⌝ }
 {
     let place = s.place;
-    let first = event.arguments;
-    if event.count <= number {
+    let first = report.arguments;
+    if report.count <= number {
         return Asked::Refused { number: 4, place };
     }
     let argued = arguments::numbered(f, &archive[first..place], first, number);
@@ -530,25 +533,8 @@ fn ask_place(f: Format, archive: &[u8], tables: &[u32], s: State, at: usize, num
         return Asked::Refused { number: 4, place };
     }
     match content {
-        Content::Event(event) => ask_event(f, archive, tables, s, event, number),
-        Content::Refused(_) => Asked::Refused { number: 4, place },
-        Content::Magic => Asked::Refused { number: 4, place },
-        Content::ProviderInfo {
-            id: _,
-            place: _,
-            length: _,
-        } => Asked::Refused { number: 4, place },
-        Content::Section { id: _ } => Asked::Refused { number: 4, place },
-        Content::ProviderEvent { id: _, event: _ } => Asked::Refused { number: 4, place },
-        Content::Initialization { rate: _ } => Asked::Refused { number: 4, place },
-        Content::String {
-            index: _,
-            place: _,
-            length: _,
-        } => Asked::Refused { number: 4, place },
-        Content::Thread { index: _, place: _ } => Asked::Refused { number: 4, place },
-        Content::Ignored => Asked::Refused { number: 4, place },
-        Content::Skipped { kind: _, size: _ } => Asked::Refused { number: 4, place },
+        Content::Report(report) => ask_report(f, archive, tables, s, report, number),
+        _ => Asked::Refused { number: 4, place },
     }
 }
 
@@ -557,7 +543,7 @@ pub fn argument(archive: &[u8], state: State, tables: &[u32], event: usize, numb
     ensures { λ r. ⌜ r ≡ argumentReply smallFormat (now (archive .entry)) (now (tables .entry)) state event number ⌝ }
 {
     let f = format::small_format();
-    let refused = door(f, archive, tables.len());
+    let refused = opening_number(f, archive, tables.len());
     if refused != 0 {
         return Asked::Refused {
             number: refused,
@@ -577,11 +563,5 @@ pub fn argument(archive: &[u8], state: State, tables: &[u32], event: usize, numb
 pub fn text(archive: &[u8], place: usize, length: usize) -> &[u8]
     ensures { λ r. ⌜ now r ≡ partOf (now (archive .entry)) place length ⌝ }
 {
-    if place <= archive.len() {
-        if length <= archive.len() - place {
-            return &archive[place..place + length];
-        }
-        return &archive[0..0];
-    }
-    &archive[0..0]
+    words::part(archive, place, length)
 }

@@ -1,37 +1,208 @@
--- Laws of what stands in a record: where it stands, what it costs, and which bytes it depends on. Assumes nothing.
-use Prim.Native.Nat.{ℕ, _+_, _-_, _*_, _%_, _≤_}
+-- Laws of what stands in a record: which content stands for which header, where it stands, what it costs, and which bytes it depends on.
+-- Assumes nothing.
+use Prim.Native.Nat.{ℕ, _+_, _-_, _*_, _%_, _<_, _≤_}
 use mathlib.Core.Path.{_≡_, refl, sym, ap, _∙_}
-use mathlib.Core.List.{List, [], _∷_, _++_}
+use mathlib.Core.List.{[], List, _∷_, _++_}
 use mathlib.Core.Logic.{_⊎_, inl, inr}
+use mathlib.Core.Bool.{true}
 use native.Mathlib.Omega.{arith}
-use borrow.Author.Tests.{ltb-false, le-ltb, ne-eqb}
+use borrow.Author.Tests.{ltb-false, le-ltb, ne-eqb, eqb-true, eqb-false}
 use lib.Dec.{eqb, ltb}
 use lib.ListN.{length, take, drop, length-take, length-drop}
 use lib.Seq.{length-take-le, take-append-le}
 use Rattle.words.specs.Word.{wordAt, field}
 use Rattle.words.specs.Stream.{streamWords, startsWithMagic}
 use Rattle.words.proofs.Words.{wordAt-take}
+use Rattle.words.proofs.Tests.{on-pick, cases}
 use Rattle.format.specs.declared.Format.{Format}
 use Rattle.format.specs.declared.Reference.{Reference}
+use Rattle.format.specs.declared.Part.the-variants.{Words as words, Stream as stream}
 use Rattle.format.specs.declared.Extent.{Extent}
 use Rattle.format.specs.declared.Extent.the-variants.{Refused as ExtentRefused, Bytes}
 use Rattle.format.specs.Header.{recordWords, extentOf}
-use Rattle.format.specs.Part.{words, stream, takeWords, takeStream, takePart, takeParts, onBody, inlineBytes}
+use Rattle.format.specs.Part.{takeWords, takeStream, takePart, takeParts, onBody, inlineBytes}
 use Rattle.format.proofs.Headers.{Whole, extent-read}
-use Rattle.format.proofs.Parts.{on-pick}
+use Rattle.format.proofs.Parts.{inside-wider}
 use Rattle.arguments.specs.declared.Argument.{Argument}
-use Rattle.arguments.specs.Argument.{Arguments, refused, arguments, argumentsOf, walked}
-use Rattle.arguments.proofs.Arguments.{cases, argumentsBytes, ArgumentsFit, arguments-fit}
+use Rattle.arguments.specs.Argument.{Arguments, refused as argumentsRefused, arguments, argumentsOf, walked}
+use Rattle.arguments.proofs.Arguments.{argumentsBytes, ArgumentsFit, arguments-fit}
+use Rattle.records.specs.declared.Layout.{Layout}
 use Rattle.records.specs.declared.Fields.{Fields}
 use Rattle.records.specs.declared.Fields.the-variants.{Refused as FieldsRefused, Fields as FieldsRead}
-use Rattle.records.specs.declared.Extra.{Extra}
-use Rattle.records.specs.declared.Extra.the-variants.{Refused as ExtraRefused, Word}
+use Rattle.records.specs.declared.Last.{Last}
+use Rattle.records.specs.declared.Last.the-variants.{Refused as LastRefused, Word}
 use Rattle.records.specs.declared.Content.{Content}
-use Rattle.records.specs.declared.Content.the-variants.{Refused, Magic, ProviderInfo, Section, ProviderEvent, Initialization, String, Thread, Event as EventRead, Ignored, Skipped}
+use Rattle.records.specs.declared.Content.the-variants.{Refused, Magic, ProviderInfo, Section, ProviderEvent, Initialization, String, Thread, Report as ReportRead, Ignored, Skipped}
 use Rattle.records.specs.declared.Record.{Record}
-use Rattle.records.specs.Record.{hasExtra, extraBytes, eventFields, onFields, onWalked, onExtra, eventExtra, eventOf, eventArguments, providerInfoOf, metadataOf, initializationOf, stringOf, threadOf, contentOf, recordOf, recordAt}
-use Rattle.records.specs.Loss.{ContentInside}
-use Rattle.records.proofs.Events.{Stand, FieldsStand, fields-stand}
+use Rattle.records.specs.Layout.{isReport, layoutOf, takeFields, lastWord, onFields, onWalked, onLast, reportRead, reportOf}
+use Rattle.records.specs.Models.Layouts.{reportArguments}
+use Rattle.records.specs.Record.{providerInfoOf, metadataOf, initializationOf, stringOf, threadOf, contentOf, recordOf, recordAt}
+use Rattle.records.specs.Models.Bounds.{ContentInside}
+use Rattle.records.proofs.Passes.{RecordNumber, ArgumentsPass, arguments-pass, Shape, FieldsPass, fields-pass}
+use Rattle.records.proofs.Layouts.{Stand, fields-stand, FieldsStand}
+
+-- ---- which content stands for which header
+
+-- a record that refers to texts and threads: the steps by which it was read, and where its parts stand
+pub record ReportIs (f : Format) (source : List ℕ) (place : ℕ) (a b c s : Reference) (first at last : ℕ) (list : List Argument) : Type 0 where
+  pub kind : isReport (wordAt source 0) ≡ true
+  pub fields : takeFields f (layoutOf (wordAt source 0)) (place + 8) (place + length source) ≡ FieldsRead a b c s first
+  pub shapes : Shape (layoutOf (wordAt source 0) .first) a × Shape (layoutOf (wordAt source 0) .second) b × Shape (layoutOf (wordAt source 0) .third) c
+  pub stand : Stand (layoutOf (wordAt source 0)) (place + 8) (place + length source) a b c s first
+  pub read : argumentsOf f (layoutOf (wordAt source 0) .count) (drop (first - place) source) first ≡ arguments list at
+  pub fit : ArgumentsFit (layoutOf (wordAt source 0) .count) (drop (first - place) source) first (arguments list at)
+  pub last-is : lastWord source place at (layoutOf (wordAt source 0) .behind) ≡ Word last
+  pub room : at + 8 * layoutOf (wordAt source 0) .behind ≤ place + length source
+
+-- the contents that a record can have, each with the tests that lead to it
+pub data ContentIs (f : Format) (source : List ℕ) (place : ℕ) : Content → Type 0 where
+  refused : (number : ℕ) → RecordNumber number → ContentIs f source place (Refused number)
+  magic : startsWithMagic source ≡ true → ContentIs f source place Magic
+  providerInfo : field 0 3 (wordAt source 0) ≡ 0 → field 16 19 (wordAt source 0) ≡ 1 → field 52 59 (wordAt source 0) ≤ f .longest
+      → 8 + 8 * streamWords (field 52 59 (wordAt source 0)) ≤ length source
+      → ContentIs f source place (ProviderInfo (field 20 51 (wordAt source 0)) (place + 8) (field 52 59 (wordAt source 0)))
+  section : field 0 3 (wordAt source 0) ≡ 0 → field 16 19 (wordAt source 0) ≡ 2
+      → ContentIs f source place (Section (field 20 51 (wordAt source 0)))
+  providerEvent : field 0 3 (wordAt source 0) ≡ 0 → field 16 19 (wordAt source 0) ≡ 3
+      → ContentIs f source place (ProviderEvent (field 20 51 (wordAt source 0)) (field 52 55 (wordAt source 0)))
+  initialization : field 0 3 (wordAt source 0) ≡ 1 → 16 ≤ length source → ContentIs f source place (Initialization (wordAt source 8))
+  string : field 0 3 (wordAt source 0) ≡ 2 → 1 ≤ field 16 30 (wordAt source 0) → field 16 30 (wordAt source 0) ≤ f .highest
+      → field 32 46 (wordAt source 0) ≤ f .longest → 8 + 8 * streamWords (field 32 46 (wordAt source 0)) ≤ length source
+      → ContentIs f source place (String (field 16 30 (wordAt source 0)) (place + 8) (field 32 46 (wordAt source 0)))
+  thread : field 0 3 (wordAt source 0) ≡ 3 → 1 ≤ field 16 23 (wordAt source 0) → 24 ≤ length source
+      → ContentIs f source place (Thread (field 16 23 (wordAt source 0)) (place + 8))
+  report : (a b c s : Reference) (first at last : ℕ) (list : List Argument) → ReportIs f source place a b c s first at last list
+      → ContentIs f source place (ReportRead (reportRead (layoutOf (wordAt source 0)) source a b c s first last))
+  ignored : ContentIs f source place Ignored
+  skipped : (type : ℕ) → type < 16 → ContentIs f source place (Skipped type (recordWords (wordAt source 0)))
+
+-- a body of some words, or of a stream, fits between its two places or is refused
+on-words : (P : Content → Type 0) (f : Format) (n place end : ℕ) (a : Content) → ((number : ℕ) → RecordNumber number → P (Refused number))
+    → (place + 8 * n ≤ end → P a) → P (onBody (takeParts f (words n ∷ []) place end) Refused (λ references next. a))
+unfolding takeParts takePart takeWords
+on-words P f n place end a r g =
+    cases (ltb end (place + 8 * n)) (λ e. rw e (r _ (omega arith, omega arith))) (λ e. rw e (g (ltb-false end (place + 8 * n) e)))
+
+on-stream : (P : Content → Type 0) (f : Format) (n place end : ℕ) (c : Content) → ((number : ℕ) → RecordNumber number → P (Refused number))
+    → (n ≤ f .longest → place + 8 * streamWords n ≤ end → P c) → P (onBody (takeParts f (stream n ∷ []) place end) Refused (λ references next. c))
+unfolding takeParts takePart takeStream
+on-stream P f n place end c r g =
+    cases (ltb (f .longest) n) (λ e. rw e (r _ (omega arith, omega arith)))
+    (λ e. cases (ltb end (place + 8 * streamWords n)) (λ q. rw (e, q) (r _ (omega arith, omega arith)))
+    (λ q. rw (e, q) (g (ltb-false (f .longest) n e) (ltb-false end (place + 8 * streamWords n) q))))
+
+module _ (f : Format) (source : List ℕ) (place : ℕ) where
+  abbrev Is : Content → Type 0
+  Is = ContentIs f source place
+
+  metadata-is : field 0 3 (wordAt source 0) ≡ 0 → Is (metadataOf f source place)
+  unfolding metadataOf providerInfoOf
+  metadata-is t =
+      let h = wordAt source 0 in
+      on-pick Is (eqb (field 16 19 h) 1) _ _
+      (λ e. on-stream Is f (field 52 59 h) (place + 8) (place + length source) _ refused
+      (λ short room. providerInfo t (eqb-true (field 16 19 h) 1 e) short (omega (arith, room))))
+      (λ _. on-pick Is (eqb (field 16 19 h) 2) _ _ (λ e. section t (eqb-true (field 16 19 h) 2 e))
+      (λ _. on-pick Is (eqb (field 16 19 h) 3) _ _ (λ e. providerEvent t (eqb-true (field 16 19 h) 3 e))
+      (λ _. on-pick Is (eqb (field 16 23 h) 4) _ _
+      (λ _. on-pick Is (startsWithMagic source) _ _ (λ e. magic e) (λ _. refused _ (omega arith, omega arith)))
+      (λ _. skipped 0 (omega arith)))))
+
+  string-is : field 0 3 (wordAt source 0) ≡ 2 → Is (stringOf f (wordAt source 0) place (place + length source))
+  unfolding stringOf
+  string-is t =
+      let h = wordAt source 0 in
+      on-pick Is (eqb (field 16 30 h) 0) _ _ (λ _. ignored)
+      (λ some. on-pick Is (ltb (f .highest) (field 16 30 h)) _ _ (λ _. refused _ (omega arith, omega arith))
+      (λ low. on-stream Is f (field 32 46 h) (place + 8) (place + length source) _ refused
+      (λ short room. let is = eqb-false (field 16 30 h) 0 some in
+      string t (omega arith) (ltb-false (f .highest) (field 16 30 h) low) short (omega (arith, room)))))
+
+  thread-is : field 0 3 (wordAt source 0) ≡ 3 → Is (threadOf f (wordAt source 0) place (place + length source))
+  unfolding threadOf
+  thread-is t =
+      let h = wordAt source 0 in
+      on-pick Is (eqb (field 16 23 h) 0) _ _ (λ _. ignored)
+      (λ some. on-words Is f 2 (place + 8) (place + length source) _ refused
+      (λ room. let is = eqb-false (field 16 23 h) 0 some in thread t (omega arith) (omega (arith, room))))
+
+  initialization-is : field 0 3 (wordAt source 0) ≡ 1 → Is (initializationOf f source place)
+  unfolding initializationOf
+  initialization-is t =
+      on-words Is f 1 (place + 8) (place + length source) _ refused (λ room. initialization t (omega (arith, room)))
+
+  abbrev l : Layout
+  l = layoutOf (wordAt source 0)
+
+  abbrev LastIs : ℕ → Last → Type 0
+  LastIs at (LastRefused number) = RecordNumber number
+  LastIs at (Word last) = at + 8 * l .behind ≤ place + length source
+
+  last-room : (at : ℕ) → LastIs at (lastWord source place at (l .behind))
+  unfolding lastWord
+  last-room at =
+      on-pick (LastIs at) (ltb (place + length source) (at + 8 * l .behind)) _ _ (λ _. (omega arith, omega arith))
+      (λ e. on-pick (LastIs at) (eqb (l .behind) 0) _ _ (λ _. ltb-false (place + length source) (at + 8 * l .behind) e)
+      (λ _. ltb-false (place + length source) (at + 8 * l .behind) e))
+
+  report-read : isReport (wordAt source 0) ≡ true → 8 ≤ length source → Is (reportOf f source place)
+  unfolding reportOf
+  report-read k h = of-fields (takeFields f l (place + 8) end) refl (fields-stand f l (place + 8) end (omega arith)) (fields-pass f l (place + 8) end)
+    where
+      end : ℕ
+      end = place + length source
+
+      of-last : (a b c s : Reference) (first at : ℕ) (list : List Argument) → takeFields f l (place + 8) end ≡ FieldsRead a b c s first
+          → Stand l (place + 8) end a b c s first → Shape (l .first) a × Shape (l .second) b × Shape (l .third) c
+          → argumentsOf f (l .count) (drop (first - place) source) first ≡ arguments list at
+          → ArgumentsFit (l .count) (drop (first - place) source) first (arguments list at)
+          → (x : Last) → lastWord source place at (l .behind) ≡ x → LastIs at x
+          → Is (onLast x Refused (λ last. ReportRead (reportRead l source a b c s first last)))
+      of-last a b c s first at list e st sh q fit (LastRefused number) g r = refused number r
+      of-last a b c s first at list e st sh q fit (Word last) g r =
+          report a b c s first at last list (record { kind = k; fields = e; shapes = sh; stand = st; read = q; fit = fit; last-is = g; room = r })
+
+      of-arguments : (a b c s : Reference) (first : ℕ) → takeFields f l (place + 8) end ≡ FieldsRead a b c s first
+          → Stand l (place + 8) end a b c s first → Shape (l .first) a × Shape (l .second) b × Shape (l .third) c → ArgumentsPass (argumentsOf f (l .count) (drop (first - place) source) first)
+          → (q : Arguments) → argumentsOf f (l .count) (drop (first - place) source) first ≡ q
+          → ArgumentsFit (l .count) (drop (first - place) source) first q
+          → Is (onWalked (walked q) Refused
+          (λ at. onLast (lastWord source place at (l .behind)) Refused (λ last. ReportRead (reportRead l source a b c s first last))))
+      of-arguments a b c s first e st sh p (argumentsRefused number) g fit = refused number (rw g at p)
+      of-arguments a b c s first e st sh p (arguments list at) g fit =
+          of-last a b c s first at list e st sh g fit (lastWord source place at (l .behind)) refl (last-room at)
+
+      of-fields : (x : Fields) → takeFields f l (place + 8) end ≡ x → FieldsStand l (place + 8) end x → FieldsPass l x
+          → Is (onFields x Refused
+          (λ a b c s first. onWalked (walked (argumentsOf f (l .count) (drop (first - place) source) first)) Refused
+          (λ at. onLast (lastWord source place at (l .behind)) Refused (λ last. ReportRead (reportRead l source a b c s first last)))))
+      of-fields (FieldsRefused number) e st p = refused number p
+      of-fields (FieldsRead a b c s first) e st p =
+          of-arguments a b c s first e st p (arguments-pass f (l .count) (drop (first - place) source) first) (argumentsOf f (l .count) (drop (first - place) source) first) refl
+          (arguments-fit f (l .count) (drop (first - place) source) first)
+
+  -- every record has one of these contents
+  pub content-is : 8 ≤ length source → Is (contentOf f source place)
+  unfolding contentOf
+  content-is h =
+      let type = field 0 3 (wordAt source 0) in
+      on-pick Is (isReport (wordAt source 0)) _ _ (λ k. report-read k h)
+      (λ _. on-pick Is (eqb type 0) _ _ (λ e. metadata-is (eqb-true type 0 e))
+      (λ _. on-pick Is (eqb type 1) _ _ (λ e. initialization-is (eqb-true type 1 e))
+      (λ _. on-pick Is (eqb type 2) _ _ (λ e. string-is (eqb-true type 2 e))
+      (λ _. on-pick Is (eqb type 3) _ _ (λ e. thread-is (eqb-true type 3 e))
+      (λ _. skipped type (omega arith))))))
+
+-- a record of type 2 is a string record, one of type 3 a thread record
+pub content-string : (f : Format) (source : List ℕ) (place : ℕ) → field 0 3 (wordAt source 0) ≡ 2
+    → contentOf f source place ≡ stringOf f (wordAt source 0) place (place + length source)
+unfolding contentOf isReport
+content-string f source place e = rw e
+
+pub content-thread : (f : Format) (source : List ℕ) (place : ℕ) → field 0 3 (wordAt source 0) ≡ 3
+    → contentOf f source place ≡ threadOf f (wordAt source 0) place (place + length source)
+unfolding contentOf isReport
+content-thread f source place e = rw e
 
 -- ---- where the content of a record stands, and what it costs
 
@@ -45,9 +216,10 @@ contentBytes f source place (ProviderEvent id event) = 8
 contentBytes f source place (Initialization rate) = 16
 contentBytes f source place (String index at long) = 8 + 8 * streamWords long
 contentBytes f source place (Thread index at) = 24
-contentBytes f source place (EventRead e) =
-    16 + inlineBytes (e .thread) + inlineBytes (e .category) + inlineBytes (e .name)
-    + argumentsBytes (eventArguments f source place e) + extraBytes (e .kind)
+contentBytes f source place (ReportRead r) =
+    8 + 8 * layoutOf (wordAt source 0) .words + inlineBytes (r .first .reference) + inlineBytes (r .second .reference)
+    + inlineBytes (r .third .reference) + inlineBytes (r .stream) + argumentsBytes (reportArguments f source place r)
+    + 8 * layoutOf (wordAt source 0) .behind
 contentBytes f source place Ignored = 0
 contentBytes f source place (Skipped type size) = 0
 
@@ -55,171 +227,41 @@ contentBytes f source place (Skipped type size) = 0
 abbrev ContentStands : Format → List ℕ → ℕ → Content → Type 0
 ContentStands f source place c = ContentInside place (place + length source) c × (contentBytes f source place c ≤ length source)
 
--- a body of some words, or of a stream, fits between its two places or is refused
-on-words : {A : Type 0} (P : A → Type 0) (f : Format) (n place end : ℕ) (refuse : ℕ → A) (a : A) → ((number : ℕ) → P (refuse number))
-    → (place + 8 * n ≤ end → P a) → P (onBody (takeParts f (words n ∷ []) place end) refuse (λ references next. a))
-unfolding takeParts takePart takeWords
-on-words P f n place end refuse a r g =
-    cases (ltb end (place + 8 * n)) (λ e. rw e (r _)) (λ e. rw e (g (ltb-false end (place + 8 * n) e)))
-
-on-stream : (P : Content → Type 0) (f : Format) (n place end : ℕ) (c : Content) → ((number : ℕ) → P (Refused number))
-    → (place + 8 * streamWords n ≤ end → P c) → P (onBody (takeParts f (stream n ∷ []) place end) Refused (λ references next. c))
-unfolding takeParts takePart takeStream
-on-stream P f n place end c r g =
-    cases (ltb (f .longest) n) (λ e. rw e (r _))
-    (λ e. cases (ltb end (place + 8 * streamWords n)) (λ q. rw (e, q) (r _)) (λ q. rw (e, q) (g (ltb-false end (place + 8 * streamWords n) q))))
-
--- the extra word of an event fits behind its arguments
-abbrev ExtraFits : ℕ → ℕ → ℕ → Extra → Type 0
-ExtraFits type at end (ExtraRefused number) = Unit {0}
-ExtraFits type at end (Word extra) = at + extraBytes type ≤ end
-
-extra-fits : (f : Format) (header : ℕ) (source : List ℕ) (place at : ℕ) → at ≤ place + length source
-    → ExtraFits (field 16 19 header) at (place + length source) (eventExtra f header source place at)
-unfolding eventExtra extraBytes takeParts
-extra-fits f header source place at h =
-    cases (hasExtra (field 16 19 header))
-    (λ e. rw e
-    (on-words (ExtraFits (field 16 19 header) at end) f 1 at end ExtraRefused (Word (wordAt source (at - place))) (λ number. tt)
-    (λ l. rw e l)))
-    (λ e. rw (e, e) (omega arith))
-  where
-    end : ℕ
-    end = place + length source
-
-provider-info-stands : (f : Format) (source : List ℕ) (place header : ℕ) → 8 ≤ length source
-    → ContentStands f source place (providerInfoOf f header place (place + length source))
-unfolding providerInfoOf
-provider-info-stands f source place header h =
-    on-stream (ContentStands f source place) f (field 52 59 header) (place + 8) (place + length source)
-    (ProviderInfo (field 20 51 header) (place + 8) (field 52 59 header)) (λ number. (tt, omega arith))
-    (λ l. ((omega arith, l), omega arith))
-
-metadata-stands : (f : Format) (source : List ℕ) (place : ℕ) → 8 ≤ length source
-    → ContentStands f source place (metadataOf f source place)
-unfolding metadataOf
-metadata-stands f source place h =
-    on-pick P (eqb (field 16 19 header) 1) _ _ (λ e. provider-info-stands f source place header h)
-    (λ e. on-pick P (eqb (field 16 19 header) 2) _ _ (λ e. (tt, h))
-    (λ e. on-pick P (eqb (field 16 19 header) 3) _ _ (λ e. (tt, h))
-    (λ e. on-pick P (eqb (field 16 23 header) 4) _ _
-    (λ e. on-pick P (startsWithMagic source) _ _ (λ e. (tt, h)) (λ e. (tt, omega arith)))
-    (λ e. (tt, omega arith)))))
-  where
-    header : ℕ
-    header = wordAt source 0
-
-    P : Content → Type 0
-    P = ContentStands f source place
-
-initialization-stands : (f : Format) (source : List ℕ) (place : ℕ) → ContentStands f source place (initializationOf f source place)
-unfolding initializationOf
-initialization-stands f source place =
-    on-words (ContentStands f source place) f 1 (place + 8) (place + length source) Refused (Initialization (wordAt source 8))
-    (λ number. (tt, omega arith)) (λ l. (tt, omega arith))
-
-string-stands : (f : Format) (source : List ℕ) (place header : ℕ)
-    → ContentStands f source place (stringOf f header place (place + length source))
-unfolding stringOf
-string-stands f source place header =
-    on-pick P (eqb (field 16 30 header) 0) _ _ (λ e. (tt, omega arith))
-    (λ e. on-pick P (ltb (f .highest) (field 16 30 header)) _ _ (λ e. (tt, omega arith))
-    (λ e. on-stream P f (field 32 46 header) (place + 8) (place + length source) (String (field 16 30 header) (place + 8) (field 32 46 header))
-    (λ number. (tt, omega arith)) (λ l. ((omega arith, l), omega arith))))
-  where
-    P : Content → Type 0
-    P = ContentStands f source place
-
-thread-stands : (f : Format) (source : List ℕ) (place header : ℕ)
-    → ContentStands f source place (threadOf f header place (place + length source))
-unfolding threadOf
-thread-stands f source place header =
-    on-pick P (eqb (field 16 23 header) 0) _ _ (λ e. (tt, omega arith))
-    (λ e. on-words P f 2 (place + 8) (place + length source) Refused (Thread (field 16 23 header) (place + 8))
-    (λ number. (tt, omega arith)) (λ l. ((omega arith, omega arith), omega arith)))
-  where
-    P : Content → Type 0
-    P = ContentStands f source place
-
-event-stands : (f : Format) (source : List ℕ) (place : ℕ) → ContentStands f source place (eventOf f source place)
-unfolding eventOf
-event-stands f source place = of-fields (eventFields f header place end) (fields-stand f header place end)
-  where
-    header : ℕ
-    header = wordAt source 0
-
-    end : ℕ
-    end = place + length source
-
-    event : (t c n : Reference) (first extra : ℕ) → Content
-    event t c n first extra =
-        EventRead (record {
-          kind = field 16 19 header;
-          timestamp = wordAt source 8;
-          thread = t;
-          category = c;
-          name = n;
-          count = field 20 23 header;
-          arguments = first;
-          extra = extra;
-        })
-
-    read : ℕ → Arguments
-    read first = argumentsOf f (field 20 23 header) (drop (first - place) source) first
-
-    of-extra : (t c n : Reference) (first last : ℕ) (l : List Argument) → Stand place end t c n first → read first ≡ arguments l last
-        → ArgumentsFit (field 20 23 header) (drop (first - place) source) first (arguments l last) → (x : Extra)
-        → ExtraFits (field 16 19 header) last end x → ContentStands f source place (onExtra x Refused (event t c n first))
-    of-extra t c n first last l s e a (ExtraRefused number) k = (tt, omega arith)
-    of-extra t c n first last l s e a (Word extra) k = (
-      record { thread = s .in-thread; category = s .in-category; name = s .in-name; behind = omega (arith, s .starts); before = s .ends },
-      rw e (omega (arith, s .starts, a .1, k)),
+is-stands : (f : Format) (source : List ℕ) (place : ℕ) → 8 ≤ length source → (c : Content) → ContentIs f source place c
+    → ContentStands f source place c
+is-stands f source place h _ (refused number n) = (tt, omega arith)
+is-stands f source place h _ (magic e) = (tt, h)
+is-stands f source place h _ (providerInfo t k short room) = ((omega arith, omega (arith, room)), room)
+is-stands f source place h _ (section t k) = (tt, h)
+is-stands f source place h _ (providerEvent t k) = (tt, h)
+is-stands f source place h _ (initialization t room) = (tt, room)
+is-stands f source place h _ (string t some low short room) = ((omega arith, omega (arith, room)), room)
+is-stands f source place h _ (thread t some room) = ((omega arith, omega (arith, room)), room)
+is-stands f source place h _ (report a b c s first at last list is) =
+    let st = is .stand in
+    let end = place + length source in (
+      record {
+        first = inside-wider place end a (omega arith) (omega arith) (st .in-first);
+        second = inside-wider place end b (omega arith) (omega arith) (st .in-second);
+        third = inside-wider place end c (omega arith) (omega arith) (st .in-third);
+        stream = inside-wider place end s (omega arith) (omega arith) (st .in-stream);
+        behind = omega (arith, st .starts);
+        before = st .ends;
+      },
+      rw (is .read) (omega (arith, st .starts, is .fit .1, is .room)),
     )
-
-    of-arguments : (t c n : Reference) (first : ℕ) → Stand place end t c n first → (q : Arguments) → read first ≡ q
-        → ArgumentsFit (field 20 23 header) (drop (first - place) source) first q
-        → ContentStands f source place
-        (onWalked (walked q) Refused (λ last. onExtra (eventExtra f header source place last) Refused (event t c n first)))
-    of-arguments t c n first s (refused number) e a = (tt, omega arith)
-    of-arguments t c n first s (arguments l last) e a =
-        of-extra t c n first last l s e a (eventExtra f header source place last)
-        (extra-fits f header source place last (omega (arith, s .starts, s .ends, a .2, length-drop (first - place) source)))
-
-    of-fields : (x : Fields) → FieldsStand place end x
-        → ContentStands f source place
-        (onFields x Refused
-        (λ t c n first. onWalked (walked (read first)) Refused
-        (λ last. onExtra (eventExtra f header source place last) Refused (event t c n first))))
-    of-fields (FieldsRefused number) s = (tt, omega arith)
-    of-fields (FieldsRead t c n first) s =
-        of-arguments t c n first s (read first) refl (arguments-fit f (field 20 23 header) (drop (first - place) source) first)
-
-content-stands : (f : Format) (source : List ℕ) (place : ℕ) → 8 ≤ length source → ContentStands f source place (contentOf f source place)
-unfolding contentOf
-content-stands f source place h =
-    on-pick P (eqb (field 0 3 header) 0) _ _ (λ e. metadata-stands f source place h)
-    (λ e. on-pick P (eqb (field 0 3 header) 1) _ _ (λ e. initialization-stands f source place)
-    (λ e. on-pick P (eqb (field 0 3 header) 2) _ _ (λ e. string-stands f source place header)
-    (λ e. on-pick P (eqb (field 0 3 header) 3) _ _ (λ e. thread-stands f source place header)
-    (λ e. on-pick P (eqb (field 0 3 header) 4) _ _
-    (λ e. on-pick P (ltb 10 (field 16 19 header)) _ _ (λ e. (tt, omega arith)) (λ e. event-stands f source place))
-    (λ e. (tt, omega arith))))))
-  where
-    header : ℕ
-    header = wordAt source 0
-
-    P : Content → Type 0
-    P = ContentStands f source place
+is-stands f source place h _ ignored = (tt, omega arith)
+is-stands f source place h _ (skipped type small) = (tt, omega arith)
 
 -- the places that a record shows stand inside it
 pub content-inside : (f : Format) (source : List ℕ) (place : ℕ) → 8 ≤ length source
     → ContentInside place (place + length source) (contentOf f source place)
-content-inside f source place h = content-stands f source place h .0
+content-inside f source place h = is-stands f source place h (contentOf f source place) (content-is f source place h) .0
 
 -- a record has the bytes that its content needs
 pub content-pays : (f : Format) (source : List ℕ) (place : ℕ) → 8 ≤ length source
     → contentBytes f source place (contentOf f source place) ≤ length source
-content-pays f source place h = content-stands f source place h .1
+content-pays f source place h = is-stands f source place h (contentOf f source place) (content-is f source place h) .1
 
 -- ---- the record at a place
 

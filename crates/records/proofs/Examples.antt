@@ -1,7 +1,7 @@
 -- Document 01's nine words, read record by record: computed of the definitions. Assumes nothing.
 use Prim.Native.Nat.{ℕ}
 use mathlib.Core.Path.{_≡_, refl}
-use mathlib.Core.List.{List, [], _∷_, _++_}
+use mathlib.Core.List.{[], List, _∷_, _++_}
 use mathlib.Core.Bool.{true}
 use lib.ListN.{drop}
 use Rattle.words.specs.Word.{wordAt, little, bytesOf}
@@ -9,15 +9,17 @@ use Rattle.words.specs.Stream.{magic, startsWithMagic}
 use Rattle.format.specs.declared.Reference.the-variants.{Inline, Index}
 use Rattle.format.specs.Limits.{smallFormat}
 use Rattle.format.specs.Header.{recordWords, extentOf}
-use Rattle.format.specs.Part.{takeWords, takeStream, takeText, takeThread, takePart, takeParts, paddingZero}
+use Rattle.format.specs.Part.{takeWords, takeStream, takeText, takeThread, takePart, takeParts, paddingZero, tableOf}
 use Rattle.arguments.specs.declared.Scalar.the-variants.{Unsigned32}
 use Rattle.arguments.specs.declared.Value.the-variants.{Scalar}
 use Rattle.arguments.specs.Argument.{headerScalar, holdsWord, wordScalar, argumentBody, argumentOf, argumentsOf}
 use Rattle.arguments.specs.Loss.{valueBytes, reservedBits, valuePaddingZero, argumentKeeps, argumentsKeep}
-use Rattle.records.specs.declared.Event.{Event}
-use Rattle.records.specs.declared.Content.the-variants.{Magic, String, Event as EventRead}
-use Rattle.records.specs.Record.{hasExtra, extraBytes, eventFields, eventExtra, eventOf, providerInfoOf, metadataOf, initializationOf, stringOf, threadOf, contentOf, recordOf, recordAt, eventArguments}
-use Rattle.records.specs.Loss.{wordsKeep, streamKeeps, eventKeeps, recordKeeps}
+use Rattle.records.specs.declared.Report.{Report}
+use Rattle.records.specs.declared.Content.the-variants.{Magic, String, Report as ReportRead}
+use Rattle.records.specs.Layout.{hasExtra, extraWords, isReport, layoutOf, ownOf, takeFields, lastWord, reportOf}
+use Rattle.records.specs.Models.Layouts.{reportArguments}
+use Rattle.records.specs.Record.{providerInfoOf, metadataOf, initializationOf, stringOf, threadOf, contentOf, recordOf, recordAt}
+use Rattle.records.specs.Loss.{wordsKeep, streamKeeps, reportKeeps, recordKeeps}
 
 -- the words of an archive, one after another
 abbrev archiveOf : List ℕ → List ℕ
@@ -29,19 +31,31 @@ abbrev nine : List ℕ
 nine =
     archiveOf (0x0016547846040010 ∷ 0x0000000600010022 ∷ 0x0000656772616863 ∷ 0x8003000100100064 ∷ 100 ∷ 7 ∷ 8 ∷ 0x00000000006E7573 ∷ 0x0000002A00010012 ∷ [])
 
-abbrev nineEvent : Event
+abbrev nineEvent : Report
 nineEvent =
-    record { kind = 0; timestamp = 100; thread = Inline 40 16; category = Index 1; name = Inline 56 3; count = 1; arguments = 64; extra = 0 }
+    record {
+      own = record { variant = 0; timestamp = 100 };
+      first = record { table = 3; reference = Inline 40 16 };
+      second = record { table = 2; reference = Index 1 };
+      third = record { table = 2; reference = Inline 56 3 };
+      stream = Inline 64 0;
+      count = 1;
+      arguments = 64;
+      last = 0;
+    }
 
 pub record Table : Type 0 where
   pub nine-magic : recordAt smallFormat nine 0 ≡ record { content = Magic; next = 8 }
   pub nine-string : recordAt smallFormat nine 8 ≡ record { content = String 1 16 6; next = 24 }
-  pub nine-event : recordAt smallFormat nine 24 ≡ record { content = EventRead nineEvent; next = 72 }
-  pub nine-arguments : eventArguments smallFormat (drop 24 nine) 24 nineEvent ≡ record { name = Index 1; value = Scalar (Unsigned32 42) } ∷ []
-  pub nine-keeps : recordKeeps smallFormat (drop 24 nine) 24 (EventRead nineEvent) ≡ true
+  pub nine-event : recordAt smallFormat nine 24 ≡ record { content = ReportRead nineEvent; next = 72 }
+  pub nine-arguments : reportArguments smallFormat (drop 24 nine) 24 nineEvent ≡ record { name = Index 1; value = Scalar (Unsigned32 42) } ∷ []
+  pub nine-keeps : recordKeeps smallFormat (drop 24 nine) 24 (ReportRead nineEvent) ≡ true
 
 pub table : Table
-unfolding little wordAt bytesOf magic startsWithMagic recordWords extentOf takeWords takeStream takeText takeThread takePart takeParts paddingZero headerScalar holdsWord wordScalar argumentBody argumentOf argumentsOf valueBytes reservedBits valuePaddingZero argumentKeeps argumentsKeep hasExtra extraBytes eventFields eventExtra eventOf providerInfoOf metadataOf initializationOf stringOf threadOf contentOf recordOf wordsKeep streamKeeps eventKeeps recordKeeps
+unfolding little wordAt bytesOf magic startsWithMagic recordWords extentOf takeWords takeStream takeText takeThread takePart takeParts paddingZero
+    headerScalar holdsWord wordScalar argumentBody argumentOf argumentsOf valueBytes reservedBits valuePaddingZero argumentKeeps argumentsKeep
+    hasExtra extraWords isReport layoutOf ownOf tableOf takeFields lastWord reportOf providerInfoOf metadataOf initializationOf stringOf threadOf
+    contentOf recordOf wordsKeep streamKeeps reportKeeps recordKeeps
 table =
     record {
       nine-magic = refl;

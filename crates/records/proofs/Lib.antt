@@ -1,8 +1,6 @@
-pub mod Events
-pub mod Examples
-pub mod WrittenParts
-pub mod WrittenRecords
-pub mod WrittenArguments
-pub mod WrittenEvents
+pub mod Passes
+pub mod Layouts
 pub mod Contents
-pub mod WrittenKeeps
+pub mod Bounds
+pub mod Lookups
+pub mod Examples

@@ -1,14 +1,16 @@
 -- The items that an archive is read as, after "The list of items" of document 01: texts as bytes, threads as two words, no places.
--- With each item its uses of texts and threads, and the words that it takes without them.
-use Prim.Native.Nat.{ℕ, _+_}
-use mathlib.Core.List.{List, [], _∷_, _++_}
-use mathlib.Core.Option.{Option}
-use lib.ListN.{length}
-use Rattle.words.specs.Word.{pick}
+-- How each item's record is laid out; from that its uses of texts and threads, the words that it takes without them, and whether it is unresolved.
+use Prim.Native.Nat.{ℕ, _+_, _-_}
+use mathlib.Core.List.{[], List, _∷_, _++_}
+use mathlib.Core.Bool.{Bool, true, false, _||_}
+use mathlib.Core.Option.{Option, none}
+use lib.Dec.{eqb}
+use lib.ListN.{length, replicate}
+use Rattle.words.specs.Word.{pick, Field, _of_}
 use Rattle.words.specs.Stream.{streamWords}
 use Rattle.arguments.specs.declared.Scalar.{Scalar}
-use Rattle.arguments.specs.Argument.{scalarWords}
-use Rattle.records.specs.Record.{hasExtra}
+use Rattle.records.specs.declared.Event.{Event}
+use Rattle.records.specs.Layout.{extraWords}
 
 -- what a reference is shown as: what it stands for, or "unresolved with its index"
 pub data Shown (A : Type 0) : Type 0 where
@@ -30,18 +32,33 @@ pub record Argument : Type 0 where
   pub name : Text
   pub value : Value
 
+-- what a record refers to, as it is shown
+pub data Referent : Type 0 where
+  textReferent : Text → Referent
+  threadReferent : Shown Thread → Referent
+
+-- the table that it is looked up in
+abbrev pub referentTable : Referent → ℕ
+referentTable (textReferent t) = 2
+referentTable (threadReferent t) = 3
+
+-- what stands for a reference that a kind has not: the empty text
+abbrev pub absent : Referent
+absent = textReferent (known [])
+
 -- "An event item holds its provider id or none, type, timestamp, the rate in force, process and thread (or unresolved), category, name,
--- arguments, and extra word." The extra word is 0 where the type has none.
-pub record Event : Type 0 where
+-- arguments, and extra word": type and timestamp are its own, its references are thread, category and name, its last word is the extra word,
+-- 0 where the type has none, and it has no stream.
+pub record Report : Type 0 where
   pub provider : Option ℕ
-  pub type : ℕ
-  pub timestamp : ℕ
   pub rate : ℕ
-  pub thread : Shown Thread
-  pub category : Text
-  pub name : Text
+  pub own : Event
+  pub first : Referent
+  pub second : Referent
+  pub third : Referent
+  pub stream : List ℕ
   pub arguments : List Argument
-  pub extra : ℕ
+  pub last : ℕ
 
 -- "Each magic, provider info (id, name), section (id), provider event (id, event), initialization (rate), event and
 -- skipped record (record type, size in words) is one item, in order."
@@ -51,8 +68,76 @@ pub data Item : Type 0 where
   section : (id : ℕ) → Item
   providerEvent : (id event : ℕ) → Item
   initialization : (rate : ℕ) → Item
-  event : Event → Item
+  report : Report → Item
   skipped : (type size : ℕ) → Item
+
+-- ---- how a record is laid out
+
+-- a piece of a body before its arguments: words, a stream that is no reference, or what the record refers to
+pub data Piece : Type 0 where
+  words stream : List ℕ → Piece
+  refers : Referent → Piece
+
+-- the record of an item: its type, the context whose indexes it uses, its header behind type and size, given what stands there for a piece
+-- (a reference, or the length of a stream), its body up to the arguments, these, and the words behind them
+pub record ItemLayout : Type 0 where
+  pub type : ℕ
+  pub provider : Option ℕ
+  pub fields : (Piece → ℕ) → List Field
+  pub pieces : List Piece
+  pub arguments : List Argument
+  pub last : List ℕ
+
+-- an event: its type of record, its header behind that and the size, from its count, its three references and the length of its stream, its leading
+-- words, and how many words stand behind its arguments
+abbrev pub ownType : Event → ℕ
+ownType e = 4
+
+abbrev pub ownHeader : Event → ℕ → ℕ → ℕ → ℕ → ℕ → List Field
+ownHeader e count first second third long = e .variant of 4 ∷ count of 4 ∷ first of 8 ∷ second of 16 ∷ third of 16 ∷ []
+
+abbrev pub ownWords : Event → List ℕ
+ownWords e = e .timestamp ∷ []
+
+abbrev pub ownBehind : Event → ℕ
+ownBehind e = extraWords (e .variant)
+
+abbrev pub lastWords : ℕ → ℕ → List ℕ
+lastWords behind last = pick (eqb behind 0) [] (last ∷ [])
+
+-- a record that refers to texts and threads
+abbrev pub reportLayout : Report → ItemLayout
+reportLayout r =
+    record {
+      type = ownType (r .own);
+      provider = r .provider;
+      fields = λ given. ownHeader (r .own) (length (r .arguments)) (given (refers (r .first))) (given (refers (r .second)))
+          (given (refers (r .third))) (given (stream (r .stream)));
+      pieces = words (ownWords (r .own)) ∷ refers (r .first) ∷ refers (r .second) ∷ refers (r .third) ∷ stream (r .stream) ∷ [];
+      arguments = r .arguments;
+      last = lastWords (ownBehind (r .own)) (r .last);
+    }
+
+-- a record that refers to nothing
+abbrev pub bareLayout : ℕ → List Field → List Piece → ItemLayout
+bareLayout type fields pieces =
+    record { type = type; provider = none; fields = λ given. fields; pieces = pieces; arguments = []; last = [] }
+
+-- every item's record; a skipped one is never written, since repacking refuses it: what stands here for it has its size
+abbrev pub layoutOfItem : Item → ItemLayout
+layoutOfItem magic = bareLayout 0 (4 of 4 ∷ 0 of 4 ∷ 0x16547846 of 32 ∷ 0 of 8 ∷ []) []
+layoutOfItem (providerInfo id name) = bareLayout 0 (1 of 4 ∷ id of 32 ∷ length name of 8 ∷ 0 of 4 ∷ []) (stream name ∷ [])
+layoutOfItem (section id) = bareLayout 0 (2 of 4 ∷ id of 32 ∷ 0 of 12 ∷ []) []
+layoutOfItem (providerEvent id e) = bareLayout 0 (3 of 4 ∷ id of 32 ∷ e of 4 ∷ 0 of 8 ∷ []) []
+layoutOfItem (initialization rate) = bareLayout 1 (0 of 48 ∷ []) (words (rate ∷ []) ∷ [])
+layoutOfItem (report r) = reportLayout r
+layoutOfItem (skipped type size) = bareLayout type (0 of 48 ∷ []) (words (replicate (size - 1) 0) ∷ [])
+
+-- the context whose indexes an item's record uses
+abbrev pub itemProvider : Item → Option ℕ
+itemProvider i = layoutOfItem i .provider
+
+-- ---- keys
 
 -- what a string or thread record registers
 pub data Key : Type 0 where
@@ -79,6 +164,10 @@ abbrev pub threadUses : Option ℕ → Shown Thread → List Use
 threadUses provider (known t) = record { provider = provider; key = threadKey t } ∷ []
 threadUses provider (unresolved index) = []
 
+abbrev pub referentUses : Option ℕ → Referent → List Use
+referentUses provider (textReferent t) = textUses provider t
+referentUses provider (threadReferent t) = threadUses provider t
+
 abbrev pub valueUses : Option ℕ → Value → List Use
 valueUses provider (scalar s) = []
 valueUses provider (text t) = textUses provider t
@@ -87,34 +176,54 @@ abbrev pub argumentsUses : Option ℕ → List Argument → List Use
 argumentsUses provider [] = []
 argumentsUses provider (a ∷ l) = textUses provider (a .name) ++ (valueUses provider (a .value) ++ argumentsUses provider l)
 
--- "thread, then strings by first use in that record": the uses of an item in the order of registration
+-- ---- uses
+
+abbrev pub pieceUses : Option ℕ → Piece → List Use
+pieceUses provider (words ns) = []
+pieceUses provider (stream b) = []
+pieceUses provider (refers x) = referentUses provider x
+
+-- the uses of pieces, and more behind them
+abbrev pub piecesUses : Option ℕ → List Piece → List Use → List Use
+piecesUses provider [] more = more
+piecesUses provider (p ∷ ps) more = pieceUses provider p ++ piecesUses provider ps more
+
+-- "thread, then strings by first use in that record": the uses of a record in the order of registration
+abbrev pub layoutUses : ItemLayout → List Use
+layoutUses l = piecesUses (l .provider) (l .pieces) (argumentsUses (l .provider) (l .arguments))
+
 abbrev pub usesOf : Item → List Use
-usesOf magic = []
-usesOf (providerInfo id name) = []
-usesOf (section id) = []
-usesOf (providerEvent id e) = []
-usesOf (initialization rate) = []
-usesOf (event e) =
-    threadUses (e .provider) (e .thread)
-    ++ (textUses (e .provider) (e .category)
-    ++ (textUses (e .provider) (e .name) ++ argumentsUses (e .provider) (e .arguments)))
-usesOf (skipped type size) = []
+usesOf i = layoutUses (layoutOfItem i)
 
--- the words of a value behind its argument's name, without a text
-abbrev pub valueWords : Value → ℕ
-valueWords (scalar s) = scalarWords s
-valueWords (text t) = 0
+-- ---- words
 
-abbrev pub argumentsWords : List Argument → ℕ
-argumentsWords [] = 0
-argumentsWords (a ∷ l) = 1 + valueWords (a .value) + argumentsWords l
+-- ---- unresolved references
 
--- the words that an item takes whatever is registered: its record without inline texts and threads
-abbrev pub fixedWords : Item → ℕ
-fixedWords magic = 1
-fixedWords (providerInfo id name) = 1 + streamWords (length name)
-fixedWords (section id) = 1
-fixedWords (providerEvent id e) = 1
-fixedWords (initialization rate) = 2
-fixedWords (event e) = 2 + argumentsWords (e .arguments) + pick (hasExtra (e .type)) 1 0
-fixedWords (skipped type size) = size
+abbrev pub isUnresolved : {A : Type 0} → Shown A → Bool
+isUnresolved (known a) = false
+isUnresolved (unresolved index) = true
+
+abbrev pub referentUnresolved : Referent → Bool
+referentUnresolved (textReferent t) = isUnresolved t
+referentUnresolved (threadReferent t) = isUnresolved t
+
+abbrev pub valueUnresolved : Value → Bool
+valueUnresolved (scalar s) = false
+valueUnresolved (text t) = isUnresolved t
+
+abbrev pub argumentsUnresolved : List Argument → Bool
+argumentsUnresolved [] = false
+argumentsUnresolved (a ∷ l) = isUnresolved (a .name) || (valueUnresolved (a .value) || argumentsUnresolved l)
+
+abbrev pub pieceUnresolved : Piece → Bool
+pieceUnresolved (words ns) = false
+pieceUnresolved (stream b) = false
+pieceUnresolved (refers x) = referentUnresolved x
+
+abbrev pub piecesUnresolved : List Piece → Bool → Bool
+piecesUnresolved [] more = more
+piecesUnresolved (p ∷ ps) more = pieceUnresolved p || piecesUnresolved ps more
+
+-- whether an item has an unresolved reference
+abbrev pub unresolvedIn : Item → Bool
+unresolvedIn i = piecesUnresolved (layoutOfItem i .pieces) (argumentsUnresolved (layoutOfItem i .arguments))

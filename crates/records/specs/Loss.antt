@@ -1,6 +1,6 @@
 -- What a record loses when it is repacked, after number 10 of document 01: "a skipped record, an unknown argument, appended words,
 -- or a nonzero reserved or padding bit, in any record but string or thread records of index 0". Reserved bits are those that its list of fields leaves out.
-use Prim.Native.Nat.{ℕ, _+_, _-_, _*_, _≤_}
+use Prim.Native.Nat.{ℕ, _+_, _-_, _*_}
 use mathlib.Core.List.{List}
 use mathlib.Core.Bool.{Bool, true, false, _&&_}
 use lib.ListN.{length, drop}
@@ -9,12 +9,12 @@ use Rattle.words.specs.Word.{wordAt, field}
 use Rattle.words.specs.Stream.{streamWords}
 use Rattle.format.specs.declared.Format.{Format}
 use Rattle.format.specs.declared.Reference.the-variants.{Inline}
-use Rattle.format.specs.Part.{Inside, paddingZero}
+use Rattle.format.specs.Part.{paddingZero}
 use Rattle.arguments.specs.Loss.{argumentsKeep}
-use Rattle.records.specs.declared.Event.{Event}
+use Rattle.records.specs.declared.Report.{Report}
 use Rattle.records.specs.declared.Content.{Content}
-use Rattle.records.specs.declared.Content.the-variants.{Refused, Magic, ProviderInfo, Section, ProviderEvent, Initialization, String, Thread, Event as EventRead, Ignored, Skipped}
-use Rattle.records.specs.Record.{extraBytes}
+use Rattle.records.specs.declared.Content.the-variants.{Refused, Magic, ProviderInfo, Section, ProviderEvent, Initialization, String, Thread, Report as ReportRead, Ignored, Skipped}
+use Rattle.records.specs.Layout.{layoutOf}
 
 -- a record of so many words whose reserved bits are these
 unfoldable pub wordsKeep : List ℕ → ℕ → ℕ → Bool
@@ -25,34 +25,16 @@ unfoldable pub streamKeeps : List ℕ → ℕ → ℕ → ℕ → ℕ → Bool
 streamKeeps source place at long reserved =
     wordsKeep source (1 + streamWords long) reserved && paddingZero source place (Inline at long)
 
--- the places that an event shows stand between two places
-pub record EventInside (from to : ℕ) (e : Event) : Type 0 where
-  pub thread : Inside from to (e .thread)
-  pub category : Inside from to (e .category)
-  pub name : Inside from to (e .name)
-  pub behind : from ≤ e .arguments
-  pub before : e .arguments ≤ to
-
--- the places that a record shows do
-abbrev pub ContentInside : ℕ → ℕ → Content → Type 0
-ContentInside from to (Refused number) = Unit {0}
-ContentInside from to Magic = Unit {0}
-ContentInside from to (ProviderInfo id place long) = Inside from to (Inline place long)
-ContentInside from to (Section id) = Unit {0}
-ContentInside from to (ProviderEvent id event) = Unit {0}
-ContentInside from to (Initialization rate) = Unit {0}
-ContentInside from to (String index place long) = Inside from to (Inline place long)
-ContentInside from to (Thread index place) = Inside from to (Inline place 16)
-ContentInside from to (EventRead e) = EventInside from to e
-ContentInside from to Ignored = Unit {0}
-ContentInside from to (Skipped type size) = Unit {0}
-
--- an event: it has no reserved bits of its own
-unfoldable pub eventKeeps : Format → List ℕ → ℕ → Event → Bool
-eventKeeps f source place e =
-    paddingZero source place (e .category)
-    && (paddingZero source place (e .name)
-    && argumentsKeep f (e .count) (drop (e .arguments - place) source) (e .arguments) (extraBytes (e .kind)))
+-- a record that refers to texts and threads, by its layout
+unfoldable pub reportKeeps : Format → List ℕ → ℕ → Report → Bool
+reportKeeps f source place r =
+    let l = layoutOf (wordAt source 0) in
+    eqb (l .reserved) 0
+    && (paddingZero source place (r .first .reference)
+    && (paddingZero source place (r .second .reference)
+    && (paddingZero source place (r .third .reference)
+    && (paddingZero source place (r .stream)
+    && argumentsKeep f (r .count) (drop (r .arguments - place) source) (r .arguments) (8 * l .behind)))))
 
 -- whether the record is written again as it is
 unfoldable pub recordKeeps : Format → List ℕ → ℕ → Content → Bool
@@ -65,6 +47,6 @@ recordKeeps f source place (Initialization rate) = wordsKeep source 2 (field 16 
 recordKeeps f source place (String index at long) =
     streamKeeps source place at long (field 31 31 (wordAt source 0) + field 47 63 (wordAt source 0))
 recordKeeps f source place (Thread index at) = wordsKeep source 3 (field 24 63 (wordAt source 0))
-recordKeeps f source place (EventRead e) = eventKeeps f source place e
+recordKeeps f source place (ReportRead r) = reportKeeps f source place r
 recordKeeps f source place Ignored = true
 recordKeeps f source place (Skipped type size) = false

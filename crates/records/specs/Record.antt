@@ -1,96 +1,22 @@
 -- What stands at a place of an archive apart from tables and contexts, after the list of records in document 01.
 -- `source` are the bytes of one whole record, which stands at the byte place `place`; its first word is its header.
-use Prim.Native.Nat.{ℕ, _+_, _-_}
-use mathlib.Core.List.{List, [], _∷_}
-use mathlib.Core.Bool.{Bool, true, false}
+use Prim.Native.Nat.{ℕ, _+_}
+use mathlib.Core.List.{[], List, _∷_}
 use lib.ListN.{length, take, drop}
 use lib.Dec.{eqb, ltb}
 use Rattle.words.specs.Word.{pick, wordAt, field}
 use Rattle.words.specs.Stream.{startsWithMagic}
 use Rattle.format.specs.declared.Format.{Format}
-use Rattle.format.specs.declared.Reference.{Reference}
 use Rattle.format.specs.declared.Extent.{Extent}
 use Rattle.format.specs.declared.Extent.the-variants.{Refused as ExtentRefused, Bytes}
 use Rattle.format.specs.Limits.{malformed, highIndex}
 use Rattle.format.specs.Header.{recordWords, extentOf}
-use Rattle.format.specs.Part.{Part, words, stream, text, thread, Body, refused, body, takeParts, onBody, part}
-use Rattle.arguments.specs.declared.Argument.{Argument}
-use Rattle.arguments.specs.declared.Walked.{Walked}
-use Rattle.arguments.specs.declared.Walked.the-variants.{Refused as WalkRefused, End}
-use Rattle.arguments.specs.Argument.{argumentsOf, walked, listed}
-use Rattle.records.specs.declared.Event.{Event}
-use Rattle.records.specs.declared.Fields.{Fields}
-use Rattle.records.specs.declared.Fields.the-variants.{Refused as FieldsRefused, Fields as FieldsRead}
-use Rattle.records.specs.declared.Extra.{Extra}
-use Rattle.records.specs.declared.Extra.the-variants.{Refused as ExtraRefused, Word}
+use Rattle.format.specs.declared.Part.the-variants.{Words as words, Stream as stream}
+use Rattle.format.specs.Part.{takeParts, onBody}
 use Rattle.records.specs.declared.Content.{Content}
-use Rattle.records.specs.declared.Content.the-variants.{Refused, Magic, ProviderInfo, Section, ProviderEvent, Initialization, String, Thread, Event as EventRead, Ignored, Skipped}
+use Rattle.records.specs.declared.Content.the-variants.{Refused, Magic, ProviderInfo, Section, ProviderEvent, Initialization, String, Thread, Ignored, Skipped}
 use Rattle.records.specs.declared.Record.{Record}
-
--- "one more word for event types 1 and 4 to 10. Types 0, 2 and 3 have none"; types above 10 are skipped before this is asked
-unfoldable pub hasExtra : ℕ → Bool
-hasExtra type = pick (eqb type 1) true (ltb 3 type)
-
-unfoldable pub extraBytes : ℕ → ℕ
-extraBytes type = pick (hasExtra type) 8 0
-
--- "Event (4): event type [16..19], argument count [20..23], thread [24..31], category [32..47], name [48..63];
--- then timestamp, inline process and thread, inline category, inline name, arguments, and one more word"
-abbrev pub eventParts : ℕ → List Part
-eventParts header = words 1 ∷ thread (field 24 31 header) ∷ text (field 32 47 header) ∷ text (field 48 63 header) ∷ []
-
-abbrev pub extraParts : ℕ → List Part
-extraParts header = pick (hasExtra (field 16 19 header)) (words 1 ∷ []) []
-
-abbrev pub fieldsOf : Body → Fields
-fieldsOf (refused number) = FieldsRefused number
-fieldsOf (body references next) = FieldsRead (part 1 references) (part 2 references) (part 3 references) next
-
--- an event up to its arguments
-unfoldable pub eventFields : Format → ℕ → ℕ → ℕ → Fields
-eventFields f header place end = fieldsOf (takeParts f (eventParts header) (place + 8) end)
-
-abbrev pub onFields : Fields → (ℕ → Content) → (Reference → Reference → Reference → ℕ → Content) → Content
-onFields (FieldsRefused number) refuse then = refuse number
-onFields (FieldsRead t c n next) refuse then = then t c n next
-
-abbrev pub onWalked : Walked → (ℕ → Content) → (ℕ → Content) → Content
-onWalked (WalkRefused number) refuse then = refuse number
-onWalked (End next) refuse then = then next
-
-abbrev pub onExtra : Extra → (ℕ → Content) → (ℕ → Content) → Content
-onExtra (ExtraRefused number) refuse then = refuse number
-onExtra (Word extra) refuse then = then extra
-
--- an event's extra word, right behind its arguments
-unfoldable pub eventExtra : Format → ℕ → List ℕ → ℕ → ℕ → Extra
-eventExtra f header source place at =
-    onBody (takeParts f (extraParts header) at (place + length source)) ExtraRefused
-    (λ references next. Word (pick (hasExtra (field 16 19 header)) (wordAt source (at - place)) 0))
-
--- an event of types 0 to 10
-unfoldable pub eventOf : Format → List ℕ → ℕ → Content
-eventOf f source place =
-    onFields (eventFields f (wordAt source 0) place (place + length source)) Refused
-    (λ t c n first.
-    onWalked (walked (argumentsOf f (field 20 23 (wordAt source 0)) (drop (first - place) source) first)) Refused
-    (λ last.
-    onExtra (eventExtra f (wordAt source 0) source place last) Refused
-    (λ extra.
-    EventRead (record {
-      kind = field 16 19 (wordAt source 0);
-      timestamp = wordAt source 8;
-      thread = t;
-      category = c;
-      name = n;
-      count = field 20 23 (wordAt source 0);
-      arguments = first;
-      extra = extra;
-    }))))
-
--- the arguments of an event, in order
-abbrev pub eventArguments : Format → List ℕ → ℕ → Event → List Argument
-eventArguments f source place e = listed (argumentsOf f (e .count) (drop (e .arguments - place) source) (e .arguments))
+use Rattle.records.specs.Layout.{isReport, reportOf}
 
 -- "Kind 1, provider info: id [20..51], name length [52..59], name stream."
 unfoldable pub providerInfoOf : Format → ℕ → ℕ → ℕ → Content
@@ -130,16 +56,16 @@ threadOf f header place end =
     (onBody (takeParts f (words 2 ∷ []) (place + 8) end) Refused
     (λ references next. Thread (field 16 23 header) (place + 8)))
 
--- by record type; "Every other record type, metadata type, trace info type and event type is skipped by its size, and shown as skipped."
+-- a record that refers to texts and threads, or by its type; "Every other record type, metadata type, trace info type and event type is skipped by its size, and shown as skipped."
 unfoldable pub contentOf : Format → List ℕ → ℕ → Content
 contentOf f source place =
     let header = wordAt source 0 in
     let end = place + length source in
-    pick (eqb (field 0 3 header) 0) (metadataOf f source place)
+    pick (isReport header) (reportOf f source place)
+    (pick (eqb (field 0 3 header) 0) (metadataOf f source place)
     (pick (eqb (field 0 3 header) 1) (initializationOf f source place)
     (pick (eqb (field 0 3 header) 2) (stringOf f header place end)
     (pick (eqb (field 0 3 header) 3) (threadOf f header place end)
-    (pick (eqb (field 0 3 header) 4) (pick (ltb 10 (field 16 19 header)) (Skipped 4 (recordWords header)) (eventOf f source place))
     (Skipped (field 0 3 header) (recordWords header))))))
 
 abbrev pub onExtent : Extent → (ℕ → Record) → (ℕ → Record) → Record

@@ -1,29 +1,63 @@
 // One record apart from any table and context: what stands in it, and whether repacking would lose something of it.
 ghost use mathlib.Core.Path.{_≡_};
-ghost use Prim.Native.Nat.{ℕ, _+_, _-_, _*_, _^_, _<_, _≤_};
-ghost use lib.ListN.{length, drop};
-ghost use Rattle.records.specs.Record.{hasExtra, extraBytes, eventFields, eventExtra, eventOf, providerInfoOf, metadataOf, initializationOf, stringOf, threadOf, contentOf, recordAt};
+ghost use Prim.Native.Nat.{_+_, _-_, _*_, _^_, _<_, _≤_};
+ghost use lib.ListN.{length};
+ghost use Rattle.words.specs.Word.{wordAt};
+ghost use Rattle.format.specs.Models.Bounds.{PartFits};
 ghost use Rattle.words.specs.Stream.{streamWords};
-ghost use Rattle.records.specs.Loss.{wordsKeep, streamKeeps, EventInside, eventKeeps, ContentInside, recordKeeps};
+ghost use Rattle.records.specs.Layout.{hasExtra, extraWords, isReport, layoutOf, ownOf, takeFields, lastWord, reportOf};
+ghost use Rattle.records.specs.Models.Layouts.{LayoutFits, takePair};
+ghost use Rattle.records.specs.Record.{providerInfoOf, metadataOf, initializationOf, stringOf, threadOf, contentOf, recordAt};
+ghost use Rattle.records.specs.Effect.{effectOf};
+ghost use Rattle.records.specs.Item.{ownWords, ownBehind};
+ghost use Rattle.records.specs.Loss.{wordsKeep, streamKeeps, reportKeeps, recordKeeps};
+ghost use Rattle.records.specs.Models.Bounds.{ReportInside, ContentInside};
 use arguments::Walked;
 use format::CUT;
 use format::Extent;
 use format::Format;
 use format::HIGH_INDEX;
 use format::MALFORMED;
+use format::Part;
 use format::Reference;
 use format::Taken;
 
-// An event: its type, its references, where its arguments start, and an extra word of 0 where its type has none.
+// What is particular to an event: its type and its timestamp.
 pub struct Event {
-    pub kind: u8,
+    pub variant: u8,
     pub timestamp: u64,
-    pub thread: Reference,
-    pub category: Reference,
-    pub name: Reference,
+}
+
+// A reference with the table that it is looked up in, by the type of its records: 2 for texts, 3 for threads.
+pub struct Lookup {
+    pub table: u64,
+    pub reference: Reference,
+}
+
+// A record that refers to texts and threads: what is particular to its kind, up to three references in order, a stream
+// that is no reference, where its arguments start, and its last word. An absent reference is the empty inline text, an
+// absent stream has no bytes, an absent last word is 0.
+pub struct Report {
+    pub own: Event,
+    pub first: Lookup,
+    pub second: Lookup,
+    pub third: Lookup,
+    pub stream: Reference,
     pub count: usize,
     pub arguments: usize,
-    pub extra: u64,
+    pub last: u64,
+}
+
+// How such a record is laid out: words, three references and a stream, arguments, and words behind them; its reserved bits.
+pub struct Layout {
+    pub words: usize,
+    pub first: Part,
+    pub second: Part,
+    pub third: Part,
+    pub stream: Part,
+    pub count: usize,
+    pub behind: usize,
+    pub reserved: u64,
 }
 
 // What stands in a record. A string or thread record of index 0 is ignored.
@@ -54,11 +88,30 @@ pub enum Content {
         index: usize,
         place: usize,
     },
-    Event(Event),
+    Report(Report),
     Ignored,
     Skipped {
-        kind: u8,
+        record_type: u8,
         size: u64,
+    },
+}
+
+// What a record does to the state and the tables: it stops the reading by a number, changes nothing, makes an id current,
+// sets the rate, or registers a text (table 2) or a thread (table 3) by the place and length of its bytes.
+pub enum Effect {
+    Stop(u8),
+    Pass,
+    Enter {
+        id: u32,
+    },
+    SetRate {
+        rate: u64,
+    },
+    Register {
+        table: u64,
+        index: usize,
+        place: usize,
+        length: usize,
     },
 }
 
@@ -68,66 +121,155 @@ pub struct Record {
     pub next: usize,
 }
 
-// The references of an event, and where its arguments start.
+// The references and the stream of a layout, and where its arguments start.
 pub enum Fields {
     Refused(u8),
     Fields {
-        thread: Reference,
-        category: Reference,
-        name: Reference,
+        first: Reference,
+        second: Reference,
+        third: Reference,
+        stream: Reference,
         next: usize,
     },
 }
 
-// An event's extra word, 0 where its type has none.
-pub enum Extra {
+// Two parts that were taken, and the place behind them.
+pub enum Pair {
+    Refused(u8),
+    Pair {
+        first: Reference,
+        second: Reference,
+        next: usize,
+    },
+}
+
+// A last word, 0 where there is none.
+pub enum Last {
     Refused(u8),
     Word(u64),
 }
 
 // Whether events of this type have one more word.
-pub fn has_extra(kind: u64) -> bool
-    ensures { λ r. ⌜ r ≡ hasExtra kind ⌝ }
+pub fn has_extra(variant: u64) -> bool
+    ensures { λ r. ⌜ r ≡ hasExtra variant ⌝ }
 {
-    if kind == 1 {
+    if variant == 1 {
         return true;
     }
-    3 < kind
+    3 < variant
 }
 
-// The fields in front of the arguments of an event from `place` to `end`.
-fn event_fields(f: Format, header: u64, place: usize, end: usize) -> Fields
-    requires { ⌜ (place + 8 ≤ end) × (end < 2 ^ 63) ⌝ }
-    ensures { λ r. ⌜ r ≡ eventFields f header place end ⌝ }
+// How many words an event of this type has behind its arguments.
+fn extra_words(variant: u64) -> usize
+    ensures { λ r. ⌜ r ≡ extraWords variant ⌝ }
 {
-    let first = place + 8 + 8;
-    if end < first {
-        return Fields::Refused(MALFORMED);
+    if has_extra(variant) {
+        return 1;
     }
-    let thread_part = format::take_thread(words::field(header, 24, 31), first, end);
-    match thread_part {
+    0
+}
+
+// Whether the record of this header refers to texts and threads, and is read.
+pub fn is_report(header: u64) -> bool
+    ensures { λ r. ⌜ r ≡ isReport header ⌝ }
+{
+    if words::field(header, 0, 3) == 4 {
+        return words::field(header, 16, 19) <= 10;
+    }
+    false
+}
+
+// The layout of such a record.
+pub fn layout_of(header: u64) -> Layout
+    ensures { λ r. ⌜ r ≡ layoutOf header ⌝ }
+{
+    Layout {
+        words: 1,
+        first: Part::Thread(words::field(header, 24, 31)),
+        second: Part::Text(words::field(header, 32, 47)),
+        third: Part::Text(words::field(header, 48, 63)),
+        stream: Part::Stream(0),
+        count: words::field(header, 20, 23) as usize,
+        behind: extra_words(words::field(header, 16, 19)),
+        reserved: 0,
+    }
+}
+
+// What is particular to the kind of such a record.
+fn own_of(source: &[u8]) -> Event
+    requires { ⌜ 8 + 8 * (layoutOf (wordAt (now source) 0) .words) ≤ length (now source) ⌝ }
+    ensures { λ r. ⌜ r ≡ ownOf (now (source .entry)) ⌝ }
+{
+    Event {
+        variant: words::field(words::word(source, 0), 16, 19) as u8,
+        timestamp: words::word(source, 8),
+    }
+}
+
+// Two parts, one behind the other, from `place` to `end`.
+fn take_pair(f: Format, one: Part, two: Part, place: usize, end: usize) -> Pair
+    requires { ⌜ PartFits one × PartFits two × (place ≤ end) × (end < 2 ^ 63) ⌝ }
+    ensures { λ r. ⌜ r ≡ takePair f one two place end ⌝ }
+{
+    let taken = format::take_part(f, one, place, end);
+    match taken {
+        Taken::Refused(number) => Pair::Refused(number),
+        Taken::Part {
+            reference: first,
+            next: at,
+        } => {
+            let behind = format::take_part(f, two, at, end);
+            match behind {
+                Taken::Refused(number) => Pair::Refused(number),
+                Taken::Part {
+                    reference: second,
+                    next,
+                } => Pair::Pair {
+                    first,
+                    second,
+                    next,
+                },
+            }
+        }
+    }
+}
+
+// The references and the stream of a layout, from `place` to `end`.
+fn take_fields(f: Format, layout: Layout, place: usize, end: usize) -> Fields
+    requires { ⌜ LayoutFits layout × (place ≤ end) × (end < 2 ^ 63) ⌝ }
+    ensures { λ r. ⌜ r ≡ takeFields f layout place end ⌝ }
+{
+    let one = layout.first;
+    let two = layout.second;
+    let three = layout.third;
+    let four = layout.stream;
+    let leading = format::take_words(layout.words, place, end);
+    match leading {
         Taken::Refused(number) => Fields::Refused(number),
         Taken::Part {
-            reference: thread,
-            next: second,
+            reference: _,
+            next: start,
         } => {
-            let category_part = format::take_text(f, words::field(header, 32, 47), second, end);
-            match category_part {
-                Taken::Refused(number) => Fields::Refused(number),
-                Taken::Part {
-                    reference: category,
-                    next: third,
+            let pair = take_pair(f, one, two, start, end);
+            match pair {
+                Pair::Refused(number) => Fields::Refused(number),
+                Pair::Pair {
+                    first,
+                    second,
+                    next: middle,
                 } => {
-                    let name_part = format::take_text(f, words::field(header, 48, 63), third, end);
-                    match name_part {
-                        Taken::Refused(number) => Fields::Refused(number),
-                        Taken::Part {
-                            reference: name,
+                    let rest = take_pair(f, three, four, middle, end);
+                    match rest {
+                        Pair::Refused(number) => Fields::Refused(number),
+                        Pair::Pair {
+                            first: third,
+                            second: stream,
                             next,
                         } => Fields::Fields {
-                            thread,
-                            category,
-                            name,
+                            first,
+                            second,
+                            third,
+                            stream,
                             next,
                         },
                     }
@@ -137,55 +279,70 @@ fn event_fields(f: Format, header: u64, place: usize, end: usize) -> Fields
     }
 }
 
-// The extra word of an event whose arguments end at `at`.
-fn event_extra(f: Format, header: u64, source: &[u8], place: usize, at: usize) -> Extra
-    requires { ⌜ (place ≤ at) × (at ≤ place + length (now source)) × (place + length (now source) < 2 ^ 63) ⌝ }
-    ensures { λ r. ⌜ r ≡ eventExtra f header (now (source .entry)) place at ⌝ }
+// The last word of a record whose arguments end at `at`, where it has any behind them.
+fn last_word(source: &[u8], place: usize, at: usize, behind: usize) -> Last
+    requires { ⌜ (place ≤ at) × (at ≤ place + length (now source)) × (place + length (now source) < 2 ^ 63) × (behind ≤ 1) ⌝ }
+    ensures { λ r. ⌜ r ≡ lastWord (now (source .entry)) place at behind ⌝ }
 {
-    if has_extra(words::field(header, 16, 19)) {
-        let end = place + source.len();
-        if end < at + 8 {
-            return Extra::Refused(MALFORMED);
-        }
-        return Extra::Word(words::word(source, at - place));
+    let end = place + source.len();
+    if end < at + 8 * behind {
+        return Last::Refused(MALFORMED);
     }
-    Extra::Word(0)
+    if behind == 0 {
+        return Last::Word(0);
+    }
+    Last::Word(words::word(source, at - place))
 }
 
-// An event of types 0 to 10.
-fn event_of(f: Format, source: &[u8], place: usize) -> Content
+// A record that refers to texts and threads.
+fn report_of(f: Format, source: &[u8], place: usize) -> Content
     requires { ⌜ (8 ≤ length (now source)) × (place + length (now source) < 2 ^ 63) ⌝ }
-    ensures { λ r. ⌜ r ≡ eventOf f (now (source .entry)) place ⌝ }
+    ensures { λ r. ⌜ r ≡ reportOf f (now (source .entry)) place ⌝ }
 {
-    let header = words::word(source, 0);
-    let fields = event_fields(f, header, place, place + source.len());
+    let layout = layout_of(words::word(source, 0));
+    let fields = take_fields(f, layout, place + 8, place + source.len());
     match fields {
         Fields::Refused(number) => Content::Refused(number),
         Fields::Fields {
-            thread,
-            category,
-            name,
+            first,
+            second,
+            third,
+            stream,
             next,
         } => {
-            let count = words::field(header, 20, 23) as usize;
+            let count = layout.count;
             let from = next - place;
             let walk = arguments::walk(f, &source[from..], next, count);
             match walk {
                 Walked::Refused(number) => Content::Refused(number),
-                Walked::End(last) => {
-                    let more = event_extra(f, header, source, place, last);
+                Walked::End(at) => {
+                    let more = last_word(source, place, at, layout.behind);
                     match more {
-                        Extra::Refused(number) => Content::Refused(number),
-                        Extra::Word(extra) => Content::Event(Event {
-                            kind: words::field(header, 16, 19) as u8,
-                            timestamp: words::word(source, 8),
-                            thread,
-                            category,
-                            name,
-                            count,
-                            arguments: next,
-                            extra,
-                        }),
+                        Last::Refused(number) => Content::Refused(number),
+                        Last::Word(last) => {
+                            let one = layout.first;
+                            let two = layout.second;
+                            let three = layout.third;
+                            Content::Report(Report {
+                                own: own_of(source),
+                                first: Lookup {
+                                    table: format::table_of(one),
+                                    reference: first,
+                                },
+                                second: Lookup {
+                                    table: format::table_of(two),
+                                    reference: second,
+                                },
+                                third: Lookup {
+                                    table: format::table_of(three),
+                                    reference: third,
+                                },
+                                stream,
+                                count,
+                                arguments: next,
+                                last,
+                            })
+                        }
                     }
                 }
             }
@@ -241,7 +398,7 @@ fn metadata_of(f: Format, source: &[u8], place: usize) -> Content
         return Content::Refused(MALFORMED);
     }
     Content::Skipped {
-        kind: 0,
+        record_type: 0,
         size: format::record_words(header),
     }
 }
@@ -315,31 +472,79 @@ pub fn content_of(f: Format, source: &[u8], place: usize) -> Content
     ensures { λ r. ⌜ r ≡ contentOf f (now (source .entry)) place ⌝ }
 {
     let header = words::word(source, 0);
-    let kind = words::field(header, 0, 3);
-    if kind == 4 {
-        if 10 < words::field(header, 16, 19) {
-            return Content::Skipped {
-                kind: 4,
-                size: format::record_words(header),
-            };
-        }
-        return event_of(f, source, place);
+    let record_type = words::field(header, 0, 3);
+    if is_report(header) {
+        return report_of(f, source, place);
     }
-    if kind == 2 {
+    if record_type == 2 {
         return string_of(f, header, place, place + source.len());
     }
-    if kind == 3 {
+    if record_type == 3 {
         return thread_of(f, header, place, place + source.len());
     }
-    if kind == 0 {
+    if record_type == 0 {
         return metadata_of(f, source, place);
     }
-    if kind == 1 {
+    if record_type == 1 {
         return initialization_of(f, source, place);
     }
     Content::Skipped {
-        kind: kind as u8,
+        record_type: record_type as u8,
         size: format::record_words(header),
+    }
+}
+
+// How many words of its own a record that refers to texts and threads has before its references.
+pub fn own_words(own: Event) -> usize
+    ensures { λ r. ⌜ r ≡ length (ownWords own) ⌝ }
+{
+    1
+}
+
+// How many words it has behind its arguments.
+pub fn own_behind(own: Event) -> usize
+    ensures { λ r. ⌜ r ≡ ownBehind own ⌝ }
+{
+    extra_words(own.variant as u64)
+}
+
+// What a record does to the state and the tables.
+pub fn effect_of(content: Content) -> Effect
+    ensures { λ r. ⌜ r ≡ effectOf content ⌝ }
+{
+    match content {
+        Content::Refused(number) => Effect::Stop(number),
+        Content::ProviderInfo {
+            id,
+            place: _,
+            length: _,
+        } => Effect::Enter { id },
+        Content::Section { id } => Effect::Enter { id },
+        Content::Initialization { rate } => Effect::SetRate { rate },
+        Content::String {
+            index,
+            place,
+            length,
+        } => Effect::Register {
+            table: 2,
+            index,
+            place,
+            length,
+        },
+        Content::Thread { index, place } => Effect::Register {
+            table: 3,
+            index,
+            place,
+            length: 16,
+        },
+        Content::Magic => Effect::Pass,
+        Content::ProviderEvent { id: _, event: _ } => Effect::Pass,
+        Content::Report(_) => Effect::Pass,
+        Content::Ignored => Effect::Pass,
+        Content::Skipped {
+            record_type: _,
+            size: _,
+        } => Effect::Pass,
     }
 }
 
@@ -366,16 +571,6 @@ pub fn record_at(f: Format, archive: &[u8], place: usize) -> Record
             next: place + size,
         },
     }
-}
-
-// The bytes of the extra word of events of this type.
-pub fn extra_bytes(kind: u64) -> usize
-    ensures { λ r. ⌜ r ≡ extraBytes kind ⌝ }
-{
-    if has_extra(kind) {
-        return 8;
-    }
-    0
 }
 
 // Whether a record of so many words and with these reserved bits loses nothing.
@@ -407,19 +602,34 @@ fn stream_keeps(source: &[u8], place: usize, at: usize, long: usize, reserved: u
     false
 }
 
-// Whether an event loses nothing.
-fn event_keeps(f: Format, source: &[u8], place: usize, event: Event) -> bool
-    requires { ⌜ (place + length (now source) < 2 ^ 63) × EventInside place (place + length (now source)) event ⌝ }
-    ensures { λ r. ⌜ r ≡ eventKeeps f (now (source .entry)) place event ⌝ }
+// Whether a record that refers to texts and threads loses nothing.
+fn report_keeps(f: Format, source: &[u8], place: usize, report: Report) -> bool
+    requires { ⌜ (8 ≤ length (now source)) × (place + length (now source) < 2 ^ 63) × ReportInside place (place + length (now source)) report ⌝ }
+    ensures { λ r. ⌜ r ≡ reportKeeps f (now (source .entry)) place report ⌝ }
 {
-    let category = event.category;
-    if format::padding_zero(source, place, category) {
-        let name = event.name;
-        if format::padding_zero(source, place, name) {
-            let first = event.arguments;
-            let from = first - place;
-            let extra = extra_bytes(event.kind as u64);
-            return arguments::arguments_keep(f, &source[from..], first, event.count, extra);
+    let layout = layout_of(words::word(source, 0));
+    if layout.reserved != 0 {
+        return false;
+    }
+    let first = report.first;
+    let one = first.reference;
+    if format::padding_zero(source, place, one) {
+        let second = report.second;
+        let two = second.reference;
+        if format::padding_zero(source, place, two) {
+            let third = report.third;
+            let three = third.reference;
+            if format::padding_zero(source, place, three) {
+                let stream = report.stream;
+                if format::padding_zero(source, place, stream) {
+                    let at = report.arguments;
+                    let from = at - place;
+                    let behind = 8 * layout.behind;
+                    return arguments::arguments_keep(f, &source[from..], at, report.count, behind);
+                }
+                return false;
+            }
+            return false;
         }
         return false;
     }
@@ -461,8 +671,11 @@ pub fn record_keeps(f: Format, source: &[u8], place: usize, content: Content) ->
         Content::Thread { index: _, place: _ } => {
             words_keep(source, 3, words::field(header, 24, 63))
         }
-        Content::Event(event) => event_keeps(f, source, place, event),
+        Content::Report(report) => report_keeps(f, source, place, report),
         Content::Ignored => true,
-        Content::Skipped { kind: _, size: _ } => false,
+        Content::Skipped {
+            record_type: _,
+            size: _,
+        } => false,
     }
 }

@@ -2,35 +2,37 @@
 -- Assumes nothing.
 use Prim.Native.Nat.{ℕ, zero, suc, _+_, _*_, _/_, _≤_, _<_}
 use mathlib.Core.Path.{_≡_, refl, sym, ap, _∙_}
-use mathlib.Core.List.{List, [], _∷_}
+use mathlib.Core.List.{[], List, _∷_}
 use mathlib.Core.Bool.{Bool, true, false}
 use mathlib.Core.Option.{Option, none, some}
 use native.Mathlib.Omega.{arith}
 use lib.Dec.{ltb}
 use lib.ListN.{length, length-set, take, drop, replicate, take-append-drop, length-replicate}
+use Rattle.effects.specs.Follow.{changed}
+use Rattle.words.proofs.Tests.{on-pick, cases}
 use Rattle.words.specs.Word.{pick}
 use Rattle.words.specs.Stream.{magic as magicBytes, startsWithMagic}
 use Rattle.words.proofs.Same.{same-true}
-use Rattle.words.proofs.Words.{At}
+use Rattle.words.proofs.Words.{AllBytes, At}
 use Rattle.format.specs.declared.Format.{Format}
-use Rattle.format.specs.Limits.{smallFormat}
-use Rattle.format.proofs.Parts.{on-pick}
-use Rattle.arguments.proofs.Arguments.{cases}
-use Rattle.records.specs.Item.{Item, magic, Use, usesOf}
+use Rattle.format.specs.Limits.{smallFormat, longestArchive}
+use Rattle.records.specs.Item.{Item, magic, itemProvider, Use, usesOf}
+use Rattle.encoding.specs.Encoded.{itemRecord}
+use Rattle.encoding.proofs.EncodedItems.{magic-fits, magic-record}
 use Rattle.contexts.specs.declared.State.{State}
 use Rattle.contexts.specs.Context.{opening}
 use Rattle.tables.specs.Table.{tableWords}
 use Rattle.reader.specs.declared.Answer.the-variants.{Nothing}
-use Rattle.reader.specs.declared.Change.{Change}
-use Rattle.reader.specs.declared.Change.the-variants.{Keep, Set}
-use Rattle.reader.specs.Step.{doorOf, changed, decisionOf, stepReply, stepTables}
+use Rattle.effects.specs.declared.Change.the-variants.{Keep, Set}
+use Rattle.reader.specs.Step.{openingNumber, decisionOf, stepReply, stepTables}
 use Rattle.reader.specs.Reads.{itemOf, Reads, ends, passes, shows, ReadsAs}
 use Rattle.reader.proofs.ByItems.{contextsOf, after, afterShown, contexts-by-items}
 use Rattle.reader.proofs.Runs.{Sound, fresh-sound, step-sound}
 use Rattle.reader.proofs.Steps.{admitted}
-use Rattle.rule.specs.Rule.{usesAll, Entry, indexIn, nextIndex, withUse, tableAfter, providerOf, chosenIn, rule}
+use Rattle.effects.specs.declared.Change.{Change}
+use Rattle.format.specs.Header.{archiveNumber}
+use Rattle.rule.specs.Rule.{usesAll, Entry, indexIn, nextIndex, withUse, tableAfter, chosenIn, rule}
 use Rattle.rule.specs.Refusal.{keepsAt, runFrom, runOf, Refusal, refusal, lossRefusal, unresolvedRefusal, itemUnresolved, Accepted}
-use Rattle.rule.proofs.Bounds.{AllBytes}
 use Rattle.rule.proofs.Fitting.{GoodItem, step-good}
 use Rattle.rule.proofs.Items.{ShownAs, item-shown}
 use Rattle.rule.proofs.Limits.{Limited, limits-kept, limits-of, LowTable, low-index, UsesLow, uses-low}
@@ -60,7 +62,7 @@ all-fit chosen table (i ∷ items) plain limited low =
     let u = uses-low smallFormat chosen table (usesOf i) (usesAll items) limited low in
     let table′ = tableAfter chosen table (usesOf i) in (
       uses-fit chosen table (usesOf i) (plain-keys i (plain .0)) (u .0),
-      plain-fits (indexIn table′ (providerOf i)) i (low-index smallFormat table′ (providerOf i) (u .1)) (plain .0),
+      plain-fits (indexIn table′ (itemProvider i)) i (low-index smallFormat table′ (itemProvider i) (u .1)) (plain .0),
       all-fit chosen table′ items (plain .1) (u .2) (u .1),
     )
 
@@ -93,34 +95,34 @@ passes-keep f archive s tables e = rw e at (contexts-by-items f archive tables s
 
 -- a run with enough steps, over records that lose nothing and resolve everything, reads plain items that suit their contexts
 run-good : (f : Format) (archive : List ℕ) → AllBytes archive → {s : State} {tables : List ℕ} {items : List Item}
-    → Reads f archive s tables items → (steps : ℕ) → doorOf f archive (length tables) ≡ 0 → Sound f archive s tables
+    → Reads f archive s tables items → (steps : ℕ) → openingNumber f archive (length tables) ≡ 0 → Sound f archive s tables
     → length archive < s .place + 8 * steps → lossRefusal (runFrom f archive steps s tables) ≡ none
     → unresolvedRefusal (runFrom f archive steps s tables) ≡ none → RunGood f s items
-run-good f archive bytes (ends s tables place e) zero door sound enough loss whole = absurd (omega (arith, enough, sound .before))
-run-good f archive bytes (ends s tables place e) (suc steps) door sound enough loss whole =
+run-good f archive bytes (ends s tables place e) zero opens sound enough loss whole = absurd (omega (arith, enough, sound .before))
+run-good f archive bytes (ends s tables place e) (suc steps) opens sound enough loss whole =
     record { suits = tt; plain = tt }
-run-good f archive bytes (passes s tables items e r) zero door sound enough loss whole = absurd (omega (arith, enough, sound .before))
-run-good f archive bytes (passes s tables items e r) (suc steps) door sound enough loss whole =
+run-good f archive bytes (passes s tables items e r) zero opens sound enough loss whole = absurd (omega (arith, enough, sound .before))
+run-good f archive bytes (passes s tables items e r) (suc steps) opens sound enough loss whole =
     let s′ = stepReply f archive tables s .state in
     let tables′ = stepTables f archive tables s in
     let rest = runFrom f archive steps s′ tables′ in
     let run = run-passes f archive steps s tables e in
     let l = loss-turn (keepsAt f archive (s .place)) (lossRefusal rest) (refusal 10 (s .place)) (rw run at loss) in
     let far : s .place + 8 ≤ s′ .place = nothing-advances f archive tables s e in
-    let good = run-good f archive bytes r steps (rw (changed-length tables (decisionOf f archive tables s .change)) door)
+    let good = run-good f archive bytes r steps (rw (changed-length tables (decisionOf f archive tables s .change)) opens)
     (step-sound f archive tables s sound) (omega (arith, enough, far)) (l .1) (rw run at whole) in
     record { suits = rw (passes-keep f archive s tables e) at (good .suits); plain = good .plain }
-run-good f archive bytes (shows s tables i items e r) zero door sound enough loss whole = absurd (omega (arith, enough, sound .before))
-run-good f archive bytes (shows s tables i items e r) (suc steps) door sound enough loss whole =
+run-good f archive bytes (shows s tables i items e r) zero opens sound enough loss whole = absurd (omega (arith, enough, sound .before))
+run-good f archive bytes (shows s tables i items e r) (suc steps) opens sound enough loss whole =
     let s′ = stepReply f archive tables s .state in
     let tables′ = stepTables f archive tables s in
     let rest = runFrom f archive steps s′ tables′ in
     let run = run-shows f archive steps s tables i e in
     let l = loss-turn (keepsAt f archive (s .place)) (lossRefusal rest) (refusal 10 (s .place)) (rw run at loss) in
     let u = unresolved-turn (itemUnresolved (some i)) (unresolvedRefusal rest) (refusal 11 (s .place)) (rw run at whole) in
-    let item : GoodItem f (contextsOf s) (some i) = rw e at (step-good f archive tables s door sound bytes (l .0)) in
+    let item : GoodItem f (contextsOf s) (some i) = rw e at (step-good f archive tables s opens sound bytes (l .0)) in
     let far = item-advances f archive tables s i e in
-    let good = run-good f archive bytes r steps (rw (changed-length tables (decisionOf f archive tables s .change)) door)
+    let good = run-good f archive bytes r steps (rw (changed-length tables (decisionOf f archive tables s .change)) opens)
     (step-sound f archive tables s sound) (omega (arith, enough, far)) (l .1) (u .1) in
     let here = item (u .0) in
     let same : contextsOf s′ ≡ after (contextsOf s) i = contexts-by-items f archive tables s ∙ ap (afterShown (contextsOf s)) e in
@@ -129,10 +131,10 @@ run-good f archive bytes (shows s tables i items e r) (suc steps) door sound eno
 -- ---- the first item
 
 -- an archive that opening takes begins with the magic
-door-magic : (f : Format) (archive : List ℕ) (room : ℕ) → doorOf f archive room ≡ 0 → startsWithMagic archive ≡ true
-unfolding doorOf
-door-magic f archive room =
-    on-pick P (ltb 16777216 (length archive)) _ _ (λ e z. absurd (omega arith))
+opening-magic : (f : Format) (archive : List ℕ) (room : ℕ) → openingNumber f archive room ≡ 0 → startsWithMagic archive ≡ true
+unfolding openingNumber archiveNumber
+opening-magic f archive room =
+    on-pick P (ltb longestArchive (length archive)) _ _ (λ e z. absurd (omega arith))
     (λ e. cases (startsWithMagic archive) (λ m z. m) (λ m. rw m (λ z. absurd (omega arith))))
   where
     P : ℕ → Type 0
@@ -153,7 +155,7 @@ begins f archive (passes s tables items e r) next shown =
 begins f archive (shows s tables i items e r) next shown =
     let first : some i ≡ some magic = sym e ∙ rw (shown .keeps) (shown .item) in
     let is : i ≡ magic = cc in
-    rw is tt
+    (items, rw is refl)
 
 -- ---- accepted archives
 
@@ -164,12 +166,15 @@ unfolding runOf
 accepted-writable archive items accepted bytes reads short =
     let f = smallFormat in
     let tables : List ℕ = replicate (tableWords f) 0 in
-    let door : doorOf f archive (length tables) ≡ 0 = rw (length-replicate {A = ℕ} (tableWords f) 0) (accepted .opened) in
+    let opens : openingNumber f archive (length tables) ≡ 0 = rw (length-replicate {A = ℕ} (tableWords f) 0) (accepted .opened) in
     let sound = fresh-sound f archive in
     let run = runFrom f archive (length archive / 8 + 1) opening tables in
     let passes = not-refused-passes f run (accepted .not-refused) in
-    let good = run-good f archive bytes (reads .1) (length archive / 8 + 1) door sound (omega arith) (passes .loss) (passes .whole) in
-    let shown = item-shown f archive tables opening [] door sound tt magic tt tt (magic-at archive (door-magic f archive (tableWords f) (accepted .opened))) in
+    let good = run-good f archive bytes (reads .1) (length archive / 8 + 1) opens sound (omega arith) (passes .loss) (passes .whole) in
+    let index = indexIn [] none in
+    let begins-so : At archive 0 (itemRecord index magic) =
+    rw (magic-record index) (magic-at archive (opening-magic f archive (tableWords f) (accepted .opened))) in
+    let shown = item-shown f archive tables opening [] opens sound tt magic tt (magic-fits f index) begins-so in
     let limits = limits-of f [] run refl (passes .limits) in
     let limited = limits-kept f (chosenIn (usesAll items)) (usesAll items) (usesAll items) (rw (reads-items f archive items reads) at limits) in
     record {

@@ -3,7 +3,7 @@
 -- Assumes nothing.
 use Prim.Native.Nat.{ℕ, _+_, _-_, _%_, _^_, _≤_, _<_}
 use mathlib.Core.Path.{_≡_, refl, sym, ap, subst, _∙_}
-use mathlib.Core.List.{List, [], _∷_}
+use mathlib.Core.List.{[], List, _∷_}
 use mathlib.Core.Option.{Option, none, some}
 use mathlib.Core.Logic.{_⊎_, inl, inr}
 use native.Mathlib.Omega.{arith}
@@ -14,15 +14,15 @@ use lib.Seq.{getD-set-other}
 use Rattle.words.specs.Word.{_of_}
 use Rattle.words.specs.Stream.{padded}
 use Rattle.words.proofs.Words.{At}
+use Rattle.words.proofs.Tests.{cases}
 use Rattle.format.specs.declared.Format.{Format}
 use Rattle.format.specs.declared.Reference.the-variants.{Index}
-use Rattle.arguments.proofs.Arguments.{cases}
 use Rattle.records.specs.declared.Content.{Content}
 use Rattle.records.specs.declared.Content.the-variants.{String, Thread}
 use Rattle.records.specs.Record.{recordAt}
 use Rattle.records.specs.Item.{thread, Key, textKey, threadKey, Use}
-use Rattle.records.specs.Written.{threadInline, partBytes}
-use Rattle.records.proofs.WrittenRecords.{StringFits, string-fits, string-read, thread-fits, thread-read, record-at, length-record}
+use Rattle.encoding.specs.Encoded.{threadInline, partBytes}
+use Rattle.encoding.proofs.EncodedRecords.{StringFits, string-fits, string-read, thread-fits, thread-read, record-at, length-record}
 use Rattle.contexts.specs.declared.State.{State}
 use Rattle.contexts.specs.Context.{providerOf}
 use Rattle.tables.specs.declared.Registration.the-variants.{Entry as Registered}
@@ -32,6 +32,7 @@ use Rattle.tables.proofs.Tables.{position-apart}
 use Rattle.reader.specs.Reads.{providerItem}
 use Rattle.reader.proofs.ByItems.{contextsOf}
 use Rattle.reader.proofs.Runs.{Sound, Grown}
+use Rattle.records.specs.Effect.{effectOf}
 use Rattle.rule.specs.Rule.{Entry, nextIndex, keyRecord}
 use Rattle.rule.proofs.Tables.{kindOf, Made, made-lt, next-grows, Every}
 
@@ -120,7 +121,7 @@ key-stands f archive place index (threadKey (thread p t)) fit at =
     ∙ rw (thread-read f index (thread p t) place (fit .0) (fit .1))
 
 key-registers : (index place : ℕ) (key : Key) → registrationOf (keyContent index place key) ≡ Registered (kindOf key) index (place + 8) (keyLength key)
-unfolding registrationOf
+unfolding registrationOf effectOf
 key-registers index place (textKey bytes) = refl
 key-registers index place (threadKey t) = refl
 

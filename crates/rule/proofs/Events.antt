@@ -2,7 +2,7 @@
 -- Assumes nothing.
 use Prim.Native.Nat.{ℕ, zero, suc, _+_, _-_, _%_, _≤_, _<_}
 use mathlib.Core.Path.{_≡_, refl, ap, _∙_}
-use mathlib.Core.List.{List, [], _∷_, _++_, append-assoc}
+use mathlib.Core.List.{[], List, _∷_, _++_, append-assoc}
 use mathlib.Core.Option.{Option, some}
 use native.Mathlib.Omega.{arith}
 use native.Mathlib.Nat.{add-zero}
@@ -12,19 +12,20 @@ use lib.Seq.{drop-append-seam}
 use Rattle.format.specs.declared.Format.{Format}
 use Rattle.arguments.specs.declared.Argued.the-variants.{Argument as Read}
 use Rattle.arguments.specs.Argument.{onArgued, numberedOf}
-use Rattle.records.specs.declared.Event.{Event as ReadEvent}
-use Rattle.records.specs.declared.Content.the-variants.{Event as EventRead}
+use Rattle.records.specs.declared.Report.{Report as ReadReport}
+use Rattle.records.specs.declared.Content.the-variants.{Report as ReportRead}
 use Rattle.records.specs.Record.{recordAt}
 use Rattle.records.specs.Item.{Argument, Key}
-use Rattle.records.specs.Written.{argumentRecord, argumentsRecords}
-use Rattle.records.proofs.WrittenArguments.{AllFit, AllSized, SpellsArguments, argumentAt, argumentsAt, argument-read}
+use Rattle.encoding.specs.Encoded.{argumentRecord, argumentsRecords}
+use Rattle.encoding.proofs.EncodedArguments.{AllFit, AllSized, SpellsArguments, argumentAt, argumentsAt, argument-read}
 use Rattle.contexts.specs.declared.State.{State}
 use Rattle.reader.specs.declared.Asked.the-variants.{Refused}
-use Rattle.reader.specs.Step.{doorOf}
-use Rattle.reader.specs.Ask.{shownArgument, askedEvent, askedPlace, argumentReply}
+use Rattle.reader.specs.Step.{openingNumber}
+use Rattle.reader.specs.Ask.{shownArgument, askedReport, askedPlace, argumentReply}
 use Rattle.reader.specs.Reads.{argumentItems}
-use Rattle.reader.proofs.NeverFour.{argument-never-bad, sound-belongs}
+use Rattle.reader.proofs.NeverFour.{none-bad, argument-tables, sound-belongs}
 use Rattle.reader.proofs.Runs.{Sound}
+use Rattle.records.specs.Lookups.{argumentLookups}
 use Rattle.rule.specs.Rule.{Entry, indexIn}
 use Rattle.rule.proofs.Tables.{Every}
 use Rattle.rule.proofs.Entries.{ContextIs, Standing}
@@ -33,16 +34,16 @@ use Rattle.rule.proofs.References.{text-shown, value-shown}
 -- ---- arguments
 
 -- right after an event the argument of a number is read from the event's bytes and shown
-pub asked-is : (f : Format) (archive tables : List ℕ) (s : State) (place number : ℕ) (e : ReadEvent) → Sound f archive s tables
-    → doorOf f archive (length tables) ≡ 0 → place % 8 ≡ 0 → recordAt f archive place ≡ record { content = EventRead e; next = s .place }
+pub asked-is : (f : Format) (archive tables : List ℕ) (s : State) (place number : ℕ) (e : ReadReport) → Sound f archive s tables
+    → openingNumber f archive (length tables) ≡ 0 → place % 8 ≡ 0 → recordAt f archive place ≡ record { content = ReportRead e; next = s .place }
     → number < e .count
     → argumentReply f archive tables s place number
     ≡ onArgued (numberedOf f number (take (s .place - e .arguments) (drop (e .arguments) archive)) (e .arguments)) (λ refused. Refused 4 (s .place))
     (λ a size. shownArgument f archive tables s a)
-unfolding argumentReply askedPlace askedEvent
-asked-is f archive tables s place number e sound door whole is l =
+unfolding argumentReply askedPlace askedReport
+asked-is f archive tables s place number e sound opens whole is l =
     rw (
-      eq-eqb (doorOf f archive (length tables)) 0 door,
+      eq-eqb (openingNumber f archive (length tables)) 0 opens,
       sound-belongs f archive tables s sound,
       eq-eqb (place % 8) 0 whole,
       is,
@@ -94,7 +95,7 @@ module _ (f : Format) (archive tables : List ℕ) (s : State) (table : List Entr
       rw (
         asks number (omega arith),
         here,
-        argument-never-bad f archive tables s (argumentAt index a at) sound,
+        none-bad f archive tables s (argumentLookups (argumentAt index a at ∷ [])) sound (argument-tables (argumentAt index a at ∷ [])),
         arguments-shown l (suc number) (at + size) (fit .1) (sized .1) (spelled .1) (omega arith) next,
         text-shown f archive tables s table provider (s .current) (s .place) sound own (omega arith) stands (a .name) (argumentAt index a at .name) (fit .0 .name)
             (spelled .0 .name),

@@ -2,34 +2,38 @@
 -- Assumes nothing.
 use Prim.Native.Nat.{ℕ, _*_}
 use mathlib.Core.Path.{_≡_, refl}
-use mathlib.Core.List.{List, [], _∷_, _++_}
+use mathlib.Core.List.{[], List, _∷_, _++_}
 use mathlib.Core.Bool.{true, false}
 use mathlib.Core.Option.{none, some}
 use lib.IntN.{negsuc}
 use lib.ListN.{length, replicate}
+use Rattle.effects.specs.Follow.{changed, followed, followedEntered, changeOf}
 use Rattle.words.specs.Word.{wordAt, little, bytesOf}
-use Rattle.words.specs.Stream.{magic as magicBytes, startsWithMagic}
+use Rattle.words.specs.Stream.{magic as magicBytes, startsWithMagic, partOf}
+use Rattle.registering.specs.Registers.{registers}
 use Rattle.format.specs.declared.Reference.the-variants.{Inline}
 use Rattle.format.specs.Limits.{smallFormat}
-use Rattle.format.specs.Header.{recordWords, extentOf}
-use Rattle.format.specs.Part.{takeWords, takeStream, takeText, takeThread, takePart, takeParts, paddingZero}
+use Rattle.format.specs.Header.{recordWords, extentOf, archiveNumber}
+use Rattle.format.specs.Part.{takeWords, takeStream, takeText, takeThread, takePart, takeParts, paddingZero, tableOf}
 use Rattle.arguments.specs.declared.Scalar.the-variants.{Null, Signed32, Unsigned32}
 use Rattle.arguments.specs.declared.Value.the-variants.{Scalar}
 use Rattle.arguments.specs.declared.Argued.the-variants.{Argument as ArgumentRead}
-use Rattle.arguments.specs.Argument.{headerScalar, holdsWord, argumentBody, argumentOf, argumentsOf, numberedOf}
+use Rattle.arguments.specs.Argument.{headerScalar, holdsWord, argumentBody, argumentOf, argumentsOf, numberedOf, argumentsRead}
 use Rattle.arguments.specs.Loss.{valueBytes, reservedBits, valuePaddingZero, argumentKeeps, argumentsKeep}
 use Rattle.records.specs.declared.Content.the-variants.{Refused, String, Skipped}
-use Rattle.records.specs.Record.{hasExtra, extraBytes, eventFields, eventExtra, eventOf, metadataOf, stringOf, contentOf, recordOf, recordAt}
-use Rattle.records.specs.Loss.{wordsKeep, streamKeeps, eventKeeps, recordKeeps}
-use Rattle.records.specs.Item.{known, Thread, thread, scalar, Item, magic, event, threadKey, keyWords}
+use Rattle.records.specs.Layout.{hasExtra, extraWords, isReport, layoutOf, ownOf, takeFields, lastWord, reportOf}
+use Rattle.records.specs.Record.{metadataOf, stringOf, contentOf, recordOf, recordAt}
+use Rattle.records.specs.Loss.{wordsKeep, streamKeeps, reportKeeps, recordKeeps}
+use Rattle.records.specs.Item.{known, Thread, thread, scalar, textReferent, threadReferent, Item, magic, report, threadKey, keyWords}
 use Rattle.contexts.specs.Context.{opening, belongsTo, providerOf}
 use Rattle.tables.specs.Table.{tableWords, highestOf, position, registrationOf, entryAt, resolved}
 use Rattle.reader.specs.declared.Answer.the-variants.{End}
-use Rattle.reader.specs.Shown.{isBad, shownText, shownThread, shownEvent, valueBad, argumentBad, argumentsFound, shownValue}
-use Rattle.reader.specs.Step.{doorOf, stopping, registering, eventDecision, contentDecision, placeDecision, decisionOf, changed, openReply}
-use Rattle.reader.specs.Ask.{shownArgument, askedEvent, askedPlace, argumentReply, partOf}
+use Rattle.reader.specs.Shown.{isBad, shownText, shownThread, shownReferent, shownStream, shownReport, shownValue, noneBad}
+use Rattle.reader.specs.Step.{openingNumber, stopping, contentDecision, placeDecision, decisionOf, openReply, reportAnswer, plainAnswer, effectDecision}
+use Rattle.reader.specs.Ask.{shownArgument, askedReport, askedPlace, argumentReply}
 use Rattle.reader.specs.Reads.{argumentItems, itemOf}
-use Rattle.rule.specs.Rule.{registers, rule}
+use Rattle.records.specs.Effect.{effectOf}
+use Rattle.rule.specs.Rule.{rule}
 use Rattle.rule.specs.Refusal.{ended, passed, runFrom, runOf, refusalOf, itemsOf, Accepted, writtenLength}
 
 -- the words of an archive, one after another
@@ -70,31 +74,31 @@ repacked =
 -- "E 0 - 100 1000000000 7 8 6:charge 3:sun 1" and "A 2 6:charge 42"
 abbrev nineEvent : Item
 nineEvent =
-    event (record {
+    report (record {
       provider = none;
-      type = 0;
-      timestamp = 100;
       rate = 1000000000;
-      thread = known (thread 7 8);
-      category = known charge;
-      name = known sun;
+      own = record { variant = 0; timestamp = 100 };
+      first = threadReferent (known (thread 7 8));
+      second = textReferent (known charge);
+      third = textReferent (known sun);
+      stream = [];
       arguments = record { name = known charge; value = scalar (Unsigned32 42) } ∷ [];
-      extra = 0;
+      last = 0;
     })
 
 -- an event that uses "sun" three times, and the thread of the nine words once
 abbrev elevenEvent : Item
 elevenEvent =
-    event (record {
+    report (record {
       provider = none;
-      type = 0;
-      timestamp = 100;
       rate = 1000000000;
-      thread = known (thread 7 8);
-      category = known sun;
-      name = known sun;
+      own = record { variant = 0; timestamp = 100 };
+      first = threadReferent (known (thread 7 8));
+      second = textReferent (known sun);
+      third = textReferent (known sun);
+      stream = [];
       arguments = record { name = known sun; value = scalar Null } ∷ [];
-      extra = 0;
+      last = 0;
     })
 
 -- K11 spelled inline: the magic, and that event with all three uses of "sun" inline. The event has eight words: its header, the timestamp, process
@@ -185,7 +189,14 @@ pub record Table : Type 0 where
 
 -- each by computation
 pub table : Table
-unfolding little wordAt bytesOf magicBytes startsWithMagic recordWords extentOf takeWords takeStream takeText takeThread takePart takeParts paddingZero headerScalar holdsWord argumentBody argumentOf argumentsOf numberedOf valueBytes reservedBits valuePaddingZero argumentKeeps argumentsKeep hasExtra extraBytes eventFields eventExtra eventOf metadataOf stringOf contentOf recordOf wordsKeep streamKeeps eventKeeps recordKeeps belongsTo providerOf highestOf position registrationOf entryAt resolved isBad shownText shownThread shownEvent valueBad argumentBad argumentsFound shownValue doorOf stopping registering eventDecision contentDecision placeDecision decisionOf changed shownArgument askedEvent askedPlace argumentReply partOf argumentItems itemOf registers rule runFrom runOf refusalOf
+unfolding little wordAt bytesOf magicBytes startsWithMagic recordWords extentOf takeWords takeStream takeText takeThread takePart takeParts
+    paddingZero headerScalar holdsWord argumentBody argumentOf argumentsOf numberedOf valueBytes reservedBits valuePaddingZero argumentKeeps
+    argumentsKeep hasExtra extraWords isReport layoutOf ownOf takeFields lastWord reportOf tableOf metadataOf stringOf contentOf recordOf wordsKeep
+    streamKeeps reportKeeps recordKeeps belongsTo providerOf highestOf position registrationOf entryAt resolved isBad shownText shownThread
+    shownReferent shownStream shownReport noneBad shownValue openingNumber archiveNumber stopping reportAnswer plainAnswer effectDecision
+    contentDecision followed followedEntered changeOf effectOf argumentsRead
+    placeDecision decisionOf changed shownArgument askedReport askedPlace argumentReply partOf argumentItems itemOf registers rule runFrom runOf
+    refusalOf
 table =
     record {
       k1 = refl;

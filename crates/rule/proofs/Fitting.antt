@@ -1,23 +1,26 @@
 -- Every item that is read of an archive of bytes, where nothing is lost and no reference is unresolved, has values that fit their fields, and suits
 -- the contexts that it is read in.
 -- Assumes nothing.
-use Prim.Native.Nat.{ℕ, zero, suc, _+_, _-_, _%_, _≤_, _<_}
+use Prim.Native.Nat.{ℕ, _*_, zero, suc, _+_, _-_, _%_, _^_, _≤_, _<_}
+use mathlib.Core.Logic.{_⊎_, inl, inr}
 use mathlib.Core.Path.{_≡_, refl, sym, ap, _∙_}
-use mathlib.Core.List.{List, [], _∷_}
-use mathlib.Core.Bool.{Bool, true, false, _&&_, _||_, true≢false}
+use mathlib.Core.List.{[], List, _∷_}
+use mathlib.Core.Bool.{true, false, _&&_, _||_, true≢false}
 use mathlib.Core.Option.{Option, none, some}
 use native.Mathlib.Omega.{arith}
-use borrow.Author.Tests.{eqb-false}
-use lib.Dec.{eqb, ltb, leb}
-use lib.ListN.{length, getD, take, drop, length-take}
-use lib.Seq.{drop-drop, take-nil}
-use Rattle.words.specs.Word.{pick}
-use Rattle.words.proofs.Words.{wordAt-lt}
+use borrow.Author.Tests.{eqb-false, le-leb}
+use lib.Dec.{eqb, ltb}
+use lib.ListN.{length, getD, take, drop, length-take, length-drop}
+use Rattle.effects.specs.Follow.{changed, followed, changeOf}
+use Rattle.reader.proofs.Changes.{enteringAs, showing, entering-decided}
+use Rattle.words.specs.Word.{pick, wordAt}
+use Rattle.words.proofs.Words.{AllBytes, bytes-left, bytes-before, wordAt-lt}
+use Rattle.words.proofs.Tests.{both-true, either-false, on-pick, cases}
 use Rattle.format.specs.declared.Format.{Format}
 use Rattle.format.specs.declared.Reference.{Reference}
 use Rattle.format.specs.declared.Reference.the-variants.{Inline, Index}
 use Rattle.format.specs.Part.{paddingZero}
-use Rattle.format.proofs.Parts.{on-pick}
+use Rattle.format.specs.Models.Bounds.{Inside}
 use Rattle.arguments.specs.declared.Value.{Value as ReadValue}
 use Rattle.arguments.specs.declared.Value.the-variants.{Scalar as ScalarValue, Text as TextValue}
 use Rattle.arguments.specs.declared.Argument.{Argument as ReadArgument}
@@ -25,13 +28,15 @@ use Rattle.arguments.specs.declared.Argued.{Argued}
 use Rattle.arguments.specs.declared.Argued.the-variants.{Refused as ArgumentRefused, Argument as ArgumentRead}
 use Rattle.arguments.specs.Argument.{onArgued, numberedOf}
 use Rattle.arguments.specs.Loss.{argumentsKeep}
-use Rattle.arguments.proofs.Arguments.{cases}
-use Rattle.records.specs.declared.Event.{Event as ReadEvent}
+use Rattle.records.specs.declared.Lookup.{Lookup}
+use Rattle.records.specs.declared.Report.{Report as ReadReport}
 use Rattle.records.specs.declared.Content.{Content}
-use Rattle.records.specs.declared.Content.the-variants.{Refused as ContentRefused, Magic, ProviderInfo, Section, ProviderEvent, Initialization, String, Thread as ThreadContent, Event as EventRead, Ignored, Skipped}
-use Rattle.records.specs.Record.{extraBytes, recordAt}
-use Rattle.records.specs.Loss.{EventInside, eventKeeps, recordKeeps}
-use Rattle.records.specs.Item.{thread, Argument, Item, providerInfo, section}
+use Rattle.records.specs.declared.Content.the-variants.{Refused as ContentRefused, Magic, ProviderInfo, Section, ProviderEvent, Initialization, String, Thread as ThreadContent, Report as ReportRead, Ignored, Skipped}
+use Rattle.records.specs.Layout.{layoutOf}
+use Rattle.records.specs.Record.{recordAt}
+use Rattle.records.specs.Loss.{reportKeeps, recordKeeps}
+use Rattle.records.specs.Models.Bounds.{ReportInside}
+use Rattle.records.specs.Item.{Argument, Item, providerInfo, section, Referent, referentTable, isUnresolved, valueUnresolved, argumentsUnresolved, referentUnresolved, ownBehind, lastWords}
 use Rattle.contexts.specs.declared.State.{State}
 use Rattle.contexts.specs.Context.{moved, entering}
 use Rattle.tables.specs.declared.Resolved.{Resolved}
@@ -40,35 +45,30 @@ use Rattle.tables.specs.Table.{highestOf, position, registrationOf, onRegistrat
 use Rattle.reader.specs.declared.ShownArgument.{ShownArgument}
 use Rattle.reader.specs.declared.Asked.the-variants.{Refused, Argument as ArgumentShown}
 use Rattle.reader.specs.declared.Answer.{Answer}
-use Rattle.reader.specs.declared.Answer.the-variants.{ProviderInfo as ProviderInfoShown, Section as SectionShown, Event as EventShown}
-use Rattle.reader.specs.declared.Change.the-variants.{Keep}
+use Rattle.reader.specs.declared.Answer.the-variants.{ProviderInfo as ProviderInfoShown, Section as SectionShown, Report as ReportShown}
+use Rattle.effects.specs.declared.Change.the-variants.{Keep}
 use Rattle.reader.specs.declared.Decision.{Decision}
-use Rattle.reader.specs.Shown.{shownText, shownThread, shownValue, argumentBad, shownEvent}
-use Rattle.reader.specs.Step.{doorOf, stopping, showing, enteringAs, registering, contentDecision, decisionOf, changed}
-use Rattle.reader.specs.Ask.{shownArgument, argumentReply, partOf}
-use Rattle.reader.specs.Reads.{textItem, threadItem, providerItem, valueItem, argumentItem, prepend, argumentItems, eventItem, itemOf}
+use Rattle.reader.specs.Shown.{shownText, shownThread, shownValue, shownReport, shownReferent, shownStream, noneBad}
+use Rattle.reader.specs.Step.{openingNumber, stopping, contentDecision, decisionOf, effectDecision, plainAnswer}
+use Rattle.reader.specs.Ask.{shownArgument, argumentReply}
+use Rattle.reader.specs.Reads.{textItem, threadItem, providerItem, valueItem, argumentItem, prepend, argumentItems, reportItem, itemOf, referentItem, streamItem}
 use Rattle.reader.proofs.ByItems.{contextsOf}
-use Rattle.reader.proofs.Lookups.{record-whole}
+use Rattle.reader.proofs.Lookups.{record-whole, ReportFits, report-fits}
+use Rattle.reader.proofs.NeverFour.{part-behind}
 use Rattle.reader.proofs.Runs.{Sound, step-sound}
-use Rattle.rule.specs.Refusal.{keepsAt, isUnresolved, valueUnresolved, argumentsUnresolved, itemUnresolved}
-use Rattle.rule.proofs.Bounds.{AllBytes, drop-bytes, take-bytes, TextShort, ValueBound, ArgumentBound, ArguedBound, number-bound, EventBound, ContentBound, record-bound}
+use Rattle.records.specs.Lookups.{argumentLookups}
+use Rattle.records.specs.Effect.{effectOf}
+use Rattle.words.specs.Stream.{partOf}
+use Rattle.rule.specs.Refusal.{keepsAt, itemUnresolved}
+use Rattle.arguments.proofs.Bounds.{TextShort, ValueBound, ArgumentBound, ArguedBound, number-bound}
+use Rattle.records.proofs.Bounds.{ReportBound, lengthOf, ContentBound, record-bound}
+use Rattle.encoding.proofs.EncodedParts.{AllWords}
+use Rattle.rule.proofs.LowerUses.{part-length}
 use Rattle.rule.proofs.Events.{asked-is}
-use Rattle.rule.proofs.Items.{ItemSuits, shownAt, event-decided, ninth-same, provider-moved, decision-is, end-is}
-use Rattle.rule.proofs.Uses.{both-true}
-use Rattle.rule.proofs.Plain.{TextPlain, ThreadPlain, ValuePlain, ArgumentsPlain, ItemPlain}
+use Rattle.rule.proofs.Items.{ItemSuits, shownAt, report-decided, ninth-same, provider-moved, decision-is, end-is}
+use Rattle.rule.proofs.Plain.{TextPlain, ThreadPlain, ValuePlain, ArgumentsPlain, ItemPlain, ReferentPlain}
 
 -- ---- references
-
--- what is answered for a place and length is no longer than that
-part-low : (archive : List ℕ) (place long : ℕ) → length (partOf archive place long) ≤ long
-unfolding partOf
-part-low archive place long =
-    on-pick P (leb place (length archive)) _ _
-    (λ e. on-pick P (leb long (length archive - place)) _ _ (λ e. omega (arith, length-take long (drop place archive))) (λ e. omega arith))
-    (λ e. omega arith)
-  where
-    P : List ℕ → Type 0
-    P l = length l ≤ long
 
 -- bytes that a reference stands for are short enough
 abbrev KnownShort : Format → Resolved → Type 0
@@ -77,7 +77,7 @@ KnownShort f (Known place long) = long ≤ f .longest
 KnownShort f (Unresolved index) = Unit {0}
 
 entry-short : (f : Format) (archive : List ℕ) (index entry limit : ℕ) → AllBytes archive → KnownShort f (entryAt f archive 2 index entry limit)
-unfolding entryAt registrationOf
+unfolding entryAt registrationOf effectOf
 entry-short f archive index entry limit bytes =
     on-pick (KnownShort f) (eqb (entry % 8) 0) _ _
     (λ e. on-pick (KnownShort f) (ltb limit (recordAt f archive entry .next)) _ _ (λ e. tt)
@@ -96,7 +96,7 @@ entry-short f archive index entry limit bytes =
     of-content (Initialization rate) h = tt
     of-content (String i at long) h = on-pick (KnownShort f) (eqb i index) _ _ (λ e. h) (λ e. tt)
     of-content (ThreadContent i at) h = tt
-    of-content (EventRead e) h = tt
+    of-content (ReportRead e) h = tt
     of-content Ignored h = tt
     of-content (Skipped type size) h = tt
 
@@ -114,7 +114,7 @@ text-plain : (f : Format) (archive : List ℕ) (r : Resolved) → KnownShort f r
     → TextPlain f (textItem archive (shownText r))
 unfolding shownText
 text-plain f archive Bad h e = true≢false e
-text-plain f archive (Known place long) h e = omega (arith, part-low archive place long)
+text-plain f archive (Known place long) h e = omega (arith, part-length archive place long)
 text-plain f archive (Unresolved index) h e = true≢false e
 
 thread-plain : (archive : List ℕ) (r : Resolved) → AllBytes archive → isUnresolved (threadItem (shownThread archive r)) ≡ false
@@ -123,6 +123,26 @@ unfolding shownThread
 thread-plain archive Bad bytes e = true≢false e
 thread-plain archive (Known place long) bytes e = (wordAt-lt archive place bytes, wordAt-lt archive (place + 8) bytes)
 thread-plain archive (Unresolved index) bytes e = true≢false e
+
+-- and so is what a record refers to
+referent-plain : (f : Format) (archive tables : List ℕ) (context limit table : ℕ) (r : Reference) → AllBytes archive → (table ≡ 2) ⊎ (table ≡ 3)
+    → (table ≡ 2 → TextShort f r) → referentUnresolved (referentItem archive (shownReferent archive table (resolved f archive tables context table limit r))) ≡ false
+    → ReferentPlain f (referentItem archive (shownReferent archive table (resolved f archive tables context table limit r)))
+    × (referentTable (referentItem archive (shownReferent archive table (resolved f archive tables context table limit r))) ≡ table)
+unfolding shownReferent
+referent-plain f archive tables context limit table r bytes (inl e) short =
+    rw e (λ u. (text-plain f archive (resolved f archive tables context 2 limit r) (resolved-short f archive tables context limit r bytes (short e)) u, refl))
+referent-plain f archive tables context limit table r bytes (inr e) short =
+    rw e (λ u. (thread-plain archive (resolved f archive tables context 3 limit r) bytes u, refl))
+
+-- a stream that stands in the archive is as long as it says
+stream-long : (archive : List ℕ) (from to : ℕ) (x : Reference) → Inside from to x → to ≤ length archive
+    → length (streamItem archive (shownStream x)) ≡ lengthOf x
+unfolding shownStream partOf
+stream-long archive from to (Inline place n) i l =
+    rw (le-leb place (length archive) (omega (arith, i .1)), le-leb n (length archive - place) (omega (arith, i .1)))
+    (omega (arith, length-take n (drop place archive), length-drop place archive, i .1))
+stream-long archive from to (Index index) i l = omega (arith, part-length archive 0 0)
 
 value-plain : (f : Format) (archive tables : List ℕ) (context limit : ℕ) (v : ReadValue) → AllBytes archive → ValueBound f v
     → valueUnresolved (valueItem archive (shownValue f archive tables context limit v)) ≡ false
@@ -133,10 +153,6 @@ value-plain f archive tables context limit (TextValue r) bytes h e =
     text-plain f archive (resolved f archive tables context 2 limit r) (resolved-short f archive tables context limit r bytes h) e
 
 -- ---- arguments
-
-either-false : (a b : Bool) → (a || b) ≡ false → (a ≡ false) × (b ≡ false)
-either-false true b e = absurd (true≢false e)
-either-false false b e = (refl, e)
 
 -- arguments that were asked for are so many, and plain where none is unresolved
 abbrev ArgumentsGood : Format → ℕ → Option (List Argument) → Type 0
@@ -152,8 +168,8 @@ module _ (f : Format) (archive tables : List ℕ) (s : State) (bytes : AllBytes 
       → ArgumentsGood f (suc count) (prepend archive (shownArgument f archive tables s a) l)
   unfolding shownArgument
   shown-good count a h l k =
-      on-pick (λ x. ArgumentsGood f (suc count) (prepend archive x l)) (argumentBad f archive tables (s .current) (s .place) a) _ _
-      (λ e. tt) (λ e. of-rest l k)
+      on-pick (λ x. ArgumentsGood f (suc count) (prepend archive x l))
+      (noneBad f archive tables (s .current) (s .place) (argumentLookups (a ∷ []))) _ _ (λ e. of-rest l k) (λ e. tt)
     where
       q : ShownArgument
       q = record {
@@ -191,30 +207,20 @@ module _ (f : Format) (archive tables : List ℕ) (s : State) (bytes : AllBytes 
 
 -- ---- events
 
-drop-take : (k n : ℕ) (l : List ℕ) → drop k (take n l) ≡ take (n - k) (drop k l)
-drop-take zero n l = let e : n - 0 ≡ n = omega arith in rw e
-drop-take (suc k) zero l = let e : 0 - suc k ≡ 0 = omega arith in rw e
-drop-take (suc k) (suc n) [] = sym (take-nil (suc n - suc k))
-drop-take (suc k) (suc n) (x ∷ xs) = let e : suc n - suc k ≡ n - k = omega arith in rw e (drop-take k n xs)
-
--- the part of a record from a place of it on is the part of the archive from there to the record's end
-part-behind : (archive : List ℕ) (place at next : ℕ) → place ≤ at
-    → drop (at - place) (take (next - place) (drop place archive)) ≡ take (next - at) (drop at archive)
-part-behind archive place at next h =
-    let there : place + (at - place) ≡ at = omega arith in
-    let left : next - place - (at - place) ≡ next - at = omega arith in
-    drop-take (at - place) (next - place) (drop place archive) ∙ rw (drop-drop (at - place) place archive, there, left)
+-- the word behind the arguments, if there is one, is a word
+last-small : (behind last : ℕ) → last < 256 ^ 8 → AllWords (lastWords behind last)
+last-small behind last h = on-pick AllWords (eqb behind 0) _ _ (λ e. tt) (λ e. (h, tt))
 
 -- an item that is shown, and not unresolved, suits its contexts and is plain
 abbrev pub GoodItem : Format → State → Option Item → Type 0
 GoodItem f c none = Unit {0}
 GoodItem f c (some i) = itemUnresolved (some i) ≡ false → ItemSuits c i × ItemPlain f i
 
-module _ (f : Format) (archive tables : List ℕ) (s : State) (door : doorOf f archive (length tables) ≡ 0) (sound : Sound f archive s tables)
-    (bytes : AllBytes archive) (q : ReadEvent) (next : ℕ)
-    (is : recordAt f archive (s .place) ≡ record { content = EventRead q; next = next }) (bound : EventBound f q)
-    (keeps : eventKeeps f (take (next - s .place) (drop (s .place) archive)) (s .place) q ≡ true)
-    (decided : decisionOf f archive tables s ≡ showing s (EventShown (shownAt f archive tables s q)) next) where
+module _ (f : Format) (archive tables : List ℕ) (s : State) (opens : openingNumber f archive (length tables) ≡ 0) (sound : Sound f archive s tables)
+    (bytes : AllBytes archive) (q : ReadReport) (next : ℕ)
+    (is : recordAt f archive (s .place) ≡ record { content = ReportRead q; next = next }) (bound : ReportBound f q)
+    (keeps : reportKeeps f (take (next - s .place) (drop (s .place) archive)) (s .place) q ≡ true)
+    (decided : decisionOf f archive tables s ≡ showing s (ReportShown (shownAt f archive tables s q)) next) where
   abbrev part : List ℕ
   part = take (next - q .arguments) (drop (q .arguments) archive)
 
@@ -222,58 +228,66 @@ module _ (f : Format) (archive tables : List ℕ) (s : State) (door : doorOf f a
   unfolding changed
   later = rw decided at (step-sound f archive tables s sound)
 
-  starts : s .place ≤ q .arguments
-  starts = let inside = record-whole f archive (s .place) .inside in let inside′ : EventInside (s .place) next q = rw is at inside in inside′ .behind
+  inside : ReportInside (s .place) next q
+  inside = rw is at (record-whole f archive (s .place) .inside)
 
-  kept : argumentsKeep f (q .count) part (q .arguments) (extraBytes (q .kind)) ≡ true
-  unfolding eventKeeps
+  low : next ≤ length archive
+  low = let h = record-whole f archive (s .place) .before (sound .before) in rw is at h
+
+  fits : ReportFits f (take (recordAt f archive (s .place) .next - s .place) (drop (s .place) archive)) (s .place) q
+  fits = report-fits f archive (s .place) q (ap (λ x. x .content) is)
+
+  abbrev behind : ℕ
+  behind = 8 * layoutOf (wordAt (take (next - s .place) (drop (s .place) archive)) 0) .behind
+
+  kept : argumentsKeep f (q .count) part (q .arguments) behind ≡ true
+  unfolding reportKeeps
   kept =
       let source = take (next - s .place) (drop (s .place) archive) in
-      let tail = argumentsKeep f (q .count) (drop (q .arguments - s .place) source) (q .arguments) (extraBytes (q .kind)) in
-      let name = paddingZero source (s .place) (q .name) in
-      let first = both-true (paddingZero source (s .place) (q .category)) (name && tail) keeps in
-      rw (part-behind archive (s .place) (q .arguments) next starts) at (both-true name tail (first .1) .1)
+      let tail = argumentsKeep f (q .count) (drop (q .arguments - s .place) source) (q .arguments) behind in
+      let one = paddingZero source (s .place) (q .first .reference) in
+      let two = paddingZero source (s .place) (q .second .reference) in
+      let three = paddingZero source (s .place) (q .third .reference) in
+      let stream = paddingZero source (s .place) (q .stream) in
+      let k0 = both-true (eqb (layoutOf (wordAt source 0) .reserved) 0) (one && (two && (three && (stream && tail)))) keeps in
+      let k1 = both-true one (two && (three && (stream && tail))) (k0 .1) in
+      let k2 = both-true two (three && (stream && tail)) (k1 .1) in
+      let k3 = both-true three (stream && tail) (k2 .1) in
+      rw (part-behind archive (s .place) (q .arguments) next (inside .behind)) at (both-true stream tail (k3 .1) .1)
 
-  event-good : GoodItem f (contextsOf s) (itemOf f archive tables (moved s next) (EventShown (shownAt f archive tables s q)))
-  unfolding itemOf shownEvent
-  event-good =
+  abbrev shownIn : Lookup → Referent
+  shownIn x = referentItem archive (shownReferent archive (x .table) (resolved f archive tables (s .current) (x .table) (s .place) (x .reference)))
+
+  report-good : GoodItem f (contextsOf s) (itemOf f archive tables (moved s next) (ReportShown (shownAt f archive tables s q)))
+  unfolding itemOf shownReport
+  report-good =
       of-arguments (argumentItems f archive tables (moved s next) (s .place) 0 (q .count))
       (arguments-good f archive tables (moved s next) bytes (s .place) (q .count) (q .arguments) part
-      (λ n low. asked-is f archive tables (moved s next) (s .place) n q later door (sound .whole) is low)
-      (λ n low. number-bound f n (q .count) part (q .arguments) (extraBytes (q .kind))
-      (take-bytes (next - q .arguments) (drop (q .arguments) archive) (drop-bytes (q .arguments) archive bytes)) low kept)
+      (λ n low. asked-is f archive tables (moved s next) (s .place) n q later opens (sound .whole) is low)
+      (λ n low. number-bound f n (q .count) part (q .arguments) behind
+      (bytes-before (next - q .arguments) (drop (q .arguments) archive) (bytes-left (q .arguments) archive bytes)) low kept)
       (q .count) 0 (omega arith))
     where
-      t : Resolved
-      t = resolved f archive tables (s .current) 3 (s .place) (q .thread)
-
-      c : Resolved
-      c = resolved f archive tables (s .current) 2 (s .place) (q .category)
-
-      n : Resolved
-      n = resolved f archive tables (s .current) 2 (s .place) (q .name)
-
       of-arguments : (l : Option (List Argument)) → ArgumentsGood f (q .count) l
-          → GoodItem f (contextsOf s) (eventItem archive (shownEvent archive s q t c n) l)
+          → GoodItem f (contextsOf s) (reportItem archive (shownAt f archive tables s q) l)
       of-arguments none k = tt
       of-arguments (some l) k = λ e.
-          let thread = threadItem (shownThread archive t) in
-          let category = textItem archive (shownText c) in
-          let name = textItem archive (shownText n) in
-          let e1 = either-false (isUnresolved thread) (isUnresolved category || (isUnresolved name || argumentsUnresolved l)) e in
-          let e2 = either-false (isUnresolved category) (isUnresolved name || argumentsUnresolved l) (e1 .1) in
-          let e3 = either-false (isUnresolved name) (argumentsUnresolved l) (e2 .1) in (
+          let long = stream-long archive (s .place) next (q .stream) (inside .stream) low in
+          let a = shownIn (q .first) in
+          let b = shownIn (q .second) in
+          let c = shownIn (q .third) in
+          let e1 = either-false (referentUnresolved a) (referentUnresolved b || (referentUnresolved c || argumentsUnresolved l)) e in
+          let e2 = either-false (referentUnresolved b) (referentUnresolved c || argumentsUnresolved l) (e1 .1) in
+          let e3 = either-false (referentUnresolved c) (argumentsUnresolved l) (e2 .1) in
+          let x = referent-plain f archive tables (s .current) (s .place) (q .first .table) (q .first .reference) bytes (fits .first .kinds) (bound .first) (e1 .0) in
+          let y = referent-plain f archive tables (s .current) (s .place) (q .second .table) (q .second .reference) bytes (fits .second .kinds) (bound .second) (e2 .0) in
+          let z = referent-plain f archive tables (s .current) (s .place) (q .third .table) (q .third .reference) bytes (fits .third .kinds) (bound .third) (e3 .0) in (
             (ap providerItem (sym (provider-moved s)), refl),
             record {
-              type = bound .kind;
-              timestamp = bound .timestamp;
-              thread = thread-plain archive t bytes (e1 .0);
-              category = text-plain f archive c (resolved-short f archive tables (s .current) (s .place) (q .category) bytes (bound .category)) (e2 .0);
-              name = text-plain f archive n (resolved-short f archive tables (s .current) (s .place) (q .name) bytes (bound .name)) (e3 .0);
-              count = omega (arith, k .0, bound .count);
+              suits = record { own = rw (x .1, y .1, z .1, long, k .0) (bound .suits); no-last = bound .no-last };
+              pieces = ((bound .suits .timestamp, tt), (x .0, (y .0, (z .0, (omega (arith, long, bound .stream), tt)))));
               arguments = k .1 (e3 .1);
-              extra = bound .extra;
-              no-extra = bound .no-extra;
+              last = last-small (ownBehind (q .own)) (q .last) (bound .last);
             },
           )
 
@@ -283,7 +297,7 @@ module _ (f : Format) (archive tables : List ℕ) (s : State) (door : doorOf f a
 abbrev pub StepGood : Format → List ℕ → List ℕ → State → Decision → Type 0
 StepGood f archive tables s d = GoodItem f (contextsOf s) (itemOf f archive (changed tables (d .change)) (d .state) (d .answer))
 
-module _ (f : Format) (archive tables : List ℕ) (s : State) (door : doorOf f archive (length tables) ≡ 0) (sound : Sound f archive s tables)
+module _ (f : Format) (archive tables : List ℕ) (s : State) (opens : openingNumber f archive (length tables) ≡ 0) (sound : Sound f archive s tables)
     (bytes : AllBytes archive) where
   abbrev next : ℕ
   next = recordAt f archive (s .place) .next
@@ -308,28 +322,39 @@ module _ (f : Format) (archive tables : List ℕ) (s : State) (door : doorOf f a
   content-good : (c : Content) → recordAt f archive (s .place) ≡ record { content = c; next = next } → ContentBound f c
       → recordKeeps f source (s .place) c ≡ true → decisionOf f archive tables s ≡ contentDecision f archive tables s c next
       → StepGood f archive tables s (contentDecision f archive tables s c next)
-  unfolding contentDecision recordKeeps itemOf registering changed
-  content-good (ContentRefused number) is b k d = stop-good number (s .place)
-  content-good Magic is b k d = λ u. (tt, tt)
+  unfolding contentDecision effectDecision plainAnswer noneBad followed changeOf effectOf recordKeeps itemOf changed
+  content-good (ContentRefused number) is b k d = absurd (true≢false (sym k))
+  content-good Magic is b k d = λ u. (tt, record { suits = tt; pieces = tt; arguments = tt; last = tt })
   content-good (ProviderInfo id at long) is b k d =
-      enter-good id (ProviderInfoShown id at long) (providerInfo id (partOf archive at long)) (λ t z. refl)
-      (λ n. (n, (b .0, omega (arith, part-low archive at long, b .1), omega (arith, part-low archive at long, b .2))))
-  content-good (Section id) is b k d = enter-good id (SectionShown id) (section id) (λ t z. refl) (λ n. (n, b))
-  content-good (ProviderEvent id e) is b k d = λ u. (tt, b)
-  content-good (Initialization rate) is b k d = λ u. (tt, b)
+      rw (entering-decided f s id next (ProviderInfoShown id at long))
+      (enter-good id (ProviderInfoShown id at long) (providerInfo id (partOf archive at long)) (λ t z. refl)
+      (λ n. (
+        n,
+        record {
+          suits = (b .0, omega (arith, part-length archive at long, b .1));
+          pieces = (omega (arith, part-length archive at long, b .2), tt);
+          arguments = tt;
+          last = tt;
+        },
+      )))
+  content-good (Section id) is b k d =
+      rw (entering-decided f s id next (SectionShown id))
+      (enter-good id (SectionShown id) (section id) (λ t z. refl) (λ n. (n, record { suits = b; pieces = tt; arguments = tt; last = tt })))
+  content-good (ProviderEvent id e) is b k d = λ u. (tt, record { suits = b; pieces = tt; arguments = tt; last = tt })
+  content-good (Initialization rate) is b k d = λ u. (tt, record { suits = tt; pieces = ((b, tt), tt); arguments = tt; last = tt })
   content-good (String index at long) is b k d = tt
   content-good (ThreadContent index at) is b k d = tt
-  content-good (EventRead q) is b k d =
-      let decided = event-decided f archive tables s q next sound d in
-      rw (sym d ∙ decided) (event-good f archive tables s door sound bytes q next is b k decided)
+  content-good (ReportRead q) is b k d =
+      let decided = report-decided f archive tables s q next sound (ap (λ x. x .content) is) d in
+      rw (sym d ∙ decided) (report-good f archive tables s opens sound bytes q next is b k decided)
   content-good Ignored is b k d = tt
   content-good (Skipped type size) is b k d = absurd (true≢false (sym k))
 
   -- what every step of a sound run shows over a record that loses nothing is good
   pub step-good : keepsAt f archive (s .place) ≡ true → StepGood f archive tables s (decisionOf f archive tables s)
   step-good k =
-      cases (eqb (s .place) (length archive)) (λ e. rw (end-is f archive tables s door sound e) (stop-good 0 (s .place)))
+      cases (eqb (s .place) (length archive)) (λ e. rw (end-is f archive tables s opens sound e) (stop-good 0 (s .place)))
       (λ e.
       let c = recordAt f archive (s .place) .content in
-      let d = decision-is f archive tables s c next door sound (eqb-false (s .place) (length archive) e) refl in
+      let d = decision-is f archive tables s c next opens sound (eqb-false (s .place) (length archive) e) refl in
       rw d (content-good c refl (record-bound f archive (s .place) bytes) k d))

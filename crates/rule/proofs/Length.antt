@@ -2,31 +2,30 @@
 -- Assumes nothing.
 use Prim.Native.Nat.{ℕ, _+_, _*_, _≤_, _<_}
 use mathlib.Core.Path.{_≡_, refl}
-use mathlib.Core.Bool.{Bool, true, false, not, cond, _||_, _&&_}
+use mathlib.Core.Bool.{Bool, not, cond, _&&_}
 use mathlib.Core.Option.{Option}
-use mathlib.Core.List.{List, [], _∷_, _++_}
+use mathlib.Core.List.{[], List, _∷_, _++_}
 use native.Mathlib.Omega.{arith}
 use lib.Dec.{eqb}
 use lib.ListN.{length, length-append}
 use borrow.Author.Tests.{ne-eqb}
-use Rattle.words.specs.Word.{pick, bytesOf, _of_}
+use Rattle.registering.proofs.Best.{best, costInOrder, useCost, cost-append, lower, attained}
+use Rattle.registering.proofs.Counting.{fresh, seenAfter, sum-scale, sum-append, member-after, seen-again, sum-members}
+use Rattle.registering.specs.Registers.{registers}
+use Rattle.registering.specs.Counting.{sumBy, member}
+use Rattle.words.proofs.Tests.{cases}
+use Rattle.words.specs.Word.{_of_}
 use Rattle.words.specs.Stream.{padded}
-use Rattle.words.proofs.Words.{length-bytesOf}
 use Rattle.words.proofs.Streams.{length-padded}
-use Rattle.arguments.specs.declared.Scalar.{Scalar}
-use Rattle.arguments.specs.declared.Scalar.the-variants.{Null, Signed32, Unsigned32, Signed64, Unsigned64, Double, Pointer, KernelObject, Boolean, Unknown}
-use Rattle.arguments.specs.Argument.{scalarWords}
-use Rattle.arguments.proofs.Arguments.{cases}
-use Rattle.records.specs.Record.{hasExtra}
-use Rattle.records.specs.Item.{Shown, known, unresolved, Thread, Text, Value, scalar, text, Argument, Event, Item, magic, providerInfo, section, providerEvent, initialization, event, skipped, Key, textKey, threadKey, keyWords, Use, textUses, threadUses, valueUses, argumentsUses, usesOf, valueWords, argumentsWords as fixedArguments, fixedWords}
-use Rattle.records.specs.Written.{threadInline, partBytes, writtenText, writtenThread, scalarParts, itemRecord}
-use Rattle.records.proofs.WrittenParts.{partWords, partsWords, length-part}
-use Rattle.records.proofs.WrittenRecords.{length-record, magic-record}
-use Rattle.records.proofs.WrittenArguments.{argumentsWords, writtenValue}
-use Rattle.records.proofs.WrittenEvents.{eventWords, extraWritten, length-event}
-use Rattle.rule.specs.Counting.{sumBy, member}
-use Rattle.rule.specs.Rule.{registers, sameUse, usesAll, Entry, indexIn, nextIndex, keyRecord, isNew, withUse, useBytes, tableAfter, registrations, providerOf, written, chosenIn, rule}
-use Rattle.rule.proofs.Best.{fresh, best, costInOrder, useCost, seenAfter, sum-scale, sum-append, member-after, cost-append, seen-again, sum-members, lower, attained}
+use Rattle.records.specs.Item.{Shown, known, unresolved, Thread, Text, Value, scalar, text, Argument, Referent, textReferent, threadReferent, Item, Piece, words, stream, refers}
+use Rattle.records.specs.Item.{ItemLayout, layoutOfItem, itemProvider, Key, textKey, threadKey, keyWords, Use, textUses, threadUses, referentUses, valueUses, argumentsUses, pieceUses, piecesUses, layoutUses, usesOf}
+use Rattle.records.specs.Models.Fixed.{valueWords, argumentsWords as fixedArguments, pieceWords, piecesWords, layoutFixed, fixedWords}
+use Rattle.encoding.specs.Encoded.{threadInline, partBytes, encodedText, encodedThread, encodedReferent, encodedPiece, encodedPieces, itemRecord}
+use Rattle.encoding.proofs.EncodedParts.{partWords, partsWords, length-part}
+use Rattle.encoding.proofs.EncodedRecords.{length-record}
+use Rattle.encoding.proofs.EncodedArguments.{argumentsWords, encodedValue, scalar-parts}
+use Rattle.encoding.proofs.EncodedLayouts.{layoutWords, length-layout}
+use Rattle.rule.specs.Rule.{sameUse, usesAll, Entry, indexIn, nextIndex, keyRecord, isNew, withUse, useBytes, tableAfter, registrations, recordsFrom, chosenIn, rule}
 use Rattle.rule.proofs.Uses.{same-use-eq, same-use-refl}
 
 -- ---- what a use costs
@@ -56,36 +55,21 @@ length-key-record index (textKey b) =
 length-key-record index (threadKey t) =
     omega (arith, length-record 3 (index of 8 ∷ 0 of 40 ∷ []) (partBytes (threadInline t)), length-part (threadInline t))
 
-scalar-parts : (s : Scalar) → partsWords (scalarParts s) ≡ scalarWords s
-scalar-parts Null = refl
-scalar-parts (Signed32 n) = refl
-scalar-parts (Unsigned32 n) = refl
-scalar-parts (Signed64 n) = refl
-scalar-parts (Unsigned64 n) = refl
-scalar-parts (Double n) = refl
-scalar-parts (Pointer n) = refl
-scalar-parts (KernelObject n) = refl
-scalar-parts (Boolean b) = refl
-scalar-parts (Unknown type) = refl
-
-extra-words : (type extra : ℕ) → partsWords (extraWritten type extra) ≡ pick (hasExtra type) 1 0
-extra-words type extra = cases (hasExtra type) (λ e. rw e) (λ e. rw e)
-
 module _ (index : Option ℕ → Key → ℕ) where
   text-words : (provider : Option ℕ) (t : Text)
-      → partWords (writtenText (index provider) t) ≡ sumBy (spelledWords index) (textUses provider t)
+      → partWords (encodedText (index provider) t) ≡ sumBy (spelledWords index) (textUses provider t)
   text-words provider (known []) = cases (eqb (index provider (textKey [])) 0) (λ e. rw e) (λ e. rw e)
   text-words provider (known (b ∷ bs)) =
       cases (eqb (index provider (textKey (b ∷ bs))) 0) (λ e. rw e (omega arith)) (λ e. rw e)
   text-words provider (unresolved i) = refl
 
   thread-words : (provider : Option ℕ) (t : Shown Thread)
-      → partWords (writtenThread (index provider) t) ≡ sumBy (spelledWords index) (threadUses provider t)
+      → partWords (encodedThread (index provider) t) ≡ sumBy (spelledWords index) (threadUses provider t)
   thread-words provider (known t) = cases (eqb (index provider (threadKey t)) 0) (λ e. rw e) (λ e. rw e)
   thread-words provider (unresolved i) = refl
 
   value-words : (provider : Option ℕ) (v : Value)
-      → partsWords (writtenValue (index provider) v) ≡ valueWords v + sumBy (spelledWords index) (valueUses provider v)
+      → partsWords (encodedValue (index provider) v) ≡ valueWords v + sumBy (spelledWords index) (valueUses provider v)
   value-words provider (scalar s) = omega (arith, scalar-parts s)
   value-words provider (text t) = omega (arith, text-words provider t)
 
@@ -106,48 +90,41 @@ module _ (index : Option ℕ → Key → ℕ) where
         sum-append f value others,
       )
 
-  event-words : (e : Event) → eventWords (index (e .provider)) e ≡ fixedWords (event e) + sumBy (spelledWords index) (usesOf (event e))
-  event-words e =
-      let f = spelledWords index in
-      let p = e .provider in
-      let thread = threadUses p (e .thread) in
-      let category = textUses p (e .category) in
-      let name = textUses p (e .name) in
-      let others = argumentsUses p (e .arguments) in
+  referent-words : (provider : Option ℕ) (s : Referent)
+      → partWords (encodedReferent (index provider) s) ≡ sumBy (spelledWords index) (referentUses provider s)
+  referent-words provider (textReferent t) = text-words provider t
+  referent-words provider (threadReferent t) = thread-words provider t
+
+  piece-words : (provider : Option ℕ) (p : Piece)
+      → partWords (encodedPiece (index provider) p) ≡ pieceWords p + sumBy (spelledWords index) (pieceUses provider p)
+  piece-words provider (words ns) = omega arith
+  piece-words provider (stream b) = omega arith
+  piece-words provider (refers x) = omega (arith, referent-words provider x)
+
+  pieces-words : (provider : Option ℕ) (ps : List Piece) (more : List Use)
+      → partsWords (encodedPieces (index provider) ps) + sumBy (spelledWords index) more
+      ≡ piecesWords ps + sumBy (spelledWords index) (piecesUses provider ps more)
+  pieces-words provider [] more = refl
+  pieces-words provider (p ∷ ps) more =
       omega (
         arith,
-        thread-words p (e .thread),
-        text-words p (e .category),
-        text-words p (e .name),
-        arguments-words p (e .arguments),
-        extra-words (e .type) (e .extra),
-        sum-append f thread (category ++ (name ++ others)),
-        sum-append f category (name ++ others),
-        sum-append f name others,
+        piece-words provider p,
+        pieces-words provider ps more,
+        sum-append (spelledWords index) (pieceUses provider p) (piecesUses provider ps more),
       )
 
--- the words of a skipped record; a written one has none of them
-abbrev pub skippedWords : Item → ℕ
-skippedWords magic = 0
-skippedWords (providerInfo id name) = 0
-skippedWords (section id) = 0
-skippedWords (providerEvent id e) = 0
-skippedWords (initialization rate) = 0
-skippedWords (event e) = 0
-skippedWords (skipped type size) = size
+  -- a record has its fixed words and those of the uses that have no index
+  pub layout-words : (l : ItemLayout) → layoutWords (index (l .provider)) l ≡ layoutFixed l + sumBy (spelledWords index) (layoutUses l)
+  layout-words l =
+      omega (
+        arith,
+        pieces-words (l .provider) (l .pieces) (argumentsUses (l .provider) (l .arguments)),
+        arguments-words (l .provider) (l .arguments),
+      )
 
--- an item's record has its fixed words and those of the uses that have no index; a skipped record is not written
-pub length-item : (index : Option ℕ → Key → ℕ) (i : Item)
-    → length (itemRecord (index (providerOf i)) i) + 8 * skippedWords i ≡ 8 * (fixedWords i + sumBy (spelledWords index) (usesOf i))
-length-item index magic = rw magic-record (omega (arith, length-record 0 (4 of 4 ∷ 0 of 4 ∷ 0x16547846 of 32 ∷ 0 of 8 ∷ []) []))
-length-item index (providerInfo id name) =
-    omega (arith, length-record 0 (1 of 4 ∷ id of 32 ∷ length name of 8 ∷ 0 of 4 ∷ []) (padded name), length-padded name)
-length-item index (section id) = omega (arith, length-record 0 (2 of 4 ∷ id of 32 ∷ 0 of 12 ∷ []) [])
-length-item index (providerEvent id e) = omega (arith, length-record 0 (3 of 4 ∷ id of 32 ∷ e of 4 ∷ 0 of 8 ∷ []) [])
-length-item index (initialization rate) =
-    omega (arith, length-record 1 (0 of 48 ∷ []) (bytesOf 8 rate), length-bytesOf 8 rate)
-length-item index (event e) = omega (arith, length-event (index (e .provider)) e, event-words index e)
-length-item index (skipped type size) = omega arith
+  -- and so an item's
+  pub length-item : (i : Item) → length (itemRecord (index (itemProvider i)) i) ≡ 8 * (fixedWords i + sumBy (spelledWords index) (usesOf i))
+  length-item i = omega (arith, length-layout (index (itemProvider i)) (layoutOfItem i), layout-words (layoutOfItem i))
 
 -- ---- the table of registrations
 
@@ -238,16 +215,16 @@ module _ (chosen : Use → Bool) where
   -- ---- all items
 
   -- items and the registrations before them take the items' fixed words, and the cost of their uses in order
-  pub length-written : (table : List Entry) (seen : List Use) (items : List Item) → Registered table seen
-      → length (written chosen table items) + 8 * sumBy skippedWords items
+  pub length-records : (table : List Entry) (seen : List Use) (items : List Item) → Registered table seen
+      → length (recordsFrom chosen table items)
       ≡ 8 * (sumBy fixedWords items + costInOrder sameUse inlineWords registerWords chosen seen (usesAll items))
-  length-written table seen [] r = refl
-  length-written table seen (i ∷ items) r =
+  length-records table seen [] r = refl
+  length-records table seen (i ∷ items) r =
       let us = usesOf i in
       let after = tableAfter chosen table us in
       let first = registrations chosen table us in
-      let own = itemRecord (indexIn after (providerOf i)) i in
-      let others = written chosen after items in
+      let own = itemRecord (indexIn after (itemProvider i)) i in
+      let others = recordsFrom chosen after items in
       omega (
         arith,
         length-append first (own ++ others),
@@ -255,26 +232,21 @@ module _ (chosen : Use → Bool) where
         length-registrations table seen us r,
         inline-after table seen us r,
         length-item (indexIn after) i,
-        length-written after (seenAfter seen us) items (uses-registered table seen us r),
+        length-records after (seenAfter seen us) items (uses-registered table seen us r),
         cost-append sameUse inlineWords registerWords chosen seen us (usesAll items),
       )
 
--- the bytes that the rule gives for any items, and the skipped words, which it does not write, are the fixed words and the least cost of the uses
-pub rule-length : (items : List Item)
-    → length (rule items) + 8 * sumBy skippedWords items ≡ 8 * (sumBy fixedWords items + bestWords (usesAll items))
+-- the bytes that the rule gives for any items are their fixed words and the least cost of their uses
+pub rule-length : (items : List Item) → length (rule items) ≡ 8 * (sumBy fixedWords items + bestWords (usesAll items))
 unfolding rule registers
 rule-length items =
     let uses = usesAll items in
     let chosen = chosenIn uses in
     omega (
       arith,
-      length-written chosen [] [] items (none-registered chosen),
+      length-records chosen [] [] items (none-registered chosen),
       attained sameUse same-use-eq same-use-refl inlineWords registerWords uses,
     )
-
--- so they are never more
-pub rule-length-le : (items : List Item) → length (rule items) ≤ 8 * (sumBy fixedWords items + bestWords (usesAll items))
-rule-length-le items = omega (arith, rule-length items)
 
 -- and whatever an archive registers, with those registrations and all other uses inline it is no shorter
 pub rule-least : (items : List Item) (registered : List Use)
@@ -283,7 +255,7 @@ pub rule-least : (items : List Item) (registered : List Use)
 rule-least items registered =
     omega (
       arith,
-      rule-length-le items,
+      rule-length items,
       lower sameUse same-use-eq same-use-refl inlineWords registerWords registered (usesAll items),
     )
 
@@ -301,34 +273,3 @@ rule-least-bytes items registered =
           (λ (u : Use). cond (member sameUse u registered) 0 (8 * keyWords (u .key))) (usesAll items)
           (λ u. cases (member sameUse u registered) (λ e. rw e) (λ e. rw e)),
     )
-
--- whether an item is a skipped record
-abbrev pub isSkipped : Item → Bool
-isSkipped magic = false
-isSkipped (providerInfo id name) = false
-isSkipped (section id) = false
-isSkipped (providerEvent id e) = false
-isSkipped (initialization rate) = false
-isSkipped (event e) = false
-isSkipped (skipped type size) = true
-
--- whether any item of a list is
-abbrev pub anySkipped : List Item → Bool
-anySkipped [] = false
-anySkipped (i ∷ items) = isSkipped i || anySkipped items
-
--- items of which none is skipped have no skipped words
-pub none-skipped : (items : List Item) → anySkipped items ≡ false → sumBy skippedWords items ≡ 0
-none-skipped [] h = refl
-none-skipped (magic ∷ items) h = omega (arith, none-skipped items h)
-none-skipped (providerInfo id name ∷ items) h = omega (arith, none-skipped items h)
-none-skipped (section id ∷ items) h = omega (arith, none-skipped items h)
-none-skipped (providerEvent id e ∷ items) h = omega (arith, none-skipped items h)
-none-skipped (initialization rate ∷ items) h = omega (arith, none-skipped items h)
-none-skipped (event e ∷ items) h = omega (arith, none-skipped items h)
-none-skipped (skipped type size ∷ items) h = cc
-
--- and are written in exactly their fixed words and the least cost of their uses
-pub rule-length-exact : (items : List Item) → anySkipped items ≡ false
-    → length (rule items) ≡ 8 * (sumBy fixedWords items + bestWords (usesAll items))
-rule-length-exact items h = omega (arith, rule-length items, none-skipped items h)

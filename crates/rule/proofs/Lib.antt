@@ -1,7 +1,5 @@
 pub mod Accepted
 pub mod Again
-pub mod Best
-pub mod Bounds
 pub mod Entries
 pub mod Events
 pub mod Examples
@@ -15,7 +13,6 @@ pub mod Numbers
 pub mod Plain
 pub mod ReadBack
 pub mod References
-pub mod Registers
 pub mod Tables
 pub mod Theorems
 pub mod Uses

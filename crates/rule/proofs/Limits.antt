@@ -2,19 +2,19 @@
 -- Assumes nothing.
 use Prim.Native.Nat.{ℕ, _+_, _≤_, _<_}
 use mathlib.Core.Path.{_≡_, refl, _∙_}
-use mathlib.Core.List.{List, [], _∷_, _++_, append-assoc, append-nil}
-use mathlib.Core.Bool.{Bool, true, false, cond, _&&_, _||_, true≢false}
+use mathlib.Core.List.{[], List, _∷_, _++_, append-assoc, append-nil}
+use mathlib.Core.Bool.{Bool, true, false, cond, _&&_}
 use mathlib.Core.Option.{Option, none, some}
 use native.Mathlib.Omega.{arith}
 use borrow.Author.Tests.{ltb-false, eqb-true, eqb-false}
 use lib.Dec.{eqb, ltb}
+use Rattle.words.proofs.Tests.{either-false, cases}
 use Rattle.format.specs.declared.Format.{Format}
-use Rattle.arguments.proofs.Arguments.{cases}
 use Rattle.records.specs.Item.{Item, Key, Use, usesOf}
-use Rattle.rule.specs.Counting.{member, keys}
+use Rattle.registering.specs.Counting.{keys, member}
+use Rattle.registering.proofs.Counting.{keys-ext, seen-again}
 use Rattle.rule.specs.Rule.{sameUse, sameProvider, sameKind, usesAll, Entry, indexIn, nextIndex, isNew, withUse, tableAfter}
 use Rattle.rule.specs.Refusal.{Run, ended, passed, alike, limitOf, passesLimit, itemUses, limitRefusal, itemsOf}
-use Rattle.rule.proofs.Best.{seen-again, keys-ext}
 use Rattle.rule.proofs.Length.{Registered, none-registered, is-new, use-registered, next-index-pos}
 use Rattle.rule.proofs.Tables.{Every, index-holds}
 use Rattle.rule.proofs.Uses.{same-provider-refl, same-kind-refl, same-use-eq, same-use-refl}
@@ -57,10 +57,6 @@ module _ (chosen : Use → Bool) where
   after-both table (u ∷ us) vs = after-both (withUse chosen table u) us vs
 
 -- ---- what number 12 lets pass
-
-either-false : (a b : Bool) → (a || b) ≡ false → (a ≡ false) × (b ≡ false)
-either-false true b e = absurd (true≢false e)
-either-false false b e = (refl, e)
 
 -- the next indexes of these uses are one above their tables' highest at most
 abbrev pub Limited : Format → List Entry → List Use → Type 0

@@ -3,173 +3,81 @@
 -- Assumes nothing.
 use Prim.Native.Nat.{ℕ, _+_, _-_, _*_, _≤_}
 use mathlib.Core.Path.{_≡_, refl, ap}
-use mathlib.Core.List.{List, [], _∷_, _++_}
+use mathlib.Core.List.{[], List, _∷_, _++_}
 use mathlib.Core.Bool.{Bool, true, false, cond, _||_}
 use mathlib.Core.Option.{Option, none, some}
 use mathlib.Core.Logic.{_⊎_, inl, inr}
 use native.Mathlib.Omega.{arith}
 use native.Mathlib.Nat.{zero-add, add-sub-cancel-left}
-use lib.Dec.{eqb, ltb}
-use lib.ListN.{length, take, drop, replicate, getD-replicate}
-use Rattle.words.specs.Word.{pick, wordAt, field}
-use Rattle.words.specs.Stream.{startsWithMagic}
+use lib.Dec.{eqb}
+use lib.ListN.{length, take, drop, replicate, length-replicate, getD-replicate}
+use lib.Seq.{length-take-le}
+use Rattle.records.proofs.Lookups.{AllRead}
+use Rattle.effects.specs.Follow.{changed, followed, changeOf}
+use Rattle.words.specs.Word.{wordAt}
+use Rattle.words.specs.Stream.{streamWords, partOf}
 use Rattle.words.proofs.Words.{wordAt-take}
+use Rattle.words.proofs.Tests.{on-pick, cases}
+use Rattle.registering.specs.Counting.{sumBy, member}
+use Rattle.registering.proofs.Counting.{sum-append}
 use Rattle.format.specs.declared.Format.{Format}
 use Rattle.format.specs.declared.Reference.{Reference}
+use Rattle.format.specs.declared.Reference.the-variants.{Inline, Index}
 use Rattle.format.specs.Header.{recordWords}
-use Rattle.format.specs.Part.{Part, words, stream, takeParts, Body, refused as bodyRefused, body, onBody, inlineBytes}
-use Rattle.format.proofs.Parts.{on-pick}
+use Rattle.format.specs.Part.{inlineBytes}
 use Rattle.format.proofs.Headers.{Whole, extent-read}
-use Rattle.arguments.specs.Argument.{Arguments, refused, arguments, argumentsOf, listed, walked}
-use Rattle.arguments.proofs.Arguments.{cases, argumentsBytes}
-use Rattle.records.specs.declared.Event.{Event}
-use Rattle.records.specs.declared.Fields.{Fields}
-use Rattle.records.specs.declared.Fields.the-variants.{Refused as FieldsRefused, Fields as FieldsRead}
-use Rattle.records.specs.declared.Extra.{Extra}
-use Rattle.records.specs.declared.Extra.the-variants.{Refused as ExtraRefused, Word}
+use Rattle.arguments.specs.Argument.{Arguments, refused, arguments, argumentsOf}
+use Rattle.arguments.specs.Models.Reading.{listed}
+use Rattle.arguments.proofs.Arguments.{argumentsBytes}
+use Rattle.records.specs.declared.Lookup.{Lookup}
+use Rattle.records.specs.declared.Report.{Report as ReadReport}
 use Rattle.records.specs.declared.Content.{Content}
-use Rattle.records.specs.declared.Content.the-variants.{Refused, Magic, ProviderInfo, Section, ProviderEvent, Initialization, String, Thread as ThreadContent, Event as EventRead, Ignored, Skipped}
-use Rattle.records.specs.Record.{hasExtra, extraBytes, eventFields, onFields, onWalked, onExtra, eventExtra, eventOf, providerInfoOf, metadataOf, initializationOf, stringOf, threadOf, contentOf, recordAt}
-use Rattle.records.specs.Item.{Argument as ArgumentItem, Item, magic, providerInfo, section, providerEvent, initialization, skipped, keyWords, Use, textUses, threadUses, argumentsUses, usesOf, fixedWords}
-use Rattle.records.specs.Loss.{ContentInside}
+use Rattle.records.specs.declared.Content.the-variants.{Refused, Magic, ProviderInfo, Section, ProviderEvent, Initialization, String, Thread as ThreadContent, Report as ReportRead, Ignored, Skipped}
+use Rattle.records.specs.Layout.{layoutOf}
+use Rattle.records.specs.Record.{recordAt}
+use Rattle.records.specs.Item.{Argument as ArgumentItem, Item, magic, providerInfo, section, providerEvent, initialization, skipped, keyWords, Use, referentUses, argumentsUses, usesOf, ownBehind}
+use Rattle.records.specs.Models.Fixed.{fixedWords}
+use Rattle.records.specs.Models.Bounds.{ContentInside}
 use Rattle.records.proofs.Contents.{contentBytes, RecordStands, record-read}
+use Rattle.records.proofs.Bounds.{SizeShown, size-shown}
+use Rattle.encoding.proofs.EncodedReports.{length-last, behind-few}
 use Rattle.contexts.specs.declared.State.{State}
 use Rattle.contexts.specs.Context.{opening, belongsTo, providerOf, moved, rated, inContext, withId, entering}
 use Rattle.tables.specs.declared.Registration.the-variants.{Entry}
-use Rattle.tables.specs.declared.Resolved.{Resolved}
 use Rattle.tables.specs.Table.{tableWords, highestOf, position, registrationOf, resolved}
 use Rattle.tables.proofs.Tables.{position-lt}
 use Rattle.reader.specs.declared.Answer.{Answer}
-use Rattle.reader.specs.declared.Answer.the-variants.{ProviderInfo as ProviderInfoShown, Section as SectionShown, Event as EventShown}
+use Rattle.reader.specs.declared.Answer.the-variants.{ProviderInfo as ProviderInfoShown, Section as SectionShown, Report as ReportShown, Nothing}
 use Rattle.reader.specs.declared.Decision.{Decision}
-use Rattle.reader.specs.Shown.{isBad, shownText, shownThread, shownEvent, argumentsFound}
-use Rattle.reader.specs.Step.{doorOf, stopping, showing, enteringAs, registering, eventDecision, contentDecision, placeDecision, decisionOf, changed}
-use Rattle.reader.specs.Ask.{partOf}
-use Rattle.reader.specs.Reads.{textItem, threadItem, argumentItems, eventItem, itemOf, Reads, ends, passes, shows, ReadsAs}
-use Rattle.reader.proofs.Lookups.{AllRead, ContentFits, content-fits}
-use Rattle.reader.proofs.Changes.{Kind, on-entering}
+use Rattle.reader.specs.Shown.{shownReferent, shownStream, shownReport, noneBad}
+use Rattle.reader.specs.Step.{openingNumber, stopping, contentDecision, placeDecision, decisionOf, stepReply, stepTables, effectDecision, reportAnswer, plainAnswer}
+use Rattle.reader.specs.Reads.{referentItem, streamItem, argumentItems, reportItem, itemOf, Reads, ends, passes, shows, ReadsAs}
+use Rattle.reader.proofs.Lookups.{ContentFits, content-fits, ReportFits, record-whole}
+use Rattle.reader.proofs.Changes.{Kind, on-entering, enteringAs, registering, showing, stop-decided, entering-decided}
 use Rattle.reader.proofs.NeverFour.{part-behind}
 use Rattle.reader.proofs.Runs.{Sound, fresh-sound, step-sound}
-use Rattle.rule.specs.Counting.{sumBy, member}
+use Rattle.records.specs.Effect.{effectOf}
+use Rattle.records.specs.Lookups.{reportLookups}
+use Rattle.records.proofs.Passes.{RecordNumber}
 use Rattle.rule.specs.Rule.{sameUse, usesAll}
-use Rattle.rule.proofs.Best.{sum-append}
 use Rattle.rule.proofs.Uses.{same-use-refl}
-use Rattle.rule.proofs.LowerUses.{registered, spelled, part-length, providerIn, keyAt, Holds, holds-new, holds-set, text-pays, thread-pays, ItemsPay, argumentsPart, items-pay}
-
--- ---- a skipped record has the size that is shown of it
-
--- where a content is a skipped record's, its size is n
-abbrev SizeShown : ℕ → Content → Type 0
-SizeShown n (Refused number) = Unit {0}
-SizeShown n Magic = Unit {0}
-SizeShown n (ProviderInfo id at long) = Unit {0}
-SizeShown n (Section id) = Unit {0}
-SizeShown n (ProviderEvent id event) = Unit {0}
-SizeShown n (Initialization rate) = Unit {0}
-SizeShown n (String index at long) = Unit {0}
-SizeShown n (ThreadContent index at) = Unit {0}
-SizeShown n (EventRead e) = Unit {0}
-SizeShown n Ignored = Unit {0}
-SizeShown n (Skipped type size) = size ≡ n
-
-size-body : (n : ℕ) (c : Content) → SizeShown n c → (b : Body) → SizeShown n (onBody b Refused (λ references next. c))
-size-body n c h (bodyRefused number) = tt
-size-body n c h (body references next) = h
-
-size-event : (n : ℕ) (f : Format) (source : List ℕ) (place : ℕ) → SizeShown n (eventOf f source place)
-unfolding eventOf
-size-event n f source place = of-fields (eventFields f header place (place + length source))
-  where
-    header : ℕ
-    header = wordAt source 0
-
-    event : (t c n : Reference) (first extra : ℕ) → Content
-    event t c n first extra =
-        EventRead (record {
-          kind = field 16 19 header;
-          timestamp = wordAt source 8;
-          thread = t;
-          category = c;
-          name = n;
-          count = field 20 23 header;
-          arguments = first;
-          extra = extra;
-        })
-
-    read : ℕ → Arguments
-    read first = argumentsOf f (field 20 23 header) (drop (first - place) source) first
-
-    of-extra : (t c m : Reference) (first : ℕ) (x : Extra) → SizeShown n (onExtra x Refused (event t c m first))
-    of-extra t c m first (ExtraRefused number) = tt
-    of-extra t c m first (Word extra) = tt
-
-    of-arguments : (t c m : Reference) (first : ℕ) (q : Arguments)
-        → SizeShown n (onWalked (walked q) Refused (λ last. onExtra (eventExtra f header source place last) Refused (event t c m first)))
-    of-arguments t c m first (refused number) = tt
-    of-arguments t c m first (arguments l last) = of-extra t c m first (eventExtra f header source place last)
-
-    of-fields : (x : Fields)
-        → SizeShown n
-        (onFields x Refused
-        (λ t c m first. onWalked (walked (read first)) Refused
-        (λ last. onExtra (eventExtra f header source place last) Refused (event t c m first))))
-    of-fields (FieldsRefused number) = tt
-    of-fields (FieldsRead t c m first) = of-arguments t c m first (read first)
-
--- every content of a record is so
-size-shown : (f : Format) (source : List ℕ) (place : ℕ) → SizeShown (recordWords (wordAt source 0)) (contentOf f source place)
-unfolding contentOf metadataOf providerInfoOf initializationOf stringOf threadOf
-size-shown f source place =
-    on-pick P (eqb (field 0 3 header) 0) _ _
-    (λ e. on-pick P (eqb (field 16 19 header) 1) _ _
-    (λ e. body-read (ProviderInfo (field 20 51 header) (place + 8) (field 52 59 header)) tt (stream (field 52 59 header)))
-    (λ e. on-pick P (eqb (field 16 19 header) 2) _ _ (λ e. tt)
-    (λ e. on-pick P (eqb (field 16 19 header) 3) _ _ (λ e. tt)
-    (λ e. on-pick P (eqb (field 16 23 header) 4) _ _ (λ e. on-pick P (startsWithMagic source) _ _ (λ e. tt) (λ e. tt)) (λ e. refl)))))
-    (λ e. on-pick P (eqb (field 0 3 header) 1) _ _ (λ e. body-read (Initialization (wordAt source 8)) tt (words 1))
-    (λ e. on-pick P (eqb (field 0 3 header) 2) _ _
-    (λ e. on-pick P (eqb (field 16 30 header) 0) _ _ (λ e. tt)
-    (λ e. on-pick P (ltb (f .highest) (field 16 30 header)) _ _ (λ e. tt)
-    (λ e. body-read (String (field 16 30 header) (place + 8) (field 32 46 header)) tt (stream (field 32 46 header)))))
-    (λ e. on-pick P (eqb (field 0 3 header) 3) _ _
-    (λ e. on-pick P (eqb (field 16 23 header) 0) _ _ (λ e. tt)
-    (λ e. body-read (ThreadContent (field 16 23 header) (place + 8)) tt (words 2)))
-    (λ e. on-pick P (eqb (field 0 3 header) 4) _ _
-    (λ e. on-pick P (ltb 10 (field 16 19 header)) _ _ (λ e. refl) (λ e. size-event n f source place))
-    (λ e. refl)))))
-  where
-    header : ℕ
-    header = wordAt source 0
-
-    n : ℕ
-    n = recordWords header
-
-    P : Content → Type 0
-    P = SizeShown n
-
-    body-read : (c : Content) → P c → (part : Part) → P (onBody (takeParts f (part ∷ []) (place + 8) (place + length source)) Refused (λ references next. c))
-    body-read c h part = size-body n c h (takeParts f (part ∷ []) (place + 8) (place + length source))
+use Rattle.rule.proofs.LowerUses.{registered, Cost, part-length, providerIn, keyAt, Holds, holds-new, holds-set, ItemsPay, argumentsPart, items-pay, referent-pays}
 
 -- ---- what an item costs
 
--- an event's extra word in words and in bytes
-extra-words : (type : ℕ) → 8 * pick (hasExtra type) 1 0 ≡ extraBytes type
-unfolding extraBytes
-extra-words type = cases (hasExtra type) (λ e. rw e) (λ e. rw e)
-
 -- an item costs no more than so many bytes
-abbrev ItemPays : List Use → ℕ → Option Item → Type 0
-ItemPays keys size none = Unit {0}
-ItemPays keys size (some i) = 8 * fixedWords i + sumBy (spelled keys) (usesOf i) ≤ size
+abbrev ItemPays : (Use → ℕ) → ℕ → Option Item → Type 0
+ItemPays cost size none = Unit {0}
+ItemPays cost size (some i) = 8 * fixedWords i + sumBy cost (usesOf i) ≤ size
 
 -- the list that an item, if a step shows one, stands in front of
 abbrev withItem : Option Item → List Item → List Item
 withItem none l = l
 withItem (some i) l = i ∷ l
 
--- all uses of these are uses of those
-abbrev Among : List Use → List Use → Type 0
-Among keys all = (u : Use) → member sameUse u keys ≡ true → member sameUse u all ≡ true
+-- these uses cost nothing
+abbrev Free : (Use → ℕ) → List Use → Type 0
+Free cost more = (u : Use) → member sameUse u more ≡ true → cost u ≡ 0
 
 member-first : (u : Use) (more : List Use) → member sameUse u (u ∷ more) ≡ true
 member-first u more = rw (same-use-refl u)
@@ -179,19 +87,21 @@ or-right true b e = refl
 or-right false b e = e
 
 module _ (f : Format) (b : List ℕ) where
-  -- an event that is shown costs no more than its record
-  event-pays : (s : State) (tables : List ℕ) (keys : List Use) (size : ℕ) (e : Event) → s .current ≤ s .count
-      → Holds f b (s .ids) (s .count) tables keys → recordAt f b (s .place) .content ≡ EventRead e → s .place ≤ e .arguments
-      → ContentFits f (take size (drop (s .place) b)) (s .place) (EventRead e)
-      → contentBytes f (take size (drop (s .place) b)) (s .place) (EventRead e) ≤ size
-      → ItemPays keys size
-      (eventItem b
-      (shownEvent b s e (resolved f b tables (s .current) 3 (s .place) (e .thread)) (resolved f b tables (s .current) 2 (s .place) (e .category))
-      (resolved f b tables (s .current) 2 (s .place) (e .name)))
+  -- a record that is shown costs no more than its record
+  report-pays : (s : State) (tables : List ℕ) (cost : Use → ℕ) (size : ℕ) (e : ReadReport) → Cost cost → s .current ≤ s .count
+      → Holds f b (s .ids) (s .count) tables cost → recordAt f b (s .place) .content ≡ ReportRead e → s .place ≤ e .arguments
+      → ReportFits f (take size (drop (s .place) b)) (s .place) e
+      → contentBytes f (take size (drop (s .place) b)) (s .place) (ReportRead e) ≤ size
+      → SizeShown (take size (drop (s .place) b)) (ReportRead e)
+      → ItemPays cost size
+      (reportItem b
+      (shownReport b s e (resolved f b tables (s .current) (e .first .table) (s .place) (e .first .reference))
+      (resolved f b tables (s .current) (e .second .table) (s .place) (e .second .reference))
+      (resolved f b tables (s .current) (e .third .table) (s .place) (e .third .reference)))
       (argumentItems f b tables (moved s (s .place + size)) (s .place) 0 (e .count)))
-  unfolding shownEvent providerOf extraBytes ItemsPay
-  event-pays s tables keys size e low held is behind fits pays =
-      of-arguments (argumentsOf f (e .count) (drop (e .arguments - s .place) (take size (drop (s .place) b))) (e .arguments)) (fits .1) pays
+  unfolding shownReport shownStream providerOf ItemsPay
+  report-pays s tables cost size e le low held is behind fits pays own =
+      of-arguments (argumentsOf f (e .count) (drop (e .arguments - s .place) (take size (drop (s .place) b))) (e .arguments)) (fits .read) pays
       (argumentItems f b tables (moved s (s .place + size)) (s .place) 0 (e .count)) items
     where
       context : ℕ
@@ -200,19 +110,22 @@ module _ (f : Format) (b : List ℕ) where
       part : drop (e .arguments - s .place) (take size (drop (s .place) b)) ≡ take (s .place + size - e .arguments) (drop (e .arguments) b)
       part = rw (add-sub-cancel-left (s .place) size) at (part-behind b (s .place) (e .arguments) (s .place + size) behind)
 
-      items : ItemsPay keys (providerIn (s .ids) context)
+      items : ItemsPay cost (providerIn (s .ids) context)
           (argumentsOf f (e .count) (drop (e .arguments - s .place) (take size (drop (s .place) b))) (e .arguments))
           (argumentItems f b tables (moved s (s .place + size)) (s .place) 0 (e .count))
       items = rw part
-          (items-pay f b (s .ids) (s .count) tables keys held context low (moved s (s .place + size)) refl (s .place) e is (e .count) 0
+          (items-pay f b (s .ids) (s .count) tables cost le held context low (moved s (s .place + size)) refl (s .place) e is (e .count) 0
           (argumentsPart b (s .place + size) e) (e .arguments) (λ k. rw (zero-add k)))
 
       of-arguments : (q : Arguments) → AllRead q
-          → 16 + inlineBytes (e .thread) + inlineBytes (e .category) + inlineBytes (e .name) + argumentsBytes (listed q) + extraBytes (e .kind) ≤ size
-          → (o : Option (List ArgumentItem)) → ItemsPay keys (providerIn (s .ids) context) q o
-          → ItemPays keys size (eventItem b
-          (shownEvent b s e (resolved f b tables context 3 (s .place) (e .thread)) (resolved f b tables context 2 (s .place) (e .category))
-          (resolved f b tables context 2 (s .place) (e .name))) o)
+          → 8 + 8 * layoutOf (wordAt (take size (drop (s .place) b)) 0) .words + inlineBytes (e .first .reference) + inlineBytes (e .second .reference)
+          + inlineBytes (e .third .reference) + inlineBytes (e .stream) + argumentsBytes (listed q)
+          + 8 * layoutOf (wordAt (take size (drop (s .place) b)) 0) .behind ≤ size
+          → (o : Option (List ArgumentItem)) → ItemsPay cost (providerIn (s .ids) context) q o
+          → ItemPays cost size (reportItem b
+          (shownReport b s e (resolved f b tables (s .current) (e .first .table) (s .place) (e .first .reference))
+          (resolved f b tables (s .current) (e .second .table) (s .place) (e .second .reference))
+          (resolved f b tables (s .current) (e .third .table) (s .place) (e .third .reference))) o)
       of-arguments q a h none k = tt
       of-arguments (refused number) a h (some l) k = absurd a
       of-arguments (arguments rs next) a h (some l) k =
@@ -220,54 +133,64 @@ module _ (f : Format) (b : List ℕ) where
             arith,
             h,
             k,
-            extra-words (e .kind),
-            sum-append (spelled keys) threads (categories ++ (names ++ argumentsUses (providerIn (s .ids) context) l)),
-            sum-append (spelled keys) categories (names ++ argumentsUses (providerIn (s .ids) context) l),
-            sum-append (spelled keys) names (argumentsUses (providerIn (s .ids) context) l),
-            thread-pays f b (s .ids) (s .count) tables keys held context low (s .place) (e .thread) (fits .0),
-            text-pays f b (s .ids) (s .count) tables keys held context low (s .place) (e .category),
-            text-pays f b (s .ids) (s .count) tables keys held context low (s .place) (e .name),
+            sum-append cost one (two ++ (three ++ argumentsUses (providerIn (s .ids) context) l)),
+            sum-append cost two (three ++ argumentsUses (providerIn (s .ids) context) l),
+            sum-append cost three (argumentsUses (providerIn (s .ids) context) l),
+            referent-pays f b (s .ids) (s .count) tables cost le held context low (s .place) (e .first) (fits .first),
+            referent-pays f b (s .ids) (s .count) tables cost le held context low (s .place) (e .second) (fits .second),
+            referent-pays f b (s .ids) (s .count) tables cost le held context low (s .place) (e .third) (fits .third),
+            stream-pays (e .stream),
+            own .0,
+            own .1,
+            length-last (ownBehind (e .own)) (e .last) (behind-few (e .own)),
           )
         where
-          threads : List Use
-          threads = threadUses (providerIn (s .ids) context) (threadItem (shownThread b (resolved f b tables context 3 (s .place) (e .thread))))
+          stream-pays : (x : Reference) → 8 * streamWords (length (streamItem b (shownStream x))) ≤ inlineBytes x
+          stream-pays (Inline place long) = omega (arith, part-length b place long)
+          stream-pays (Index i) = omega (arith, part-length b 0 0)
 
-          categories : List Use
-          categories = textUses (providerIn (s .ids) context) (textItem b (shownText (resolved f b tables context 2 (s .place) (e .category))))
+          shown : Lookup → List Use
+          shown x = referentUses (providerIn (s .ids) context) (referentItem b (shownReferent b (x .table) (resolved f b tables context (x .table) (s .place) (x .reference))))
 
-          names : List Use
-          names = textUses (providerIn (s .ids) context) (textItem b (shownText (resolved f b tables context 2 (s .place) (e .name))))
+          one : List Use
+          one = shown (e .first)
+
+          two : List Use
+          two = shown (e .second)
+
+          three : List Use
+          three = shown (e .third)
 
   -- ---- steps
 
-  -- from a state and its tables on, the bytes of these items, of some registrations and of the uses of other keys follow
-  Paid : State → List ℕ → List Item → Type 0
-  Paid s tables l =
+  -- from a state and its tables on, the bytes of these items, of some registrations and of the uses of other keys stand before this place
+  Paid : ℕ → State → List ℕ → List Item → Type 0
+  Paid end s tables l =
       (more : List Use)
-      × ((keys : List Use) → Holds f b (s .ids) (s .count) tables keys → Among more keys
-      → s .place + 8 * sumBy fixedWords l + sumBy registered more + sumBy (spelled keys) (usesAll l) ≤ length b)
+      × ((cost : Use → ℕ) → Cost cost → Holds f b (s .ids) (s .count) tables cost → Free cost more
+      → s .place + 8 * sumBy fixedWords l + sumBy registered more + sumBy cost (usesAll l) ≤ end)
 
   -- where what follows a step is paid, that and the step's item are paid from the state before it
   Stepped : State → List ℕ → Decision → Type 0
   Stepped s tables d =
-      (l : List Item) → Paid (d .state) (changed tables (d .change)) l
-      → Paid s tables (withItem (itemOf f b (changed tables (d .change)) (d .state) (d .answer)) l)
+      (end : ℕ) (l : List Item) → Paid end (d .state) (changed tables (d .change)) l
+      → Paid end s tables (withItem (itemOf f b (changed tables (d .change)) (d .state) (d .answer)) l)
 
   -- a step that ends or is refused
   stays : (s : State) (tables : List ℕ) (number place : ℕ) → Stepped s tables (stopping s number place)
   unfolding Stepped Paid stopping itemOf changed
-  stays s tables number place l p = p
+  stays s tables number place end l p = p
 
   -- a step that leaves the tables, and whose item costs no more than its record
   moves : (s s′ : State) (tables : List ℕ) (size : ℕ) (o : Option Item) → s′ .place ≡ s .place + size
-      → ((keys : List Use) → Holds f b (s .ids) (s .count) tables keys → Holds f b (s′ .ids) (s′ .count) tables keys)
-      → ((keys : List Use) → Holds f b (s .ids) (s .count) tables keys → ItemPays keys size o) → (l : List Item) → Paid s′ tables l
-      → Paid s tables (withItem o l)
+      → ((cost : Use → ℕ) → Holds f b (s .ids) (s .count) tables cost → Holds f b (s′ .ids) (s′ .count) tables cost)
+      → ((cost : Use → ℕ) → Cost cost → Holds f b (s .ids) (s .count) tables cost → ItemPays cost size o)
+      → (end : ℕ) (l : List Item) → Paid end s′ tables l → Paid end s tables (withItem o l)
   unfolding Paid
-  moves s s′ tables size none e g h l p = (p .0, λ keys held among. omega (arith, e, p .1 keys (g keys held) among))
-  moves s s′ tables size (some i) e g h l p = (
+  moves s s′ tables size none e g h end l p = (p .0, λ cost le held free. omega (arith, e, p .1 cost le (g cost held) free))
+  moves s s′ tables size (some i) e g h end l p = (
     p .0,
-    λ keys held among. omega (arith, e, h keys held, p .1 keys (g keys held) among, sum-append (spelled keys) (usesOf i) (usesAll l)),
+    λ cost le held free. omega (arith, e, h cost le held, p .1 cost le (g cost held) free, sum-append cost (usesOf i) (usesAll l)),
   )
 
   -- a step that registers a key
@@ -275,13 +198,13 @@ module _ (f : Format) (b : List ℕ) where
       → registrationOf (recordAt f b (s .place) .content) ≡ Entry kind index at long → 8 * (1 + keyWords (keyAt b kind at long)) ≤ size
       → Stepped s tables (registering f s kind index (s .place + size))
   unfolding Stepped Paid registering itemOf changed
-  registers-key s tables size kind index at long h k i r c l p = (
+  registers-key s tables size kind index at long h k i r c end l p = (
     u ∷ p .0,
-    λ keys held among. omega (
+    λ cost le held free. omega (
       arith,
       c,
-      p .1 keys (holds-set f b s tables kind index at long keys h k i r (among u (member-first u (p .0))) held)
-          (λ v m. among v (or-right (sameUse v u) (member sameUse v (p .0)) m)),
+      p .1 cost le (holds-set f b s tables kind index at long cost h k i r (free u (member-first u (p .0))) held)
+          (λ v m. free v (or-right (sameUse v u) (member sameUse v (p .0)) m)),
     ),
   )
     where
@@ -295,94 +218,86 @@ module _ (f : Format) (b : List ℕ) where
 
     -- a step that makes an id current
     enters : (id : ℕ) (answer : Answer) (i : Item) → ((t : List ℕ) (z : State) → itemOf f b t z answer ≡ some i)
-        → ((keys : List Use) → ItemPays keys size (some i)) → Stepped s tables (enteringAs s (entering s id (s .place + size)) answer)
+        → ((cost : Use → ℕ) → ItemPays cost size (some i)) → Stepped s tables (enteringAs s (entering s id (s .place + size)) answer)
     unfolding Stepped changed
     enters id answer i is pays =
         on-entering (Stepped s tables) s id (s .place + size) answer (stays s tables 9 (s .place))
-        (λ n e l p. rw (is tables (inContext s (n + 1) (s .place + size)))
-        (moves s (inContext s (n + 1) (s .place + size)) tables size (some i) refl (λ keys held. held) (λ keys held. pays keys) l p))
-        (λ e z l p. rw (is tables (withId s id (s .place + size)))
-        (moves s (withId s id (s .place + size)) tables size (some i) refl (λ keys held. holds-new f b s tables id keys sound z held)
-        (λ keys held. pays keys) l p))
+        (λ n e end l p. rw (is tables (inContext s (n + 1) (s .place + size)))
+        (moves s (inContext s (n + 1) (s .place + size)) tables size (some i) refl (λ cost held. held) (λ cost le held. pays cost) end l p))
+        (λ e z end l p. rw (is tables (withId s id (s .place + size)))
+        (moves s (withId s id (s .place + size)) tables size (some i) refl (λ cost held. holds-new f b s tables id cost sound z held)
+        (λ cost le held. pays cost) end l p))
 
-    -- an event that is shown
-    event-shows : (e : Event) → recordAt f b (s .place) .content ≡ EventRead e → contentBytes f source (s .place) (EventRead e) ≤ size
-        → ContentFits f source (s .place) (EventRead e) → s .place ≤ e .arguments
+    -- a record that is shown
+    report-shows : (e : ReadReport) → recordAt f b (s .place) .content ≡ ReportRead e → contentBytes f source (s .place) (ReportRead e) ≤ size
+        → ReportFits f source (s .place) e → s .place ≤ e .arguments → SizeShown source (ReportRead e)
         → Stepped s tables
         (showing s
-        (EventShown
-        (shownEvent b s e (resolved f b tables (s .current) 3 (s .place) (e .thread)) (resolved f b tables (s .current) 2 (s .place) (e .category))
-        (resolved f b tables (s .current) 2 (s .place) (e .name))))
+        (ReportShown
+        (shownReport b s e (resolved f b tables (s .current) (e .first .table) (s .place) (e .first .reference))
+        (resolved f b tables (s .current) (e .second .table) (s .place) (e .second .reference))
+        (resolved f b tables (s .current) (e .third .table) (s .place) (e .third .reference))))
         (s .place + size))
-    unfolding Stepped changed itemOf shownEvent source
-    event-shows e is pays fits behind =
+    unfolding Stepped changed itemOf shownReport source
+    report-shows e is pays fits behind own =
         moves s (moved s (s .place + size)) tables size
-        (eventItem b
-        (shownEvent b s e (resolved f b tables (s .current) 3 (s .place) (e .thread)) (resolved f b tables (s .current) 2 (s .place) (e .category))
-        (resolved f b tables (s .current) 2 (s .place) (e .name)))
+        (reportItem b
+        (shownReport b s e (resolved f b tables (s .current) (e .first .table) (s .place) (e .first .reference))
+        (resolved f b tables (s .current) (e .second .table) (s .place) (e .second .reference))
+        (resolved f b tables (s .current) (e .third .table) (s .place) (e .third .reference)))
         (argumentItems f b tables (moved s (s .place + size)) (s .place) 0 (e .count)))
-        refl (λ keys held. held) (λ keys held. event-pays s tables keys size e (sound .current) held is behind fits pays)
+        refl (λ cost held. held) (λ cost le held. report-pays s tables cost size e le (sound .current) held is behind fits pays own)
 
     -- an event
-    event-steps : (e : Event) → recordAt f b (s .place) .content ≡ EventRead e → contentBytes f source (s .place) (EventRead e) ≤ size
-        → ContentFits f source (s .place) (EventRead e) → s .place ≤ e .arguments
-        → Stepped s tables (eventDecision f b tables s e (s .place + size))
-    unfolding eventDecision source
-    event-steps e is pays fits behind =
-        on-pick P (isBad t) _ _ (λ q. stays s tables 4 (s .place))
-        (λ q. on-pick P (isBad c) _ _ (λ q. stays s tables 4 (s .place))
-        (λ q. on-pick P (isBad n) _ _ (λ q. stays s tables 4 (s .place))
-        (λ q. on-pick P (argumentsFound f b tables (s .current) (s .place) (e .count) _ (e .arguments)) _ _
-        (λ q. event-shows e is pays fits behind) (λ q. stays s tables 4 (s .place)))))
-      where
-        P : Decision → Type 0
-        P = Stepped s tables
-
-        t : Resolved
-        t = resolved f b tables (s .current) 3 (s .place) (e .thread)
-
-        c : Resolved
-        c = resolved f b tables (s .current) 2 (s .place) (e .category)
-
-        n : Resolved
-        n = resolved f b tables (s .current) 2 (s .place) (e .name)
+    report-steps : (e : ReadReport) → recordAt f b (s .place) .content ≡ ReportRead e → contentBytes f source (s .place) (ReportRead e) ≤ size
+        → ReportFits f source (s .place) e → s .place ≤ e .arguments → SizeShown source (ReportRead e)
+        → Stepped s tables (contentDecision f b tables s (ReportRead e) (s .place + size))
+    unfolding contentDecision effectDecision reportAnswer followed changeOf effectOf source
+    report-steps e is pays fits behind own =
+        on-pick (Stepped s tables) (noneBad f b tables (s .current) (s .place) (reportLookups f b e (s .place + size))) _ _
+        (λ q. report-shows e is pays fits behind own) (λ q. stays s tables 4 (s .place))
 
     -- a step by what stands in its record
     content-steps : (c : Content) → recordAt f b (s .place) .content ≡ c → contentBytes f source (s .place) c ≤ size
-        → ContentFits f source (s .place) c → ContentInside (s .place) (s .place + size) c → SizeShown (recordWords (wordAt source 0)) c
+        → ContentFits f source (s .place) c → ContentInside (s .place) (s .place + size) c → SizeShown source c
         → Stepped s tables (contentDecision f b tables s c (s .place + size))
-    unfolding contentDecision Stepped itemOf changed registrationOf source
-    content-steps (Refused number) e p h i n = stays s tables number (s .place)
-    content-steps Magic e p h i n = moves s (moved s (s .place + size)) tables size (some magic) refl (λ keys held. held) (λ keys held. omega arith)
+    unfolding contentDecision effectDecision plainAnswer noneBad followed changeOf effectOf registering Stepped itemOf changed registrationOf source
+    content-steps (Refused number) e p h i n =
+        rw (stop-decided f s number (s .place + size) Nothing (h .0)) (stays s tables number (s .place))
+    content-steps Magic e p h i n = moves s (moved s (s .place + size)) tables size (some magic) refl (λ cost held. held) (λ cost le held. omega arith)
     content-steps (ProviderInfo id at long) e p h i n =
-        enters id (ProviderInfoShown id at long) (providerInfo id (partOf b at long)) (λ t z. refl) (λ keys. omega (arith, p, part-length b at long))
-    content-steps (Section id) e p h i n = enters id (SectionShown id) (section id) (λ t z. refl) (λ keys. omega (arith, p))
+        rw (entering-decided f s id (s .place + size) (ProviderInfoShown id at long))
+        (enters id (ProviderInfoShown id at long) (providerInfo id (partOf b at long)) (λ t z. refl)
+        (λ cost. omega (arith, p, part-length b at long)))
+    content-steps (Section id) e p h i n =
+        rw (entering-decided f s id (s .place + size) (SectionShown id))
+        (enters id (SectionShown id) (section id) (λ t z. refl) (λ cost. omega (arith, p)))
     content-steps (ProviderEvent id event) e p h i n =
-        moves s (moved s (s .place + size)) tables size (some (providerEvent id event)) refl (λ keys held. held) (λ keys held. omega arith)
+        moves s (moved s (s .place + size)) tables size (some (providerEvent id event)) refl (λ cost held. held) (λ cost le held. omega arith)
     content-steps (Initialization rate) e p h i n =
-        moves s (rated s rate (s .place + size)) tables size (some (initialization rate)) refl (λ keys held. held) (λ keys held. omega arith)
+        moves s (rated s rate (s .place + size)) tables size (some (initialization rate)) refl (λ cost held. held) (λ cost le held. omega arith)
     content-steps (String index at long) e p h i n =
         registers-key s tables size 2 index at long sound (inl refl) (h .1) (rw e) (omega (arith, part-length b at long))
     content-steps (ThreadContent index at) e p h i n =
         registers-key s tables size 3 index at 16 sound (inr refl) (h .1) (rw e) (omega arith)
-    content-steps (EventRead ev) e p h i n = event-steps ev e p h (i .behind)
-    content-steps Ignored e p h i n = moves s (moved s (s .place + size)) tables size none refl (λ keys held. held) (λ keys held. tt)
+    content-steps (ReportRead ev) e p h i n = report-steps ev e p h (i .behind) n
+    content-steps Ignored e p h i n = moves s (moved s (s .place + size)) tables size none refl (λ cost held. held) (λ cost le held. tt)
     content-steps (Skipped type long) e p h i n =
-        moves s (moved s (s .place + size)) tables size (some (skipped type long)) refl (λ keys held. held)
-        (λ keys held. omega (arith, n, w .is, ap recordWords (wordAt-take (drop (s .place) b) 0 size (w .some))))
+        moves s (moved s (s .place + size)) tables size (some (skipped type long)) refl (λ cost held. held)
+        (λ cost le held. omega (arith, n, w .is, w .some, length-replicate {A = ℕ} (long - 1) 0, ap recordWords (wordAt-take (drop (s .place) b) 0 size (w .some))))
       where
         w : Whole (drop (s .place) b) size
         w = extent-read (drop (s .place) b) size (r .extent)
 
   -- every step from a sound state
   step-pays : (s : State) (tables : List ℕ) → Sound f b s tables → Stepped s tables (decisionOf f b tables s)
-  unfolding decisionOf placeDecision contentDecision source
+  unfolding decisionOf placeDecision contentDecision noneBad plainAnswer effectOf source
   step-pays s tables sound =
-      on-pick P (eqb (doorOf f b (length tables)) 0) _ _
+      on-pick P (eqb (openingNumber f b (length tables)) 0) _ _
       (λ e. on-pick P (belongsTo s (length b)) _ _
       (λ e. on-pick P (eqb (s .place) (length b)) _ _ (λ e. stays s tables 0 (s .place)) (λ e. of-record (record-read f b (s .place))))
       (λ e. stays s tables 4 (s .place)))
-      (λ e. stays s tables (doorOf f b (length tables)) 0)
+      (λ e. stays s tables (openingNumber f b (length tables)) 0)
     where
       P : Decision → Type 0
       P = Stepped s tables
@@ -390,21 +305,41 @@ module _ (f : Format) (b : List ℕ) where
       of-record : ((number : ℕ) × (recordAt f b (s .place) ≡ record { content = Refused number; next = s .place }))
           ⊎ ((size : ℕ) × RecordStands f b (s .place) size (recordAt f b (s .place)))
           → P (contentDecision f b tables s (recordAt f b (s .place) .content) (recordAt f b (s .place) .next))
-      of-record (inl (number, e)) = rw e (stays s tables number (s .place))
+      of-record (inl (number, e)) =
+          let whole = record-whole f b (s .place) .holds in
+          let fits : RecordNumber number = rw e at whole in
+          rw (e, stop-decided f s number (s .place) Nothing (fits .0)) (stays s tables number (s .place))
       of-record (inr (size, r)) =
+          let long = length-take-le size (drop (s .place) b) (extent-read (drop (s .place) b) size (r .extent) .inside) in
+          let word : 8 ≤ length (take size (drop (s .place) b)) = omega (arith, long, r .some) in
           rw (r .next)
           (content-steps s tables sound size r (recordAt f b (s .place) .content) refl (r .pays)
-          (rw (r .content) (content-fits f (take size (drop (s .place) b)) (s .place))) (r .shows)
-          (rw (r .content) (size-shown f (take size (drop (s .place) b)) (s .place))))
+          (rw (r .content) (content-fits f (take size (drop (s .place) b)) (s .place) word)) (r .shows)
+          (rw (r .content) (size-shown f (take size (drop (s .place) b)) (s .place) word)))
 
   -- what a run reads from a sound state on is paid
-  reads-pay : {s : State} {tables : List ℕ} {l : List Item} → Reads f b s tables l → Sound f b s tables → Paid s tables l
+  reads-pay : {s : State} {tables : List ℕ} {l : List Item} → Reads f b s tables l → Sound f b s tables → Paid (length b) s tables l
   unfolding Paid Stepped itemOf
-  reads-pay (ends s tables place e) h = ([], λ keys held among. omega (arith, h .before))
+  reads-pay (ends s tables place e) h = ([], λ cost le held free. omega (arith, h .before))
   reads-pay (passes s tables l e r) h =
-      rw e at (step-pays s tables h l (reads-pay r (step-sound f b tables s h)))
+      rw e at (step-pays s tables h (length b) l (reads-pay r (step-sound f b tables s h)))
   reads-pay (shows s tables i l e r) h =
-      rw e at (step-pays s tables h l (reads-pay r (step-sound f b tables s h)))
+      rw e at (step-pays s tables h (length b) l (reads-pay r (step-sound f b tables s h)))
+
+  -- an item that a step shows has no more fixed words than the record that it is read from
+  pub fixed-words-low : (s : State) (tables : List ℕ) (i : Item) → Sound f b s tables
+      → itemOf f b (stepTables f b tables s) (stepReply f b tables s .state) (stepReply f b tables s .answer) ≡ some i
+      → s .place + 8 * fixedWords i ≤ stepReply f b tables s .state .place
+  unfolding Paid Stepped
+  fixed-words-low s tables i h e =
+      let next = stepReply f b tables s .state .place in
+      let paid : Paid next s tables (i ∷ []) = rw e at (step-pays s tables h next [] ([], λ cost le held free. omega arith)) in
+      let low = paid .1 (λ u. 0) (λ u. omega arith) (λ context kind index at long c k l n r. refl) (λ u m. refl) in
+      omega (arith, low)
+
+-- the bytes of a use that stands inline, unless its key is one of these
+abbrev spelled : List Use → Use → ℕ
+spelled keys u = cond (member sameUse u keys) 0 (8 * keyWords (u .key))
 
 -- any archive that reads to its end as a list registers some keys, and has the bytes of the items' fixed words, of a record for each of these
 -- keys, and of the inline words of each use of another key
@@ -416,8 +351,11 @@ pub any-run-pays : (f : Format) (b : List ℕ) (l : List Item) → ReadsAs f b l
 unfolding Paid
 any-run-pays f b l r =
     let p = reads-pay f b (r .1) (fresh-sound f b) in
-    (p .0, omega (arith, p .1 (p .0) (none-held (p .0)) (λ u m. m)))
+    (p .0, omega (arith, p .1 (spelled (p .0)) (spelled-le (p .0)) (none-held (spelled (p .0))) (λ u m. rw m)))
   where
-    none-held : (keys : List Use) → Holds f b (opening .ids) (opening .count) (replicate (tableWords f) 0) keys
-    none-held keys context kind index at long c k i n q =
+    spelled-le : (keys : List Use) → Cost (spelled keys)
+    spelled-le keys u = cases (member sameUse u keys) (λ e. rw e (omega arith)) (λ e. rw e (omega arith))
+
+    none-held : (cost : Use → ℕ) → Holds f b (opening .ids) (opening .count) (replicate (tableWords f) 0) cost
+    none-held cost context kind index at long c k i n q =
         absurd (n (getD-replicate (tableWords f) (position f context kind index) 0 0 (position-lt f context kind index (omega arith) i)))

@@ -1,24 +1,26 @@
--- What the uses of a list cost where some keys are registered: nothing for a key that stands in the tables, and else what a record has inline.
+-- What the uses of a record cost, where a use of a key that stands in the tables costs nothing, and any other its words: no more than the record has inline.
 -- Assumes nothing.
 use Prim.Native.Nat.{ℕ, zero, suc, _+_, _-_, _*_, _%_, _≤_, _<_}
 use mathlib.Core.Path.{_≡_, refl, sym, ap, _∙_}
-use mathlib.Core.List.{List, [], _∷_, _++_}
-use mathlib.Core.Bool.{true, cond}
+use mathlib.Core.List.{[], List, _∷_, _++_}
 use mathlib.Core.Option.{Option, none, some}
-use mathlib.Core.Logic.{inl, inr}
+use mathlib.Core.Logic.{_⊎_, inl, inr}
 use native.Mathlib.Omega.{arith}
 use native.Mathlib.Nat.{add-zero}
 use borrow.Author.Tests.{ltb-true, ltb-false, eqb-true, eqb-false}
 use lib.Dec.{eqb, ltb, leb}
 use lib.ListN.{length, take, drop, getD, set, length-take}
 use lib.Seq.{getD-set-same, getD-set-other}
+use Rattle.records.specs.Lookups.{onReport, argumentLookups}
 use Rattle.words.specs.Word.{pick, wordAt}
-use Rattle.words.specs.Stream.{streamWords}
+use Rattle.words.specs.Stream.{streamWords, partOf}
+use Rattle.words.proofs.Tests.{on-pick, cases}
+use Rattle.registering.specs.Counting.{sumBy}
+use Rattle.registering.proofs.Counting.{sum-append}
 use Rattle.format.specs.declared.Format.{Format}
 use Rattle.format.specs.declared.Reference.{Reference}
 use Rattle.format.specs.declared.Reference.the-variants.{Inline, Index}
 use Rattle.format.specs.Part.{inlineBytes}
-use Rattle.format.proofs.Parts.{on-pick}
 use Rattle.arguments.specs.declared.Value.{Value}
 use Rattle.arguments.specs.declared.Value.the-variants.{Scalar as ScalarRead, Text as TextRead}
 use Rattle.arguments.specs.declared.Argument.{Argument}
@@ -26,11 +28,13 @@ use Rattle.arguments.specs.declared.Argued.{Argued}
 use Rattle.arguments.specs.declared.Argued.the-variants.{Refused as ArgumentRefused, Argument as ArgumentRead}
 use Rattle.arguments.specs.Argument.{argumentOf, Arguments, refused, arguments, prepend as prependArgument, onArgued, argumentsOf, numberedOf}
 use Rattle.arguments.specs.Loss.{valueBytes, argumentBytes}
-use Rattle.arguments.proofs.Arguments.{cases, argumentsBytes}
-use Rattle.records.specs.declared.Event.{Event}
-use Rattle.records.specs.declared.Content.the-variants.{Event as EventRead}
+use Rattle.arguments.proofs.Arguments.{argumentsBytes}
+use Rattle.records.specs.declared.Lookup.{Lookup}
+use Rattle.records.specs.declared.Report.{Report as ReadReport}
+use Rattle.records.specs.declared.Content.the-variants.{Report as ReportRead}
 use Rattle.records.specs.Record.{recordAt}
-use Rattle.records.specs.Item.{known, Thread, thread, Argument as ArgumentItem, Key, textKey, threadKey, keyWords, Use, textUses, threadUses, valueUses, argumentsUses, valueWords, argumentsWords}
+use Rattle.records.specs.Item.{known, Thread, thread, Argument as ArgumentItem, Key, textKey, threadKey, keyWords, Use, textUses, threadUses, referentUses, valueUses, argumentsUses}
+use Rattle.records.specs.Models.Fixed.{valueWords, argumentsWords}
 use Rattle.contexts.specs.declared.State.{State}
 use Rattle.contexts.specs.declared.Provider.the-variants.{None, Id}
 use Rattle.contexts.specs.Context.{belongsTo}
@@ -41,49 +45,42 @@ use Rattle.tables.specs.Table.{highestOf, position, registrationOf, resolved}
 use Rattle.tables.proofs.Tables.{position-lt, position-apart, resolved-known}
 use Rattle.reader.specs.declared.Asked.{Asked}
 use Rattle.reader.specs.declared.Asked.the-variants.{Refused as AskRefused, Argument as ArgumentShown}
-use Rattle.reader.specs.Shown.{shownText, shownThread, argumentBad, shownValue}
-use Rattle.reader.specs.Step.{doorOf}
-use Rattle.reader.specs.Ask.{shownArgument, askedEvent, onEvent, askedPlace, argumentReply, partOf}
-use Rattle.reader.specs.Reads.{textItem, threadItem, providerItem, valueItem, argumentItem, prepend as prependItem, argumentItems}
-use Rattle.reader.proofs.Lookups.{ThreadReference}
+use Rattle.reader.specs.Shown.{shownText, shownThread, shownValue, shownReferent, noneBad}
+use Rattle.reader.specs.Step.{openingNumber}
+use Rattle.reader.specs.Ask.{shownArgument, askedReport, askedPlace, argumentReply}
+use Rattle.reader.specs.Reads.{textItem, threadItem, providerItem, valueItem, argumentItem, prepend as prependItem, argumentItems, referentItem}
+use Rattle.reader.proofs.Lookups.{LookupFits}
+use Rattle.records.proofs.Passes.{ThreadReference}
 use Rattle.reader.proofs.Changes.{Kind}
 use Rattle.reader.proofs.Runs.{Sound}
-use Rattle.rule.specs.Counting.{sumBy, member}
-use Rattle.rule.specs.Rule.{sameUse}
-use Rattle.rule.proofs.Best.{sum-append}
 
--- ---- uses, and what they cost where some keys are registered
+-- ---- what uses cost
 
 -- the bytes of a record that registers a use's key
 abbrev pub registered : Use → ℕ
 registered u = 8 * (1 + keyWords (u .key))
 
--- the bytes of a use that stands inline, unless its key is one of these
-abbrev pub spelled : List Use → Use → ℕ
-spelled keys u = cond (member sameUse u keys) 0 (8 * keyWords (u .key))
+-- a cost of uses: no use costs more than its words inline
+abbrev pub Cost : (Use → ℕ) → Type 0
+Cost cost = (u : Use) → cost u ≤ 8 * keyWords (u .key)
 
--- a use costs its words at most
-spelled-le : (keys : List Use) (u : Use) → spelled keys u ≤ 8 * keyWords (u .key)
-spelled-le keys u = cases (member sameUse u keys) (λ e. rw e (omega arith)) (λ e. rw e (omega arith))
+-- a text costs its words at most, and nothing where its use costs nothing
+text-inline : (cost : Use → ℕ) → Cost cost → (p : Option ℕ) (bytes : List ℕ) → sumBy cost (textUses p (known bytes)) ≤ 8 * streamWords (length bytes)
+text-inline cost le p [] = omega arith
+text-inline cost le p (x ∷ bytes) = omega (arith, le (record { provider = p; key = textKey (x ∷ bytes) }))
 
--- a text costs its words at most, and nothing where it is registered
-text-inline : (keys : List Use) (p : Option ℕ) (bytes : List ℕ)
-    → sumBy (spelled keys) (textUses p (known bytes)) ≤ 8 * streamWords (length bytes)
-text-inline keys p [] = omega arith
-text-inline keys p (x ∷ bytes) = omega (arith, spelled-le keys (record { provider = p; key = textKey (x ∷ bytes) }))
-
-text-registered : (keys : List Use) (p : Option ℕ) (bytes : List ℕ)
-    → member sameUse (record { provider = p; key = textKey bytes }) keys ≡ true → sumBy (spelled keys) (textUses p (known bytes)) ≡ 0
-text-registered keys p [] m = refl
-text-registered keys p (x ∷ bytes) m = rw m
+text-registered : (cost : Use → ℕ) (p : Option ℕ) (bytes : List ℕ) → cost (record { provider = p; key = textKey bytes }) ≡ 0
+    → sumBy cost (textUses p (known bytes)) ≡ 0
+text-registered cost p [] m = refl
+text-registered cost p (x ∷ bytes) m = omega (arith, m)
 
 -- and so does a thread
-thread-inline : (keys : List Use) (p : Option ℕ) (t : Thread) → sumBy (spelled keys) (threadUses p (known t)) ≤ 16
-thread-inline keys p t = omega (arith, spelled-le keys (record { provider = p; key = threadKey t }))
+thread-inline : (cost : Use → ℕ) → Cost cost → (p : Option ℕ) (t : Thread) → sumBy cost (threadUses p (known t)) ≤ 16
+thread-inline cost le p t = omega (arith, le (record { provider = p; key = threadKey t }))
 
-thread-registered : (keys : List Use) (p : Option ℕ) (t : Thread)
-    → member sameUse (record { provider = p; key = threadKey t }) keys ≡ true → sumBy (spelled keys) (threadUses p (known t)) ≡ 0
-thread-registered keys p t m = rw m
+thread-registered : (cost : Use → ℕ) (p : Option ℕ) (t : Thread) → cost (record { provider = p; key = threadKey t }) ≡ 0
+    → sumBy cost (threadUses p (known t)) ≡ 0
+thread-registered cost p t m = omega (arith, m)
 
 -- the bytes answered for a text are no more than its length
 pub part-length : (archive : List ℕ) (place long : ℕ) → length (partOf archive place long) ≤ long
@@ -99,22 +96,22 @@ part-length archive place long =
 -- ---- what is said of arguments
 
 -- an argument that is shown costs no more than the argument that was read
-AskedPays : List ℕ → List Use → Option ℕ → Argued → Asked → Type 0
-AskedPays b keys p x (AskRefused number place) = Unit {0}
-AskedPays b keys p (ArgumentRefused number) (ArgumentShown a) = ⊥
-AskedPays b keys p (ArgumentRead r size) (ArgumentShown a) =
-    8 + 8 * valueWords (valueItem b (a .value)) + sumBy (spelled keys) (textUses p (textItem b (a .name)))
-    + sumBy (spelled keys) (valueUses p (valueItem b (a .value)))
+AskedPays : List ℕ → (Use → ℕ) → Option ℕ → Argued → Asked → Type 0
+AskedPays b cost p x (AskRefused number place) = Unit {0}
+AskedPays b cost p (ArgumentRefused number) (ArgumentShown a) = ⊥
+AskedPays b cost p (ArgumentRead r size) (ArgumentShown a) =
+    8 + 8 * valueWords (valueItem b (a .value)) + sumBy cost (textUses p (textItem b (a .name)))
+    + sumBy cost (valueUses p (valueItem b (a .value)))
     ≤ argumentBytes r
 
 -- arguments that are shown cost no more than the arguments that were read
-unfoldable pub ItemsPay : List Use → Option ℕ → Arguments → Option (List ArgumentItem) → Type 0
-ItemsPay keys p q none = Unit {0}
-ItemsPay keys p (refused number) (some l) = Unit {0}
-ItemsPay keys p (arguments rs next) (some l) = 8 * argumentsWords l + sumBy (spelled keys) (argumentsUses p l) ≤ argumentsBytes rs
+unfoldable pub ItemsPay : (Use → ℕ) → Option ℕ → Arguments → Option (List ArgumentItem) → Type 0
+ItemsPay cost p q none = Unit {0}
+ItemsPay cost p (refused number) (some l) = Unit {0}
+ItemsPay cost p (arguments rs next) (some l) = 8 * argumentsWords l + sumBy cost (argumentsUses p l) ≤ argumentsBytes rs
 
 -- the part of the archive that an event's arguments are asked for in
-abbrev pub argumentsPart : List ℕ → ℕ → Event → List ℕ
+abbrev pub argumentsPart : List ℕ → ℕ → ReadReport → List ℕ
 argumentsPart b end e = take (end - e .arguments) (drop (e .arguments) b)
 
 -- ---- what the tables hold
@@ -135,18 +132,18 @@ keyAt b kind place long =
     pick (eqb kind 3) (threadKey (thread (wordAt b place) (wordAt b (place + 8)))) (textKey (partOf b place long))
 
 module _ (f : Format) (b : List ℕ) where
-  -- the key of every entry that is set is one of these, in its context
-  abbrev pub Holds : List ℕ → ℕ → List ℕ → List Use → Type 0
-  Holds ids count tables keys =
+  -- the use of every key that an entry has, in its context, costs nothing
+  abbrev pub Holds : List ℕ → ℕ → List ℕ → (Use → ℕ) → Type 0
+  Holds ids count tables cost =
       (context kind index at long : ℕ) → context ≤ count → Kind kind → index ≤ highestOf f kind
       → (getD tables (position f context kind index) 0 ≡ 0 → ⊥)
       → registrationOf (recordAt f b (getD tables (position f context kind index) 0) .content) ≡ Entry kind index at long
-      → member sameUse (record { provider = providerIn ids context; key = keyAt b kind at long }) keys ≡ true
+      → cost (record { provider = providerIn ids context; key = keyAt b kind at long }) ≡ 0
 
-  -- they are still where an id is new, whose context has no entry yet
-  pub holds-new : (s : State) (tables : List ℕ) (id : ℕ) (keys : List Use) → Sound f b s tables → (s .count ≡ 8 → ⊥)
-      → Holds (s .ids) (s .count) tables keys → Holds (set (s .ids) (s .count) id) (s .count + 1) tables keys
-  holds-new s tables id keys h z held context kind index at long c k i n r =
+  -- they still cost nothing where an id is new, whose context has no entry yet
+  pub holds-new : (s : State) (tables : List ℕ) (id : ℕ) (cost : Use → ℕ) → Sound f b s tables → (s .count ≡ 8 → ⊥)
+      → Holds (s .ids) (s .count) tables cost → Holds (set (s .ids) (s .count) id) (s .count + 1) tables cost
+  holds-new s tables id cost h z held context kind index at long c k i n r =
       cases (ltb (s .count) context)
       (λ e. absurd (n (h .unopened context kind index (ltb-true (s .count) context e) (omega (arith, below)) k i)))
       (λ e. let l = ltb-false (s .count) context e in
@@ -156,13 +153,13 @@ module _ (f : Format) (b : List ℕ) where
       below = cases (ltb (s .count) 8) (λ q. omega (arith, ltb-true (s .count) 8 q))
           (λ q. absurd (z (omega (arith, h .count, ltb-false (s .count) 8 q))))
 
-  -- and where an entry is set, whose key is one of them
-  pub holds-set : (s : State) (tables : List ℕ) (kind index at long : ℕ) (keys : List Use) → Sound f b s tables → Kind kind
+  -- and where an entry is set, whose use costs nothing
+  pub holds-set : (s : State) (tables : List ℕ) (kind index at long : ℕ) (cost : Use → ℕ) → Sound f b s tables → Kind kind
       → index ≤ highestOf f kind → registrationOf (recordAt f b (s .place) .content) ≡ Entry kind index at long
-      → member sameUse (record { provider = providerIn (s .ids) (s .current); key = keyAt b kind at long }) keys ≡ true
-      → Holds (s .ids) (s .count) tables keys
-      → Holds (s .ids) (s .count) (set tables (position f (s .current) kind index) (s .place)) keys
-  holds-set s tables kind index at long keys h k i r m held context kind′ index′ at′ long′ c k′ i′ n r′ =
+      → cost (record { provider = providerIn (s .ids) (s .current); key = keyAt b kind at long }) ≡ 0
+      → Holds (s .ids) (s .count) tables cost
+      → Holds (s .ids) (s .count) (set tables (position f (s .current) kind index) (s .place)) cost
+  holds-set s tables kind index at long cost h k i r m held context kind′ index′ at′ long′ c k′ i′ n r′ =
       cases (eqb p here) (λ e. same (eqb-true p here e))
       (λ e. let o = getD-set-other tables here p (s .place) 0 (eqb-false p here e) in
       held context kind′ index′ at′ long′ c k′ i′ (λ z. n (o ∙ z)) (rw o at r′))
@@ -176,7 +173,7 @@ module _ (f : Format) (b : List ℕ) where
       inside : here < length tables
       inside = omega (arith, h .room, position-lt f (s .current) kind index (omega (arith, h .current, h .count)) i)
 
-      same : p ≡ here → member sameUse (record { provider = providerIn (s .ids) context; key = keyAt b kind′ at′ long′ }) keys ≡ true
+      same : p ≡ here → cost (record { provider = providerIn (s .ids) context; key = keyAt b kind′ at′ long′ }) ≡ 0
       same e =
           let a = position-apart f context kind′ index′ (s .current) kind index k′ k i′ i e in
           let q : registrationOf (recordAt f b (s .place) .content) ≡ Entry kind′ index′ at′ long′ =
@@ -188,75 +185,88 @@ module _ (f : Format) (b : List ℕ) where
 
   -- ---- what references cost
 
-  module _ (ids : List ℕ) (count : ℕ) (tables : List ℕ) (keys : List Use) (held : Holds ids count tables keys) (context : ℕ)
+  module _ (ids : List ℕ) (count : ℕ) (tables : List ℕ) (cost : Use → ℕ) (le : Cost cost) (held : Holds ids count tables cost) (context : ℕ)
       (low : context ≤ count) where
     -- a text that is found by its index costs nothing
     text-found : (limit index : ℕ)
-        → sumBy (spelled keys) (textUses (providerIn ids context) (textItem b (shownText (resolved f b tables context 2 limit (Index index))))) ≡ 0
+        → sumBy cost (textUses (providerIn ids context) (textItem b (shownText (resolved f b tables context 2 limit (Index index))))) ≡ 0
     unfolding shownText
     text-found limit index = go (resolved f b tables context 2 limit (Index index)) refl
       where
         go : (x : Resolved) → resolved f b tables context 2 limit (Index index) ≡ x
-            → sumBy (spelled keys) (textUses (providerIn ids context) (textItem b (shownText x))) ≡ 0
+            → sumBy cost (textUses (providerIn ids context) (textItem b (shownText x))) ≡ 0
         go Bad e = refl
         go (Known place long) e =
             let r = resolved-known f b tables context 2 index limit place long e in
-            text-registered keys (providerIn ids context) (partOf b place long)
+            text-registered cost (providerIn ids context) (partOf b place long)
             (held context 2 index place long low (inl refl) (r .low) (r .is-set) (r .known .registers))
         go (Unresolved number) e = refl
 
     -- a text costs no more than it has inline
     pub text-pays : (limit : ℕ) (r : Reference)
-        → sumBy (spelled keys) (textUses (providerIn ids context) (textItem b (shownText (resolved f b tables context 2 limit r)))) ≤ inlineBytes r
+        → sumBy cost (textUses (providerIn ids context) (textItem b (shownText (resolved f b tables context 2 limit r)))) ≤ inlineBytes r
     unfolding resolved shownText
     text-pays limit (Inline place long) =
-        omega (arith, text-inline keys (providerIn ids context) (partOf b place long), part-length b place long)
+        omega (arith, text-inline cost le (providerIn ids context) (partOf b place long), part-length b place long)
     text-pays limit (Index index) = omega (arith, text-found limit index)
 
     -- a thread that is found by its index costs nothing
     thread-found : (limit index : ℕ)
-        → sumBy (spelled keys) (threadUses (providerIn ids context) (threadItem (shownThread b (resolved f b tables context 3 limit (Index index))))) ≡ 0
+        → sumBy cost (threadUses (providerIn ids context) (threadItem (shownThread b (resolved f b tables context 3 limit (Index index))))) ≡ 0
     unfolding shownThread
     thread-found limit index = go (resolved f b tables context 3 limit (Index index)) refl
       where
         go : (x : Resolved) → resolved f b tables context 3 limit (Index index) ≡ x
-            → sumBy (spelled keys) (threadUses (providerIn ids context) (threadItem (shownThread b x))) ≡ 0
+            → sumBy cost (threadUses (providerIn ids context) (threadItem (shownThread b x))) ≡ 0
         go Bad e = refl
         go (Known place long) e =
             let r = resolved-known f b tables context 3 index limit place long e in
-            thread-registered keys (providerIn ids context) (thread (wordAt b place) (wordAt b (place + 8)))
+            thread-registered cost (providerIn ids context) (thread (wordAt b place) (wordAt b (place + 8)))
             (held context 3 index place long low (inr refl) (r .low) (r .is-set) (r .known .registers))
         go (Unresolved number) e = refl
 
     -- a thread costs no more than it has inline
     pub thread-pays : (limit : ℕ) (r : Reference) → ThreadReference r
-        → sumBy (spelled keys) (threadUses (providerIn ids context) (threadItem (shownThread b (resolved f b tables context 3 limit r)))) ≤ inlineBytes r
+        → sumBy cost (threadUses (providerIn ids context) (threadItem (shownThread b (resolved f b tables context 3 limit r)))) ≤ inlineBytes r
     unfolding resolved shownThread
     thread-pays limit (Inline place long) e =
-        rw e (thread-inline keys (providerIn ids context) (thread (wordAt b place) (wordAt b (place + 8))))
+        rw e (thread-inline cost le (providerIn ids context) (thread (wordAt b place) (wordAt b (place + 8))))
     thread-pays limit (Index index) e = omega (arith, thread-found limit index)
+
+    -- what a record refers to costs no more than it has inline
+    pub referent-pays : (limit : ℕ) (s : Lookup) → LookupFits s
+        → sumBy cost (referentUses (providerIn ids context) (referentItem b (shownReferent b (s .table) (resolved f b tables context (s .table) limit (s .reference)))))
+        ≤ inlineBytes (s .reference)
+    unfolding shownReferent
+    referent-pays limit s fit = go (fit .kinds)
+      where
+        go : (s .table ≡ 2) ⊎ (s .table ≡ 3)
+            → sumBy cost (referentUses (providerIn ids context) (referentItem b (shownReferent b (s .table) (resolved f b tables context (s .table) limit (s .reference)))))
+            ≤ inlineBytes (s .reference)
+        go (inl e) = rw e (text-pays limit (s .reference))
+        go (inr e) = rw e (thread-pays limit (s .reference) (fit .thread e))
 
     -- a value costs no more than it has behind the name
     value-pays : (limit : ℕ) (v : Value)
         → 8 * valueWords (valueItem b (shownValue f b tables context limit v))
-        + sumBy (spelled keys) (valueUses (providerIn ids context) (valueItem b (shownValue f b tables context limit v)))
+        + sumBy cost (valueUses (providerIn ids context) (valueItem b (shownValue f b tables context limit v)))
         ≤ valueBytes v
     unfolding shownValue valueBytes
     value-pays limit (ScalarRead x) = omega arith
     value-pays limit (TextRead r) = omega (arith, text-pays limit r)
 
     -- the arguments of an event, asked for in the state right after it
-    module _ (s : State) (here : s .current ≡ context) (place : ℕ) (e : Event) (is : recordAt f b place .content ≡ EventRead e) where
+    module _ (s : State) (here : s .current ≡ context) (place : ℕ) (e : ReadReport) (is : recordAt f b place .content ≡ ReportRead e) where
       -- the provider of the context
       abbrev provider : Option ℕ
       provider = providerIn ids context
 
       -- the argument of a number costs, where it is shown, no more than the one that was read
       asked-pays : (number : ℕ)
-          → AskedPays b keys provider (numberedOf f number (argumentsPart b (s .place) e) (e .arguments)) (argumentReply f b tables s place number)
-      unfolding AskedPays argumentReply askedPlace askedEvent shownArgument
+          → AskedPays b cost provider (numberedOf f number (argumentsPart b (s .place) e) (e .arguments)) (argumentReply f b tables s place number)
+      unfolding AskedPays argumentReply askedPlace askedReport shownArgument
       asked-pays number =
-          on-pick P (eqb (doorOf f b (length tables)) 0) _ _
+          on-pick P (eqb (openingNumber f b (length tables)) 0) _ _
           (λ q. on-pick P (belongsTo s (length b)) _ _
           (λ q. on-pick P (eqb (place % 8) 0) _ _
           (λ q. on-pick P (eqb (recordAt f b place .next) (s .place)) _ _ (λ q. of-event) (λ q. tt))
@@ -268,22 +278,23 @@ module _ (f : Format) (b : List ℕ) where
           x = numberedOf f number (argumentsPart b (s .place) e) (e .arguments)
 
           P : Asked → Type 0
-          P = AskedPays b keys provider x
+          P = AskedPays b cost provider x
 
           of-argument : (y : Argued)
-              → AskedPays b keys provider y (onArgued y (λ refused. AskRefused 4 (s .place)) (λ a size. shownArgument f b tables s a))
+              → AskedPays b cost provider y (onArgued y (λ refused. AskRefused 4 (s .place)) (λ a size. shownArgument f b tables s a))
           of-argument (ArgumentRefused n) = tt
           of-argument (ArgumentRead a size) =
-              on-pick (AskedPays b keys provider (ArgumentRead a size)) (argumentBad f b tables (s .current) (s .place) a) _ _ (λ q. tt)
-              (λ q. rw here (omega (arith, text-pays (s .place) (a .name), value-pays (s .place) (a .value))))
+              on-pick (AskedPays b cost provider (ArgumentRead a size))
+              (noneBad f b tables (s .current) (s .place) (argumentLookups (a ∷ []))) _ _
+              (λ q. rw here (omega (arith, text-pays (s .place) (a .name), value-pays (s .place) (a .value)))) (λ q. tt)
 
-          of-event : P (onEvent (recordAt f b place .content) (AskRefused 4 (s .place)) (λ e. askedEvent f b tables s e number))
+          of-event : P (onReport (recordAt f b place .content) (AskRefused 4 (s .place)) (λ e. askedReport f b tables s e number))
           of-event = rw is (on-pick P (leb (e .count) number) _ _ (λ q. tt) (λ q. of-argument x))
 
       -- the arguments from a number on, as many as are asked for, cost no more than those that were read
       pub items-pay : (n number : ℕ) (rest : List ℕ) (at : ℕ)
           → ((k : ℕ) → numberedOf f (number + k) (argumentsPart b (s .place) e) (e .arguments) ≡ numberedOf f k rest at)
-          → ItemsPay keys provider (argumentsOf f n rest at) (argumentItems f b tables s place number n)
+          → ItemsPay cost provider (argumentsOf f n rest at) (argumentItems f b tables s place number n)
       unfolding ItemsPay AskedPays argumentItems argumentsOf numberedOf
       items-pay zero number rest at h = omega arith
       items-pay (suc n) number rest at h =
@@ -297,11 +308,11 @@ module _ (f : Format) (b : List ℕ) where
               let e₁ : suc number + k ≡ number + suc k = omega arith in
               ap (λ n. numberedOf f n (argumentsPart b (s .place) e) (e .arguments)) e₁ ∙ (h (suc k) ∙ rw q)
 
-          of-argument : (x : Argued) → argumentOf f rest at ≡ x → (a : Asked) → AskedPays b keys provider x a
+          of-argument : (x : Argued) → argumentOf f rest at ≡ x → (a : Asked) → AskedPays b cost provider x a
               → (o : Option (List ArgumentItem))
               → ((r : Argument) (size : ℕ) → argumentOf f rest at ≡ ArgumentRead r size
-              → ItemsPay keys provider (argumentsOf f n (drop size rest) (at + size)) o)
-              → ItemsPay keys provider (onArgued x refused (λ a size. prependArgument a (argumentsOf f n (drop size rest) (at + size))))
+              → ItemsPay cost provider (argumentsOf f n (drop size rest) (at + size)) o)
+              → ItemsPay cost provider (onArgued x refused (λ a size. prependArgument a (argumentsOf f n (drop size rest) (at + size))))
               (prependItem b a o)
           of-argument x q (AskRefused number place) c o k = tt
           of-argument x q (ArgumentShown a) c none k = tt
@@ -309,13 +320,13 @@ module _ (f : Format) (b : List ℕ) where
           of-argument (ArgumentRead r size) q (ArgumentShown a) c (some l) k =
               of-rest (argumentsOf f n (drop size rest) (at + size)) (k r size q)
             where
-              of-rest : (y : Arguments) → ItemsPay keys provider y (some l) → ItemsPay keys provider (prependArgument r y) (some (argumentItem b a ∷ l))
+              of-rest : (y : Arguments) → ItemsPay cost provider y (some l) → ItemsPay cost provider (prependArgument r y) (some (argumentItem b a ∷ l))
               of-rest (refused number) z = tt
               of-rest (arguments rs last) z =
                   omega (
                     arith,
                     c,
                     z,
-                    sum-append (spelled keys) (textUses provider (textItem b (a .name))) (valueUses provider (valueItem b (a .value)) ++ argumentsUses provider l),
-                    sum-append (spelled keys) (valueUses provider (valueItem b (a .value))) (argumentsUses provider l),
+                    sum-append cost (textUses provider (textItem b (a .name))) (valueUses provider (valueItem b (a .value)) ++ argumentsUses provider l),
+                    sum-append cost (valueUses provider (valueItem b (a .value))) (argumentsUses provider l),
                   )

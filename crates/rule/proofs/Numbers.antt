@@ -2,29 +2,28 @@
 -- archive that step answers 0 or 5 to 9, and the archive is refused by 5 to 12 or not at all. Assumes nothing.
 use Prim.Native.Nat.{ℕ, zero, suc, _+_, _*_, _/_, _≤_, _<_}
 use mathlib.Core.Path.{_≡_, refl, sym, ap, subst, _∙_}
-use mathlib.Core.List.{List, [], _++_}
+use mathlib.Core.List.{[], List, _++_}
 use mathlib.Core.Option.{Option, none, some}
 use mathlib.Core.Logic.{_⊎_, inl, inr}
 use native.Mathlib.Omega.{arith}
 use borrow.Author.Tests.{eqb-false, ltb-true, ltb-false}
 use lib.Dec.{eqb, ltb}
 use lib.ListN.{length, replicate}
+use Rattle.words.specs.Stream.{partOf}
+use Rattle.words.proofs.Tests.{on-pick, cases}
 use Rattle.format.specs.declared.Format.{Format}
-use Rattle.format.proofs.Parts.{on-pick}
-use Rattle.arguments.proofs.Arguments.{cases}
 use Rattle.records.specs.Item.{Item, magic, providerInfo, section, providerEvent, initialization, skipped, Use}
 use Rattle.contexts.specs.declared.State.{State}
 use Rattle.contexts.specs.Context.{opening}
 use Rattle.tables.specs.Table.{tableWords}
 use Rattle.reader.specs.declared.Answer.{Answer}
-use Rattle.reader.specs.declared.Answer.the-variants.{End, Nothing, Magic, ProviderInfo, Section, ProviderEvent, Initialization, Event, Skipped}
-use Rattle.reader.specs.Step.{doorOf, stepReply, stepTables}
-use Rattle.reader.specs.Ask.{partOf}
+use Rattle.reader.specs.declared.Answer.the-variants.{End, Nothing, Magic, ProviderInfo, Section, ProviderEvent, Initialization, Report, Skipped}
+use Rattle.reader.specs.Step.{openingNumber, stepReply, stepTables}
 use Rattle.reader.specs.Reads.{itemOf}
 use Rattle.reader.specs.Numbers.{answerNumber}
-use Rattle.reader.proofs.Behind.{door-behind}
-use Rattle.reader.proofs.NeverFour.{never-four, event-item}
-use Rattle.reader.proofs.Numbers.{Between, step-numbers, step-places, step-door}
+use Rattle.reader.proofs.Behind.{opening-behind}
+use Rattle.reader.proofs.NeverFour.{never-four, report-item}
+use Rattle.reader.proofs.Numbers.{Between, step-numbers, step-places, step-opening}
 use Rattle.reader.proofs.Runs.{Sound, fresh-sound, step-sound, run-sound, Run as Steps, still, passing, showing}
 use Rattle.rule.specs.Refusal.{Run, ended, passed, runFrom, runOf, Refusal, refusal, orElse, stopRefusal, lossRefusal, itemUnresolved, unresolvedRefusal, passesLimit, itemUses, limitRefusal, refusalOf, itemsOf}
 use Rattle.rule.proofs.WholeRuns.{nothing-advances, item-advances, run-ends, run-passes, run-shows}
@@ -61,7 +60,7 @@ answered f archive tables s h = go (stepReply f archive tables s .answer) refl
     go (Section id) e = inr (inr (section id, rw e))
     go (ProviderEvent id event) e = inr (inr (providerEvent id event, rw e))
     go (Initialization rate) e = inr (inr (initialization rate, rw e))
-    go (Event shown) e = inr (inr (event-item f archive tables s shown h e))
+    go (Report shown) e = inr (inr (report-item f archive tables s shown h e))
     go (Skipped type size) e = inr (inr (skipped type size, rw e))
 
 -- from a sound state any two numbers of steps that are enough for the words left make the same run
@@ -159,9 +158,9 @@ run-end-place f archive =
 -- ---- numbers
 
 -- What stops the run of an opened archive is 0 or 5 to 9.
-pub run-numbers : (f : Format) (archive : List ℕ) → doorOf f archive (tableWords f) ≡ 0
+pub run-numbers : (f : Format) (archive : List ℕ) → openingNumber f archive (tableWords f) ≡ 0
     → (endNumber (runOf f archive) ≡ 0) ⊎ Between 5 9 (endNumber (runOf f archive))
-run-numbers f archive door = go (endNumber (runOf f archive)) (endPlace (runOf f archive)) (r .last)
+run-numbers f archive opens = go (endNumber (runOf f archive)) (endPlace (runOf f archive)) (r .last)
   where
     r : Stops f archive opening (replicate (tableWords f) 0) (runOf f archive)
     r = run-is-steps f archive
@@ -169,18 +168,18 @@ run-numbers f archive door = go (endNumber (runOf f archive)) (endPlace (runOf f
     sound : Sound f archive (r .state) (r .tables′)
     sound = run-sound f archive (r .steps) (fresh-sound f archive)
 
-    opened : doorOf f archive (length (r .tables′)) ≡ 0
-    opened = door-behind f archive (length (r .tables′)) (tableWords f) (sound .room) (omega arith) ∙ door
+    opened : openingNumber f archive (length (r .tables′)) ≡ 0
+    opened = opening-behind f archive (length (r .tables′)) (tableWords f) (sound .room) (omega arith) ∙ opens
 
     go : (number place : ℕ) → stepReply f archive (r .tables′) (r .state) .answer ≡ End number place → (number ≡ 0) ⊎ Between 5 9 number
     go number place e =
         cases (ltb number 1) (λ p. inl (omega (arith, ltb-true number 1 p)))
-        (λ p. cases (ltb number 4) (λ q. absurd (omega (arith, ltb-false number 1 p, at-door (ltb-false number 1 p) (ltb-true number 4 q))))
+        (λ p. cases (ltb number 4) (λ q. absurd (omega (arith, ltb-false number 1 p, at-opening (ltb-false number 1 p) (ltb-true number 4 q))))
         (λ q. cases (ltb number 5) (λ o. absurd (at-four (omega (arith, ltb-false number 4 q, ltb-true number 5 o))))
         (λ o. inr (ltb-false number 5 o, step-numbers f archive (r .tables′) (r .state) number (ap answerNumber e) .1))))
       where
-        at-door : 1 ≤ number → number < 4 → number ≡ 0
-        at-door p q = step-door f archive (r .tables′) (r .state) number place e (p, omega arith) ∙ opened
+        at-opening : 1 ≤ number → number < 4 → number ≡ 0
+        at-opening p q = step-opening f archive (r .tables′) (r .state) number place e (p, omega arith) ∙ opened
 
         at-four : number ≡ 4 → ⊥
         at-four q = never-four f archive (r .tables′) (r .state) sound place (rw q at e)
@@ -221,12 +220,12 @@ either-numbered P none b h k = k
 either-numbered P (some r) b h k = h
 
 -- "then 5 to 9 as reading meets them, 10, 11, 12": an opened archive is refused by no other number.
-pub refusal-numbers : (f : Format) (archive : List ℕ) (number place : ℕ) → doorOf f archive (tableWords f) ≡ 0
+pub refusal-numbers : (f : Format) (archive : List ℕ) (number place : ℕ) → openingNumber f archive (tableWords f) ≡ 0
     → refusalOf f (runOf f archive) ≡ some (refusal number place) → Between 5 12 number
 unfolding refusalOf
-refusal-numbers f archive number place door e =
+refusal-numbers f archive number place opens e =
     subst (Numbered P) e
-    (either-numbered P (stopRefusal run) behind-reading (stop-numbered P run (stop (run-numbers f archive door)))
+    (either-numbered P (stopRefusal run) behind-reading (stop-numbered P run (stop (run-numbers f archive opens)))
     (either-numbered P (lossRefusal run) behind-loss (loss-numbered P (omega arith, omega arith) run)
     (either-numbered P (unresolvedRefusal run) (limitRefusal f [] run) (unresolved-numbered P (omega arith, omega arith) run)
     (limit-numbered P (omega arith, omega arith) f [] run))))

@@ -1,21 +1,21 @@
 -- Items whose values fit their fields: at the small size they can be written with any indexes that the tables hold.
 -- Assumes nothing.
 use Prim.Native.Nat.{ℕ, _^_, _≤_, _<_}
-use mathlib.Core.Path.{_≡_}
-use mathlib.Core.List.{List, [], _∷_, _++_}
-use mathlib.Core.Bool.{false}
+use mathlib.Core.List.{[], List, _∷_, _++_}
 use mathlib.Core.Option.{Option, some}
 use native.Mathlib.Omega.{arith}
 use lib.ListN.{length}
 use Rattle.format.specs.declared.Format.{Format}
 use Rattle.format.specs.Limits.{smallFormat}
-use Rattle.records.specs.Record.{hasExtra}
-use Rattle.records.specs.Item.{Shown, known, unresolved, Thread, thread, Text, Value, scalar, text, Argument, Event, Item, magic, providerInfo, section, providerEvent, initialization, event, skipped, Key, textKey, threadKey, Use, textUses, threadUses, valueUses, argumentsUses, usesOf}
-use Rattle.records.proofs.WrittenArguments.{ScalarFits, TextFits, ValueFits, AllFit}
-use Rattle.records.proofs.WrittenEvents.{ThreadFits, small-event}
+use Rattle.records.specs.Item.{Shown, known, unresolved, Thread, thread, Text, Value, scalar, text, Argument, Referent, textReferent, threadReferent, Item, Piece}
+use Rattle.records.specs.Item.{words, stream, refers, layoutOfItem, Key, textKey, threadKey, Use, textUses, threadUses, referentUses, valueUses, argumentsUses, piecesUses, usesOf}
+use Rattle.arguments.proofs.Bounds.{ScalarFits}
+use Rattle.encoding.proofs.EncodedParts.{AllWords}
+use Rattle.encoding.proofs.EncodedArguments.{TextFits, ValueFits, AllFit}
+use Rattle.encoding.proofs.EncodedLayouts.{ThreadFits, ReferentFits, PiecesFit, KindSuits, ItemFits}
+use Rattle.encoding.proofs.EncodedItems.{small-item}
 use Rattle.rule.specs.Refusal.{limitOf}
 use Rattle.rule.proofs.Entries.{KeyFits}
-use Rattle.rule.proofs.Items.{ItemFits}
 
 -- ---- items that fit whatever their indexes are
 
@@ -39,27 +39,24 @@ abbrev pub ArgumentsPlain : Format → List Argument → Type 0
 ArgumentsPlain f [] = Unit {0}
 ArgumentsPlain f (a ∷ l) = TextPlain f (a .name) × ValuePlain f (a .value) × ArgumentsPlain f l
 
--- an event whose values fit
-pub record EventPlain (f : Format) (e : Event) : Type 0 where
-  pub type : e .type ≤ 10
-  pub timestamp : e .timestamp < 2 ^ 64
-  pub thread : ThreadPlain (e .thread)
-  pub category : TextPlain f (e .category)
-  pub name : TextPlain f (e .name)
-  pub count : length (e .arguments) ≤ 15
-  pub arguments : ArgumentsPlain f (e .arguments)
-  pub extra : e .extra < 2 ^ 64
-  pub no-extra : hasExtra (e .type) ≡ false → e .extra ≡ 0
+-- what a record refers to is so
+abbrev pub ReferentPlain : Format → Referent → Type 0
+ReferentPlain f (textReferent t) = TextPlain f t
+ReferentPlain f (threadReferent t) = ThreadPlain t
 
--- an item whose values fit; a skipped record is never written
-abbrev pub ItemPlain : Format → Item → Type 0
-ItemPlain f magic = Unit {0}
-ItemPlain f (providerInfo id name) = (id < 2 ^ 32) × (length name < 2 ^ 8) × (length name ≤ f .longest)
-ItemPlain f (section id) = id < 2 ^ 32
-ItemPlain f (providerEvent id e) = (id < 2 ^ 32) × (e < 2 ^ 4)
-ItemPlain f (initialization rate) = rate < 2 ^ 64
-ItemPlain f (event e) = EventPlain f e
-ItemPlain f (skipped type size) = ⊥
+-- pieces whose values fit
+abbrev pub PiecesPlain : Format → List Piece → Type 0
+PiecesPlain f [] = Unit {0}
+PiecesPlain f (words ns ∷ ps) = AllWords ns × PiecesPlain f ps
+PiecesPlain f (stream b ∷ ps) = (length b ≤ f .longest) × PiecesPlain f ps
+PiecesPlain f (refers x ∷ ps) = ReferentPlain f x × PiecesPlain f ps
+
+-- an item whose values fit
+pub record ItemPlain (f : Format) (i : Item) : Type 0 where
+  pub suits : KindSuits i
+  pub pieces : PiecesPlain f (layoutOfItem i .pieces)
+  pub arguments : ArgumentsPlain f (layoutOfItem i .arguments)
+  pub last : AllWords (layoutOfItem i .last)
 
 -- ---- so they are written, at the small size
 
@@ -75,6 +72,10 @@ thread-fits : (index : Key → ℕ) (t : Shown Thread) → Low index → ThreadP
 thread-fits index (known (thread p t)) low h = (h .0, h .1, omega (arith, low (threadKey (thread p t))))
 thread-fits index (unresolved i) low h = h
 
+referent-fits : (index : Key → ℕ) (s : Referent) → Low index → ReferentPlain smallFormat s → ReferentFits smallFormat index s
+referent-fits index (textReferent t) low h = text-fits index t low h
+referent-fits index (threadReferent t) low h = thread-fits index t low h
+
 value-fits : (index : Key → ℕ) (v : Value) → Low index → ValuePlain smallFormat v → ValueFits smallFormat index v
 value-fits index (scalar s) low h = h
 value-fits index (text t) low h = text-fits index t low h
@@ -84,31 +85,23 @@ arguments-fit index [] low h = tt
 arguments-fit index (a ∷ l) low h =
     (record { name = text-fits index (a .name) low (h .0); value = value-fits index (a .value) low (h .1) }, arguments-fit index l low (h .2))
 
+pieces-fit : (index : Key → ℕ) (ps : List Piece) → Low index → PiecesPlain smallFormat ps → PiecesFit smallFormat index ps
+pieces-fit index [] low h = tt
+pieces-fit index (words ns ∷ ps) low h = (h .0, pieces-fit index ps low (h .1))
+pieces-fit index (stream b ∷ ps) low h = (h .0, pieces-fit index ps low (h .1))
+pieces-fit index (refers x ∷ ps) low h = (referent-fits index x low (h .0), pieces-fit index ps low (h .1))
+
 -- a plain item fits with any indexes that the tables hold
 pub plain-fits : (index : Key → ℕ) (i : Item) → Low index → ItemPlain smallFormat i → ItemFits smallFormat index i
-plain-fits index magic low h = tt
-plain-fits index (providerInfo id name) low h = h
-plain-fits index (section id) low h = h
-plain-fits index (providerEvent id e) low h = h
-plain-fits index (initialization rate) low h = h
-plain-fits index (event e) low h =
-    let t = thread-fits index (e .thread) low (h .thread) in
-    let c = text-fits index (e .category) low (h .category) in
-    let n = text-fits index (e .name) low (h .name) in
-    let a = arguments-fit index (e .arguments) low (h .arguments) in
+plain-fits index i low h =
+    let pieces = pieces-fit index (layoutOfItem i .pieces) low (h .pieces) in
+    let arguments = arguments-fit index (layoutOfItem i .arguments) low (h .arguments) in
     record {
-      type = h .type;
-      timestamp = h .timestamp;
-      thread = t;
-      category = c;
-      name = n;
-      count = h .count;
-      arguments = a;
-      extra = h .extra;
-      no-extra = h .no-extra;
-      size = omega (arith, small-event index e t c n (h .count) a);
+      suits = h .suits;
+      layout = record { pieces = pieces; arguments = arguments; last = h .last; size = small-item index i (h .suits) pieces arguments };
     }
-plain-fits index (skipped type size) low h = h
+
+-- ---- and so are their keys
 
 -- the keys of these uses fit under every index of their table
 abbrev pub KeysPlain : List Use → Type 0
@@ -138,6 +131,10 @@ thread-keys : (provider : Option ℕ) (t : Shown Thread) → ThreadPlain t → K
 thread-keys provider (known (thread p t)) h = (λ index some low. (some, omega arith, h .0, h .1), tt)
 thread-keys provider (unresolved i) h = tt
 
+referent-keys : (provider : Option ℕ) (s : Referent) → ReferentPlain smallFormat s → KeysPlain (referentUses provider s)
+referent-keys provider (textReferent t) h = text-keys provider t h
+referent-keys provider (threadReferent t) h = thread-keys provider t h
+
 value-keys : (provider : Option ℕ) (v : Value) → ValuePlain smallFormat v → KeysPlain (valueUses provider v)
 value-keys provider (scalar s) h = tt
 value-keys provider (text t) h = text-keys provider t h
@@ -149,18 +146,15 @@ arguments-keys provider (a ∷ l) h =
     (keys-both (valueUses provider (a .value)) (argumentsUses provider l) (value-keys provider (a .value) (h .1)) (arguments-keys provider l (h .2)))
 
 -- the keys of a plain item do
+pieces-keys : (provider : Option ℕ) (ps : List Piece) (more : List Use) → PiecesPlain smallFormat ps → KeysPlain more → KeysPlain (piecesUses provider ps more)
+pieces-keys provider [] more h k = k
+pieces-keys provider (words ns ∷ ps) more h k = pieces-keys provider ps more (h .1) k
+pieces-keys provider (stream b ∷ ps) more h k = pieces-keys provider ps more (h .1) k
+pieces-keys provider (refers x ∷ ps) more h k =
+    keys-both (referentUses provider x) (piecesUses provider ps more) (referent-keys provider x (h .0)) (pieces-keys provider ps more (h .1) k)
+
 pub plain-keys : (i : Item) → ItemPlain smallFormat i → KeysPlain (usesOf i)
-plain-keys magic h = tt
-plain-keys (providerInfo id name) h = tt
-plain-keys (section id) h = tt
-plain-keys (providerEvent id e) h = tt
-plain-keys (initialization rate) h = tt
-plain-keys (event e) h =
-    let p = e .provider in
-    let c = textUses p (e .category) in
-    let n = textUses p (e .name) in
-    let a = argumentsUses p (e .arguments) in
-    keys-both (threadUses p (e .thread)) (c ++ (n ++ a)) (thread-keys p (e .thread) (h .thread))
-    (keys-both c (n ++ a) (text-keys p (e .category) (h .category))
-    (keys-both n a (text-keys p (e .name) (h .name)) (arguments-keys p (e .arguments) (h .arguments))))
-plain-keys (skipped type size) h = absurd h
+plain-keys i h =
+    let l = layoutOfItem i in
+    pieces-keys (l .provider) (l .pieces) (argumentsUses (l .provider) (l .arguments)) (h .pieces)
+    (arguments-keys (l .provider) (l .arguments) (h .arguments))

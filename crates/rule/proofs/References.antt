@@ -2,30 +2,30 @@
 -- Assumes nothing.
 use Prim.Native.Nat.{ℕ, _+_, _-_, _≤_, min}
 use mathlib.Core.Path.{_≡_, refl, sym, ap, _∙_}
-use mathlib.Core.List.{List, [], _∷_}
+use mathlib.Core.List.{[], List, _∷_}
 use mathlib.Core.Option.{Option}
 use native.Mathlib.Omega.{arith}
 use borrow.Author.Tests.{leb-false, eqb-false}
 use lib.Dec.{eqb, leb}
 use lib.ListN.{length, take, drop, length-take, length-drop}
 use Rattle.words.specs.Word.{_of_}
+use Rattle.words.specs.Stream.{partOf}
+use Rattle.words.proofs.Tests.{cases}
 use Rattle.format.specs.declared.Format.{Format}
 use Rattle.format.specs.declared.Reference.{Reference}
 use Rattle.format.specs.declared.Reference.the-variants.{Inline, Index}
 use Rattle.arguments.specs.declared.Value.{Value as ReadValue}
 use Rattle.arguments.specs.declared.Value.the-variants.{Scalar as ScalarValue, Text as TextValue}
-use Rattle.arguments.proofs.Arguments.{cases}
-use Rattle.records.specs.Item.{Shown, known, unresolved, Thread, thread, Text, Value, scalar, text, textKey, threadKey}
-use Rattle.records.specs.Written.{textIndex, threadIndex, textInline, threadInline, writtenText, writtenThread}
-use Rattle.records.proofs.WrittenParts.{Spells}
-use Rattle.records.proofs.WrittenRecords.{body-text, body-thread}
-use Rattle.records.proofs.WrittenArguments.{TextFits, ValueFits, SpellsValue}
-use Rattle.records.proofs.WrittenEvents.{ThreadFits}
+use Rattle.records.specs.Item.{Shown, known, unresolved, Thread, thread, Text, Value, scalar, text, textKey, threadKey, Referent, textReferent, threadReferent, referentTable}
+use Rattle.encoding.specs.Encoded.{textIndex, threadIndex, textInline, threadInline, encodedText, encodedThread, stream, encodedReferent}
+use Rattle.encoding.proofs.EncodedParts.{Spells}
+use Rattle.encoding.proofs.EncodedRecords.{body-text, body-thread}
+use Rattle.encoding.proofs.EncodedArguments.{TextFits, ValueFits, SpellsValue}
+use Rattle.encoding.proofs.EncodedLayouts.{ThreadFits, ReferentFits}
 use Rattle.contexts.specs.declared.State.{State}
 use Rattle.tables.specs.Table.{resolved}
-use Rattle.reader.specs.Shown.{shownText, shownThread, shownValue}
-use Rattle.reader.specs.Ask.{partOf}
-use Rattle.reader.specs.Reads.{textItem, threadItem, valueItem}
+use Rattle.reader.specs.Shown.{shownText, shownThread, shownValue, shownReferent, shownStream}
+use Rattle.reader.specs.Reads.{textItem, threadItem, valueItem, referentItem, streamItem}
 use Rattle.reader.proofs.Runs.{Sound}
 use Rattle.rule.specs.Rule.{Entry, indexIn}
 use Rattle.rule.proofs.Tables.{Every, index-holds}
@@ -71,7 +71,7 @@ module _ (f : Format) (archive tables : List ℕ) (s : State) (table : List Entr
       (body-text 2 (index of 15 ∷ 0 of 1 ∷ length b of 15 ∷ 0 of 17 ∷ []) b archive (k .place) (k .there))))
 
   -- a text that was written is shown
-  pub text-shown : (t : Text) (r : Reference) → TextFits f (indexIn table provider) t → Spells archive r (writtenText (indexIn table provider) t)
+  pub text-shown : (t : Text) (r : Reference) → TextFits f (indexIn table provider) t → Spells archive r (encodedText (indexIn table provider) t)
       → textItem archive (shownText (resolved f archive tables context 2 limit r)) ≡ t
   text-shown (known b) r fit h =
       let i = indexIn table provider (textKey b) in
@@ -98,7 +98,7 @@ module _ (f : Format) (archive tables : List ℕ) (s : State) (table : List Entr
 
   -- a thread that was written is shown
   pub thread-shown : (t : Shown Thread) (r : Reference) → ThreadFits (indexIn table provider) t
-      → Spells archive r (writtenThread (indexIn table provider) t)
+      → Spells archive r (encodedThread (indexIn table provider) t)
       → threadItem (shownThread archive (resolved f archive tables context 3 limit r)) ≡ t
   thread-shown (known (thread p t)) r fit h =
       let i = indexIn table provider (threadKey (thread p t)) in
@@ -113,3 +113,17 @@ module _ (f : Format) (archive tables : List ℕ) (s : State) (table : List Entr
   value-shown (scalar a) (TextValue r) fit h = absurd h
   value-shown (text t) (ScalarValue b) fit h = absurd h
   value-shown (text t) (TextValue r) fit h = ap text (text-shown t r fit h)
+
+  -- what a record refers to is shown
+  pub referent-shown : (x : Referent) (kind : ℕ) (r : Reference) → ReferentFits f (indexIn table provider) x → kind ≡ referentTable x
+      → Spells archive r (encodedReferent (indexIn table provider) x)
+      → referentItem archive (shownReferent archive kind (resolved f archive tables context kind limit r)) ≡ x
+  unfolding shownReferent
+  referent-shown (textReferent t) kind r fit e h = rw e (ap textReferent (text-shown t r fit h))
+  referent-shown (threadReferent t) kind r fit e h = rw e (ap threadReferent (thread-shown t r fit h))
+
+-- a stream that was written is shown
+pub stream-shown : (archive b : List ℕ) (r : Reference) → Spells archive r (stream b) → streamItem archive (shownStream r) ≡ b
+unfolding shownStream
+stream-shown archive b (Inline place n) h = part-is archive place n b (h .0) (h .1)
+stream-shown archive b (Index i) h = absurd h

@@ -3,13 +3,13 @@
 -- Assumes nothing.
 use Prim.Native.Nat.{ℕ, _≤_, _<_}
 use mathlib.Core.Path.{_≡_, refl, ap}
-use mathlib.Core.List.{List, [], _∷_}
+use mathlib.Core.List.{[], List, _∷_}
 use mathlib.Core.Bool.{true, _&&_}
 use mathlib.Core.Option.{Option}
 use native.Mathlib.Omega.{arith}
 use borrow.Author.Tests.{eq-eqb}
 use lib.Dec.{eqb}
-use Rattle.arguments.proofs.Arguments.{cases}
+use Rattle.words.proofs.Tests.{cases}
 use Rattle.records.specs.Item.{Key, textKey, threadKey, Use}
 use Rattle.rule.specs.Rule.{sameProvider, sameUse, sameKind, Entry, indexIn, nextIndex}
 use Rattle.rule.proofs.Uses.{same-provider-refl, same-use-eq}

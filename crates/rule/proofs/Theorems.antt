@@ -13,10 +13,10 @@ use Rattle.rule.specs.Rule.{rule}
 use Rattle.rule.specs.Refusal.{runOf, itemsOf, Accepted, writtenLength}
 use Rattle.rule.proofs.Accepted.{accepted-writable}
 use Rattle.rule.proofs.Again.{accepted-again}
-use Rattle.rule.proofs.Bounds.{AllBytes}
+use Rattle.words.proofs.Words.{AllBytes}
 use Rattle.rule.proofs.Length.{rule-least-bytes}
 use Rattle.rule.proofs.Lower.{any-run-pays}
-use Rattle.rule.proofs.ReadBack.{written-reads}
+use Rattle.rule.proofs.ReadBack.{rule-reads}
 use Rattle.rule.proofs.WholeRuns.{reads-items, not-refused-reads}
 
 -- An archive that reads to its end as a list of items is repacked as that list: the items of its run are the list's, all of them, in order.
@@ -46,7 +46,7 @@ pub reads-back : (a : List ℕ) (l : List Item) → Accepted smallFormat a → A
 reads-back a l h bytes r =
     let same : writtenLength smallFormat a ≡ length (rule l) = ap (λ items. length (rule items)) (run-items smallFormat a l r) in
     let short : length (rule l) ≤ length a = omega (arith, same, shortest smallFormat a a l h r r) in
-    (written-reads smallFormat l (accepted-writable a l h bytes r short), sym same)
+    (rule-reads smallFormat l (accepted-writable a l h bytes r short), sym same)
 
 -- Repacking what was written gives the same bytes again.
 pub again : (a : List ℕ) (l : List Item) → Accepted smallFormat a → AllBytes a → ReadsAs smallFormat a l

@@ -2,18 +2,14 @@
 -- Assumes nothing.
 use Prim.Native.Nat.{ℕ}
 use mathlib.Core.Path.{_≡_, refl}
-use mathlib.Core.Bool.{Bool, true, false, _&&_}
+use mathlib.Core.Bool.{true}
 use mathlib.Core.Option.{Option, none, some}
 use borrow.Author.Tests.{eq-eqb, eqb-true}
 use lib.Dec.{eqb}
+use Rattle.words.proofs.Tests.{both-true}
 use Rattle.words.proofs.Same.{same-true, same-refl}
 use Rattle.records.specs.Item.{thread, Key, textKey, threadKey, Use}
 use Rattle.rule.specs.Rule.{sameKey, sameProvider, sameKind, sameUse}
-
--- both of two tests that hold together hold
-pub both-true : (a b : Bool) → (a && b) ≡ true → (a ≡ true) × (b ≡ true)
-both-true true b e = (refl, e)
-both-true false b e = (cc, cc)
 
 -- keys that compare as the same are the same
 pub same-key-eq : (a b : Key) → sameKey a b ≡ true → a ≡ b

@@ -1,33 +1,36 @@
 -- The run of an archive and the list that it reads as: the run goes on to the archive's end, and its items are that list.
 -- Assumes nothing.
 use Prim.Native.Nat.{ℕ, zero, suc, _+_, _-_, _*_, _/_, _≤_, _<_}
-use mathlib.Core.Path.{_≡_, refl, sym, ap, subst}
-use mathlib.Core.List.{List, [], _∷_}
+use mathlib.Core.Path.{_≡_, refl, ap, subst}
+use mathlib.Core.List.{[], List, _∷_}
 use mathlib.Core.Option.{Option, none, some}
 use mathlib.Core.Logic.{_⊎_, inl, inr}
 use native.Mathlib.Omega.{arith}
-use borrow.Author.Tests.{eqb-true, eqb-false}
+use borrow.Author.Tests.{eqb-true}
 use lib.Dec.{eqb}
 use lib.ListN.{length, take, drop, replicate}
+use Rattle.words.specs.Stream.{partOf}
+use Rattle.words.proofs.Tests.{on-pick}
 use Rattle.format.specs.declared.Format.{Format}
-use Rattle.format.proofs.Parts.{on-pick}
-use Rattle.records.specs.declared.Content.{Content}
-use Rattle.records.specs.declared.Content.the-variants.{Refused, Magic as MagicRead, ProviderInfo as ProviderInfoRead, Section as SectionRead, ProviderEvent as ProviderEventRead, Initialization as InitializationRead, String, Thread, Event as EventRead, Ignored, Skipped as SkippedRead}
+use Rattle.records.specs.declared.Content.the-variants.{Refused}
 use Rattle.records.specs.Record.{recordAt}
 use Rattle.records.specs.Item.{Item, magic, providerInfo, section, providerEvent, initialization, skipped}
 use Rattle.contexts.specs.declared.State.{State}
 use Rattle.contexts.specs.Context.{opening, belongsTo}
 use Rattle.tables.specs.Table.{tableWords}
 use Rattle.reader.specs.declared.Answer.{Answer}
-use Rattle.reader.specs.declared.Answer.the-variants.{End, Nothing, Magic, ProviderInfo, Section, ProviderEvent, Initialization, Event, Skipped}
+use Rattle.reader.specs.declared.Answer.the-variants.{End, Nothing, Magic, ProviderInfo, Section, ProviderEvent, Initialization, Report, Skipped}
 use Rattle.reader.specs.declared.Decision.{Decision}
-use Rattle.reader.specs.Step.{doorOf, stopping, registering, contentDecision, placeDecision, decisionOf, stepReply, stepTables}
-use Rattle.reader.specs.Ask.{partOf}
+use Rattle.reader.specs.Step.{openingNumber, stopping, contentDecision, placeDecision, decisionOf, stepReply, stepTables, plainAnswer}
 use Rattle.reader.specs.Reads.{itemOf, Reads, ends, passes, shows, ReadsAs}
 use Rattle.reader.proofs.Lookups.{ContentFits, record-whole}
-use Rattle.reader.proofs.Changes.{on-decision, on-entering, on-event}
+use Rattle.reader.proofs.Changes.{on-decision, on-entering, on-report, registering, stop-decided}
 use Rattle.reader.proofs.Runs.{Sound, fresh-sound, step-sound}
-use Rattle.reader.proofs.NeverFour.{event-item}
+use Rattle.reader.proofs.NeverFour.{report-item}
+use Rattle.reader.specs.Shown.{noneBad}
+use Rattle.reader.proofs.Numbers.{step-places}
+use Rattle.records.specs.Effect.{effectOf}
+use Rattle.records.proofs.Passes.{RecordNumber}
 use Rattle.rule.specs.Refusal.{Run, ended, passed, keepsAt, onAnswer, runFrom, runOf, Refusal, orElse, stopRefusal, lossRefusal, unresolvedRefusal, limitRefusal, refusalOf, itemsOf, Accepted}
 
 -- ---- steps go on
@@ -41,13 +44,13 @@ Ended (ProviderInfo id place long) = ⊥
 Ended (Section id) = ⊥
 Ended (ProviderEvent id e) = ⊥
 Ended (Initialization rate) = ⊥
-Ended (Event e) = ⊥
+Ended (Report e) = ⊥
 Ended (Skipped type size) = ⊥
 
 -- a step ends or is refused, or moves on by a word at least
 pub step-advances : (f : Format) (archive tables : List ℕ) (s : State)
     → Ended (stepReply f archive tables s .answer) ⊎ (s .place + 8 ≤ stepReply f archive tables s .state .place)
-unfolding decisionOf placeDecision contentDecision stopping registering
+unfolding decisionOf placeDecision contentDecision noneBad plainAnswer effectOf stopping registering
 step-advances f archive tables s = go (record-whole f archive (s .place) .some)
   where
     next : ℕ
@@ -56,17 +59,20 @@ step-advances f archive tables s = go (record-whole f archive (s .place) .some)
     P : Decision → Type 0
     P d = Ended (d .answer) ⊎ (s .place + 8 ≤ d .state .place)
 
+    refused : (number : ℕ) → recordAt f archive (s .place) .content ≡ Refused number → RecordNumber number
+    refused number e = subst (ContentFits f (take (next - s .place) (drop (s .place) archive)) (s .place)) e (record-whole f archive (s .place) .holds)
+
     go : ((number : ℕ) × (recordAt f archive (s .place) .content ≡ Refused number)) ⊎ (s .place + 8 ≤ next) → P (decisionOf f archive tables s)
     go (inl (number, e)) =
-        on-pick P (eqb (doorOf f archive (length tables)) 0) _ _
+        on-pick P (eqb (openingNumber f archive (length tables)) 0) _ _
         (λ q. on-pick P (belongsTo s (length archive)) _ _
-        (λ q. on-pick P (eqb (s .place) (length archive)) _ _ (λ q. inl tt) (λ q. rw e (inl tt)))
+        (λ q. on-pick P (eqb (s .place) (length archive)) _ _ (λ q. inl tt) (λ q. rw (e, stop-decided f s number next Nothing (refused number e .0)) (inl tt)))
         (λ q. inl tt))
         (λ q. inl tt)
     go (inr l) =
         on-decision P f archive tables s (λ number place k. inl tt) (λ answer k. inr l) (λ rate. inr l)
         (λ id answer k. on-entering P s id next answer (inl tt) (λ i e. inr l) (λ e z. inr l))
-        (λ kind index r. inr l) (λ e k. on-event P f archive tables s e next (inl tt) (λ shown. inr l))
+        (λ kind index r. inr l) (λ e k. on-report P f archive tables s e next (inl tt) (λ shown. inr l))
 
 -- so one that does not end stands a word further
 advanced : (f : Format) (archive tables : List ℕ) (s : State) → (Ended (stepReply f archive tables s .answer) → ⊥)
@@ -88,7 +94,7 @@ item-goes-on f archive tables s (ProviderInfo id place long) i e h = h
 item-goes-on f archive tables s (Section id) i e h = h
 item-goes-on f archive tables s (ProviderEvent id event) i e h = h
 item-goes-on f archive tables s (Initialization rate) i e h = h
-item-goes-on f archive tables s (Event event) i e h = h
+item-goes-on f archive tables s (Report event) i e h = h
 item-goes-on f archive tables s (Skipped type size) i e h = h
 
 -- a step that shows nothing moves on by a word at least
@@ -107,42 +113,7 @@ item-advances f archive tables s i e =
 -- a step that replies 0 replies it at the archive's length
 pub end-place : (f : Format) (archive tables : List ℕ) (s : State) (place : ℕ) → stepReply f archive tables s .answer ≡ End 0 place
     → place ≡ length archive
-unfolding decisionOf placeDecision contentDecision stopping registering
-end-place f archive tables s =
-    on-pick P (eqb (doorOf f archive (length tables)) 0) _ _
-    (λ q. on-pick P (belongsTo s (length archive)) _ _
-    (λ q. on-pick P (eqb (s .place) (length archive)) _ _ (λ q place e. let p : s .place ≡ place = cc in omega (arith, p, eqb-true (s .place) (length archive) q))
-    (λ q. of-content (recordAt f archive (s .place) .content) (record-whole f archive (s .place) .holds)))
-    (λ q place e. let z : _≡_ {A = ℕ} 4 0 = cc in absurd (omega arith)))
-    (λ q place e. let z : doorOf f archive (length tables) ≡ 0 = cc in absurd (eqb-false (doorOf f archive (length tables)) 0 q z))
-  where
-    next : ℕ
-    next = recordAt f archive (s .place) .next
-
-    P : Decision → Type 0
-    P d = (place : ℕ) → d .answer ≡ End 0 place → place ≡ length archive
-
-    other : (answer : Answer) → (Ended answer → ⊥) → (place : ℕ) → answer ≡ End 0 place → place ≡ length archive
-    other answer h place e = absurd (h (subst Ended (sym e) tt))
-
-    ninth : (place : ℕ) → End 9 (s .place) ≡ End 0 place → place ≡ length archive
-    ninth place e = let z : _≡_ {A = ℕ} 9 0 = cc in absurd (omega arith)
-
-    of-content : (c : Content) → ContentFits f (take (next - s .place) (drop (s .place) archive)) (s .place) c → P (contentDecision f archive tables s c next)
-    of-content (Refused number) h = λ place e. let z : number ≡ 0 = cc in absurd (omega (arith, h .0))
-    of-content MagicRead h = other Magic (λ k. k)
-    of-content (ProviderInfoRead id at long) h =
-        on-entering P s id next (ProviderInfo id at long) ninth (λ i q. other (ProviderInfo id at long) (λ k. k)) (λ q z. other (ProviderInfo id at long) (λ k. k))
-    of-content (SectionRead id) h =
-        on-entering P s id next (Section id) ninth (λ i q. other (Section id) (λ k. k)) (λ q z. other (Section id) (λ k. k))
-    of-content (ProviderEventRead id event) h = other (ProviderEvent id event) (λ k. k)
-    of-content (InitializationRead rate) h = other (Initialization rate) (λ k. k)
-    of-content (String index at long) h = other Nothing (λ k. k)
-    of-content (Thread index at) h = other Nothing (λ k. k)
-    of-content (EventRead e) h =
-        on-event P f archive tables s e next (λ place q. let z : _≡_ {A = ℕ} 4 0 = cc in absurd (omega arith)) (λ shown. other (Event shown) (λ k. k))
-    of-content Ignored h = other Nothing (λ k. k)
-    of-content (SkippedRead type size) h = other (Skipped type size) (λ k. k)
+end-place f archive tables s place e = step-places f archive tables s 0 place e .end refl
 
 -- ---- a step of a run
 
@@ -155,7 +126,7 @@ passes-on (ProviderInfo id place long) run h = refl
 passes-on (Section id) run h = refl
 passes-on (ProviderEvent id e) run h = refl
 passes-on (Initialization rate) run h = refl
-passes-on (Event e) run h = refl
+passes-on (Report e) run h = refl
 passes-on (Skipped type size) run h = refl
 
 -- a run at its end
@@ -264,15 +235,15 @@ run-reads f archive (suc steps) s tables h n k =
     of-answer behind (Section id) e = of-item behind (section id) (rw e)
     of-answer behind (ProviderEvent id event) e = of-item behind (providerEvent id event) (rw e)
     of-answer behind (Initialization rate) e = of-item behind (initialization rate) (rw e)
-    of-answer behind (Event shown) e = let item = event-item f archive tables s shown h e in of-item behind (item .0) (item .1)
+    of-answer behind (Report shown) e = let item = report-item f archive tables s shown h e in of-item behind (item .0) (item .1)
     of-answer behind (Skipped type size) e = of-item behind (skipped type size) (rw e)
 
 -- an archive that is opened and whose run is not refused reads as the items of its run
-pub items-read : (f : Format) (archive : List ℕ) → doorOf f archive (tableWords f) ≡ 0 → stopRefusal (runOf f archive) ≡ none
+pub items-read : (f : Format) (archive : List ℕ) → openingNumber f archive (tableWords f) ≡ 0 → stopRefusal (runOf f archive) ≡ none
     → ReadsAs f archive (itemsOf (runOf f archive))
 unfolding runOf
-items-read f archive door k = (
-  door,
+items-read f archive opens k = (
+  opens,
   run-reads f archive (length archive / 8 + 1) opening (replicate (tableWords f) 0) (fresh-sound f archive) (omega arith) k,
 )
 

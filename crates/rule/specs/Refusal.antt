@@ -1,26 +1,25 @@
 -- Which archives repacking refuses, and where, after "Repacking checks" of document 01.
-use Prim.Native.Nat.{ℕ, zero, suc, _+_, _-_, _*_, _/_}
-use mathlib.Core.List.{List, [], _∷_, _++_}
-use mathlib.Core.Bool.{Bool, true, false, cond, _&&_, _||_, not}
+use Prim.Native.Nat.{ℕ, zero, suc, _+_, _-_, _/_}
+use mathlib.Core.List.{[], List, _∷_, _++_}
+use mathlib.Core.Bool.{Bool, false, cond, _&&_, _||_}
 use mathlib.Core.Option.{Option, none, some}
 use mathlib.Core.Path.{_≡_}
 use lib.Dec.{eqb, ltb}
 use lib.ListN.{length, take, drop, replicate}
 use Rattle.words.specs.Word.{pick}
+use Rattle.registering.specs.Counting.{keys}
 use Rattle.format.specs.declared.Format.{Format}
-use Rattle.records.specs.declared.Record.{Record}
 use Rattle.records.specs.Record.{recordAt}
 use Rattle.records.specs.Loss.{recordKeeps}
-use Rattle.records.specs.Item.{Shown, known, unresolved, Thread, Text, Value, scalar, text, Argument, Item, magic, providerInfo, section, providerEvent, initialization, event, skipped, Key, textKey, threadKey, Use, usesOf}
+use Rattle.records.specs.Item.{Item, unresolvedIn, Key, textKey, threadKey, Use, usesOf}
 use Rattle.contexts.specs.declared.State.{State}
 use Rattle.contexts.specs.Context.{opening}
 use Rattle.tables.specs.Table.{tableWords}
 use Rattle.reader.specs.declared.Answer.{Answer}
-use Rattle.reader.specs.declared.Answer.the-variants.{End, Nothing, Magic, ProviderInfo, Section, ProviderEvent, Initialization, Event, Skipped}
-use Rattle.reader.specs.Step.{doorOf, stepReply, stepTables}
+use Rattle.reader.specs.declared.Answer.the-variants.{End, Nothing, Magic, ProviderInfo, Section, ProviderEvent, Initialization, Report, Skipped}
+use Rattle.reader.specs.Step.{openingNumber, stepReply, stepTables}
 use Rattle.reader.specs.Reads.{itemOf}
-use Rattle.rule.specs.Counting.{keys}
-use Rattle.rule.specs.Rule.{sameUse, sameProvider, sameKind, usesAll, rule}
+use Rattle.rule.specs.Rule.{sameUse, sameProvider, sameKind, rule}
 
 -- a reading of a whole archive: each record with its place, whether it loses nothing, and its item; last the number and place it ends with
 pub data Run : Type 0 where
@@ -40,7 +39,7 @@ onAnswer (ProviderInfo id place long) stop go = go
 onAnswer (Section id) stop go = go
 onAnswer (ProviderEvent id e) stop go = go
 onAnswer (Initialization rate) stop go = go
-onAnswer (Event e) stop go = go
+onAnswer (Report e) stop go = go
 onAnswer (Skipped type size) stop go = go
 
 -- so many steps at most; each record has a word at least, so one step more than the archive has words is enough. That the first clause, with no
@@ -76,28 +75,9 @@ lossRefusal (ended number place) = none
 lossRefusal (passed place keeps item run) = let rest = lossRefusal run in pick keeps rest (some (refusal 10 place))
 
 -- "an unresolved reference"
-abbrev pub isUnresolved : {A : Type 0} → Shown A → Bool
-isUnresolved (known a) = false
-isUnresolved (unresolved index) = true
-
-abbrev pub valueUnresolved : Value → Bool
-valueUnresolved (scalar s) = false
-valueUnresolved (text t) = isUnresolved t
-
-abbrev pub argumentsUnresolved : List Argument → Bool
-argumentsUnresolved [] = false
-argumentsUnresolved (a ∷ l) = isUnresolved (a .name) || (valueUnresolved (a .value) || argumentsUnresolved l)
-
 abbrev pub itemUnresolved : Option Item → Bool
 itemUnresolved none = false
-itemUnresolved (some magic) = false
-itemUnresolved (some (providerInfo id name)) = false
-itemUnresolved (some (section id)) = false
-itemUnresolved (some (providerEvent id e)) = false
-itemUnresolved (some (initialization rate)) = false
-itemUnresolved (some (event e)) =
-    isUnresolved (e .thread) || (isUnresolved (e .category) || (isUnresolved (e .name) || argumentsUnresolved (e .arguments)))
-itemUnresolved (some (skipped type size)) = false
+itemUnresolved (some i) = unresolvedIn i
 
 abbrev pub unresolvedRefusal : Run → Option Refusal
 unresolvedRefusal (ended number place) = none
@@ -139,9 +119,9 @@ itemsOf (ended number place) = []
 itemsOf (passed place keeps none run) = itemsOf run
 itemsOf (passed place keeps (some i) run) = i ∷ itemsOf run
 
--- "Accepted means not refused", room aside: 2 and 1 at the door, and none of 5 to 12
+-- "Accepted means not refused", room aside: 2 and 1 before anything is read, and none of 5 to 12
 pub record Accepted (f : Format) (archive : List ℕ) : Type 0 where
-  pub opened : doorOf f archive (tableWords f) ≡ 0
+  pub opened : openingNumber f archive (tableWords f) ≡ 0
   pub not-refused : refusalOf f (runOf f archive) ≡ none
 
 -- "The written length in the reply counts the bytes written"

@@ -1,19 +1,14 @@
 -- The bytes that document 01's repacking rule gives for a list of items.
-use Prim.Native.Nat.{ℕ, _+_, _*_}
-use mathlib.Core.List.{List, [], _∷_, _++_}
+use Prim.Native.Nat.{ℕ, _+_}
+use mathlib.Core.List.{[], List, _∷_, _++_}
 use mathlib.Core.Bool.{Bool, true, false, cond, _&&_}
 use mathlib.Core.Option.{Option, none, some}
-use lib.Dec.{eqb, ltb}
-use Rattle.words.specs.Word.{pick}
+use lib.Dec.{eqb}
 use Rattle.words.specs.Stream.{sameBytes}
-use Rattle.records.specs.Item.{Thread, thread, Item, magic, providerInfo, section, providerEvent, initialization, event, skipped, Key, textKey, threadKey, keyWords, Use, usesOf}
-use Rattle.records.specs.Written.{stringRecord, threadRecord, itemRecord}
-use Rattle.rule.specs.Counting.{count}
-
--- "A string of w words used k times in a context is registered exactly if 1 + w is below k times w; a thread exactly if 3 is below 2k":
--- a thread is a key of two words
-unfoldable pub registers : ℕ → ℕ → Bool
-registers w k = ltb (1 + w) (k * w)
+use Rattle.registering.specs.Counting.{count}
+use Rattle.registering.specs.Registers.{registers}
+use Rattle.records.specs.Item.{thread, Item, itemProvider, Key, textKey, threadKey, keyWords, Use, usesOf}
+use Rattle.encoding.specs.Encoded.{stringRecord, threadRecord, itemRecord}
 
 -- "strings byte for byte, threads by their two words"
 abbrev pub sameKey : Key → Key → Bool
@@ -86,22 +81,12 @@ abbrev pub registrations : (Use → Bool) → List Entry → List Use → List �
 registrations chosen table [] = []
 registrations chosen table (u ∷ us) = useBytes chosen table u ++ registrations chosen (withUse chosen table u) us
 
--- the context whose indexes an item's record uses
-abbrev pub providerOf : Item → Option ℕ
-providerOf magic = none
-providerOf (providerInfo id name) = none
-providerOf (section id) = none
-providerOf (providerEvent id e) = none
-providerOf (initialization rate) = none
-providerOf (event e) = e .provider
-providerOf (skipped type size) = none
-
 -- "A registration stands right before the first record using it: thread, then strings by first use in that record."
-abbrev pub written : (Use → Bool) → List Entry → List Item → List ℕ
-written chosen table [] = []
-written chosen table (i ∷ items) =
+abbrev pub recordsFrom : (Use → Bool) → List Entry → List Item → List ℕ
+recordsFrom chosen table [] = []
+recordsFrom chosen table (i ∷ items) =
     registrations chosen table (usesOf i)
-    ++ (itemRecord (indexIn (tableAfter chosen table (usesOf i)) (providerOf i)) i ++ written chosen (tableAfter chosen table (usesOf i)) items)
+    ++ (itemRecord (indexIn (tableAfter chosen table (usesOf i)) (itemProvider i)) i ++ recordsFrom chosen (tableAfter chosen table (usesOf i)) items)
 
 -- which uses of a list are of registered keys; "Otherwise each use is inline."
 abbrev pub chosenIn : List Use → Use → Bool
@@ -109,4 +94,4 @@ chosenIn uses u = registers (keyWords (u .key)) (count sameUse u uses)
 
 -- the bytes that the repacking rule gives
 unfoldable pub rule : List Item → List ℕ
-rule items = written (chosenIn (usesAll items)) [] items
+rule items = recordsFrom (chosenIn (usesAll items)) [] items

@@ -12,27 +12,33 @@ use lib.Dec.{eqb, ltb, lit<}
 use lib.ListN.{length, drop, getD, replicate, length-append, length-drop, length-replicate, getD-replicate, List·getD-append}
 use Rattle.words.specs.Word.{pick}
 use Rattle.words.specs.Stream.{streamWords}
+use Rattle.words.proofs.Tests.{on-pick}
 use Rattle.format.specs.declared.Format.{Format}
 use Rattle.format.specs.declared.Reference.the-variants.{Inline, Index}
 use Rattle.format.specs.Limits.{smallFormat}
-use Rattle.format.specs.Part.{Inside}
-use Rattle.format.proofs.Parts.{on-pick}
+use Rattle.format.specs.Models.Bounds.{Inside}
 use Rattle.records.specs.declared.Content.{Content}
-use Rattle.records.specs.declared.Content.the-variants.{Refused, Magic, ProviderInfo, Section, ProviderEvent, Initialization, String, Thread, Event, Ignored, Skipped}
+use Rattle.records.specs.declared.Content.the-variants.{Refused, Magic, ProviderInfo, Section, ProviderEvent, Initialization, String, Thread, Report, Ignored, Skipped}
 use Rattle.records.specs.Record.{recordAt}
-use Rattle.records.specs.Loss.{ContentInside}
+use Rattle.records.specs.Models.Bounds.{ContentInside}
 use Rattle.records.proofs.Contents.{on-record}
 use Rattle.tables.specs.declared.Registration.{Registration}
 use Rattle.tables.specs.declared.Registration.the-variants.{Nothing, Entry}
 use Rattle.tables.specs.declared.Resolved.{Resolved}
 use Rattle.tables.specs.declared.Resolved.the-variants.{Bad, Known, Unresolved}
-use Rattle.tables.specs.Table.{FormatFits, tableWords, highestOf, position, cleared, registrationOf, onRegistration, entryAt, resolved}
+use Rattle.tables.specs.Table.{tableWords, highestOf, position, cleared, registrationOf, onRegistration, entryAt, resolved}
+use Rattle.tables.specs.Models.Entries.{FormatFits}
+use Rattle.records.specs.Effect.{effectOf}
 
 -- ---- where entries stand
 
 -- the limits of this format fit
 pub small-fits : FormatFits smallFormat
 small-fits = record { indexes = lit< tt }
+
+-- and so do those of whatever is that format
+pub small-format : (f : Format) → f ≡ smallFormat → FormatFits f
+small-format f small = subst FormatFits (sym small) small-fits
 
 place-lt : (b : Bool) (highest context index : ℕ) → context ≤ 8 → index ≤ pick b 255 highest
     → pick b (context * (highest + 257) + (highest + 1) + index) (context * (highest + 257) + index) < 9 * (highest + 257)
@@ -149,7 +155,7 @@ RegistrationInside from to Nothing = Unit {0}
 RegistrationInside from to (Entry kind index place long) = Inside from to (Inline place long)
 
 registration-inside : (from to : ℕ) (c : Content) → ContentInside from to c → RegistrationInside from to (registrationOf c)
-unfolding registrationOf
+unfolding registrationOf effectOf
 registration-inside from to (Refused number) i = tt
 registration-inside from to Magic i = tt
 registration-inside from to (ProviderInfo id place long) i = tt
@@ -158,7 +164,7 @@ registration-inside from to (ProviderEvent id event) i = tt
 registration-inside from to (Initialization rate) i = tt
 registration-inside from to (String index place long) i = i
 registration-inside from to (Thread index place) i = i
-registration-inside from to (Event e) i = tt
+registration-inside from to (Report r) i = tt
 registration-inside from to Ignored i = tt
 registration-inside from to (Skipped type size) i = tt
 
@@ -166,7 +172,7 @@ registration-inside from to (Skipped type size) i = tt
 pub registered-inside : (f : Format) (archive : List ℕ) (entry kind index place long : ℕ)
     → registrationOf (recordAt f archive entry .content) ≡ Entry kind index place long
     → Inside entry (recordAt f archive entry .next) (Inline place long)
-unfolding registrationOf
+unfolding registrationOf effectOf
 registered-inside f archive entry kind index place long e =
     subst (RegistrationInside entry (recordAt f archive entry .next)) e
     (on-record (λ r. RegistrationInside entry (r .next) (registrationOf (r .content))) f archive entry (λ number. tt)

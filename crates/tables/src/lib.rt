@@ -1,13 +1,15 @@
 // The reading tables: which records they name, and what a reference stands for. An entry is trusted for nothing:
 // the record that it names is read again each time.
 ghost use mathlib.Core.Path.{_≡_};
-ghost use Prim.Native.Nat.{ℕ, _+_, _*_, _^_, _<_, _≤_};
+ghost use Prim.Native.Nat.{_+_, _*_, _^_, _<_, _≤_};
 ghost use lib.ListN.{length};
-ghost use Rattle.tables.specs.Table.{FormatFits, tableWords, highestOf, position, cleared, registrationOf, registrationAt, belonging, entryAt, resolved};
+ghost use Rattle.tables.specs.Table.{tableWords, highestOf, position, cleared, registrationOf, entryAt, resolved};
+ghost use Rattle.tables.specs.Models.Entries.{FormatFits, registrationAt, belonging};
 use format::Extent;
 use format::Format;
 use format::Reference;
 use records::Content;
+use records::Effect;
 
 // What a string or thread record registers: its kind, the record type 2 or 3, its index, and where its bytes stand.
 pub enum Registration {
@@ -73,36 +75,23 @@ pub fn clear(tables: &mut [u32], n: usize)
 pub fn registration_of(content: Content) -> Registration
     ensures { λ r. ⌜ r ≡ registrationOf content ⌝ }
 {
-    match content {
-        Content::String {
+    let effect = records::effect_of(content);
+    match effect {
+        Effect::Register {
+            table,
             index,
             place,
             length,
         } => Registration::Entry {
-            kind: 2,
+            kind: table,
             index,
             place,
             length,
         },
-        Content::Thread { index, place } => Registration::Entry {
-            kind: 3,
-            index,
-            place,
-            length: 16,
-        },
-        Content::Refused(_) => Registration::Nothing,
-        Content::Magic => Registration::Nothing,
-        Content::ProviderInfo {
-            id: _,
-            place: _,
-            length: _,
-        } => Registration::Nothing,
-        Content::Section { id: _ } => Registration::Nothing,
-        Content::ProviderEvent { id: _, event: _ } => Registration::Nothing,
-        Content::Initialization { rate: _ } => Registration::Nothing,
-        Content::Event(_) => Registration::Nothing,
-        Content::Ignored => Registration::Nothing,
-        Content::Skipped { kind: _, size: _ } => Registration::Nothing,
+        Effect::Stop(_) => Registration::Nothing,
+        Effect::Pass => Registration::Nothing,
+        Effect::Enter { id: _ } => Registration::Nothing,
+        Effect::SetRate { rate: _ } => Registration::Nothing,
     }
 }
 

@@ -1,37 +1,48 @@
--- What the code needs of the slots' definitions: bounds, one turn of a search, when two keys differ, and one turn of choosing.
+-- What the code needs of the slots' definitions: labels, when two keys differ, and one turn of a search.
 -- Assumes nothing.
-use Prim.Native.Nat.{ℕ, zero, suc, _+_, _-_, _*_, _<_, _≤_}
-use mathlib.Core.Path.{_≡_, refl, sym, _∙_}
+use Prim.Native.Nat.{ℕ, zero, suc, _+_, _-_, _*_, _/_, _%_, _<_}
+use mathlib.Core.Path.{_≡_, refl, sym, ap, _∙_}
 use mathlib.Core.List.{List}
 use mathlib.Core.Bool.{true, false}
 use native.Mathlib.Omega.{arith}
-use native.Mathlib.Numerals.{add-one}
-use lib.Dec.{ltb}
-use lib.ListN.{set}
-use borrow.Author.Tests.{eq-eqb, ne-eqb, ltb-true, ltb-false}
+use borrow.Author.Tests.{eq-eqb, ne-eqb}
 use Rattle.words.specs.Word.{pick}
 use Rattle.words.specs.Stream.{sameBytes}
-use Rattle.format.proofs.Parts.{on-pick}
-use Rattle.rule.specs.Rule.{registers}
+use Rattle.words.proofs.Same.{same-refl}
 use Rattle.tally.specs.declared.Slot.{Slot}
 use Rattle.tally.specs.declared.Slot.the-variants.{Here, Free, Full}
-use Rattle.tally.specs.Slots.{keyOf, placeAt, labelAt, usesAt, isFree, keyAt, startOf, nextOf, probe, seek, findOf, choiceOf, chosenTo}
-use Rattle.tally.specs.Tally.{Wide}
-use Rattle.tally.proofs.Probing.{start-low, found-low}
-use Rattle.tally.proofs.Frames.{chosen-other}
+use Rattle.tally.specs.Models.Slots.{labelOf, keyOf, placeAt, isFree, keyAt, nextOf, probe, seek, findOf}
+use Rattle.tally.specs.Models.Tally.{Wide}
+use Rattle.tally.proofs.Probing.{found-low}
 
--- the first slot of a key is a slot
-pub start-below : (slots : ℕ) (key : List ℕ) → 0 < slots → startOf slots key < slots
-start-below slots key some = start-low slots key some
+-- ---- labels
 
--- the slot after a slot is a slot
-pub next-below : (slots s : ℕ) → s < slots → nextOf slots s < slots
-unfolding nextOf
-next-below slots s below = on-pick (λ x. x < slots) (ltb (s + 1) slots) (s + 1) 0 (ltb-true (s + 1) slots) (λ e. omega arith)
+-- the mark that a label holds
+pub label-mark : (context kind long : ℕ) → long < 65536 → labelOf context kind long / 65536 ≡ 2 * context + (kind - 2)
+unfolding labelOf
+label-mark context kind long h = omega arith
+
+-- and the length that it holds
+pub label-long : (context kind long : ℕ) → long < 65536 → labelOf context kind long % 65536 ≡ long
+unfolding labelOf
+label-long context kind long h = omega arith
+
+-- labels are equal only in one context, for one kind and one length
+pub label-one : (context context′ kind kind′ long long′ : ℕ) → long < 65536 → long′ < 65536 → kind - 2 < 2 → kind′ - 2 < 2
+    → labelOf context kind long ≡ labelOf context′ kind′ long′ → (context ≡ context′) × (kind - 2 ≡ kind′ - 2)
+label-one context context′ kind kind′ long long′ h h′ k k′ e =
+    let m = label-mark context kind long h in
+    let m′ = label-mark context′ kind′ long′ h′ in
+    let same : labelOf context kind long / 65536 ≡ labelOf context′ kind′ long′ / 65536 = ap (λ (n : ℕ). n / 65536) e in
+    (omega arith, omega arith)
 
 -- keys with different labels are different
 pub label-differs : (archive : List ℕ) (p a q b : ℕ) → (a ≡ b → ⊥) → sameBytes (keyOf archive p a) (keyOf archive q b) ≡ false
 label-differs archive p a q b differ = rw (ne-eqb a b differ)
+
+-- keys with one label at one place are the same
+pub place-same : (archive : List ℕ) (p a q b : ℕ) → p ≡ q → a ≡ b → sameBytes (keyOf archive p a) (keyOf archive q b) ≡ true
+place-same archive p a q b e f = rw (e, f) (same-refl (keyOf archive q b))
 
 -- ---- a search
 
@@ -71,26 +82,3 @@ module _ {stretch : ℕ} {table : List ℕ} {slot : Slot} {s : ℕ} (archive key
   -- and so is the free slot where it would go
   pub free-below : slot ≡ Free s → s < stretch - 18
   free-below e = found-low archive stretch table key (wide .some) (Free s) (sym found ∙ e)
-
--- ---- costs and choices
-
--- what is not registered costs no more, inline, than it would cost registered
-pub inline-least : (words uses : ℕ) → registers words uses ≡ false → uses * words ≤ 1 + words
-unfolding registers
-inline-least words uses e = ltb-false (1 + words) (uses * words) e
-
--- nothing is chosen at first
-pub chosen-none : (stretch : ℕ) (table : List ℕ) → table ≡ chosenTo stretch 0 table
-unfolding chosenTo
-chosen-none stretch table = refl
-
--- one turn of choosing: slot s is chosen by the words that the table has now
-pub chosen-turn : (stretch s : ℕ) (table now : List ℕ) (word : ℕ) → s < stretch → now ≡ chosenTo stretch s table
-    → word ≡ choiceOf (placeAt now s) (labelAt stretch now s) (usesAt stretch now s)
-    → set now (2 * stretch + s) word ≡ chosenTo stretch (s + 1) table
-unfolding chosenTo
-chosen-turn stretch s table now word below e q =
-    let place = chosen-other stretch s table s (λ x l w. omega arith) in
-    let label = chosen-other stretch s table (stretch + s) (λ x l w. omega arith) in
-    let uses = chosen-other stretch s table (2 * stretch + s) (λ x l w. omega arith) in
-    rw (q, e, add-one s, place, label, uses)

@@ -1,9 +1,5 @@
-pub mod Hashing
 pub mod Probing
 pub mod Frames
 pub mod Sums
 pub mod Tallied
-pub mod Indexed
 pub mod Laws
-pub mod Settled
-pub mod Codes

@@ -11,48 +11,49 @@ use lib.Pow.{pow-pos}
 use borrow.Author.Tests.{ltb-true, ltb-false}
 use Rattle.words.specs.Stream.{sameBytes}
 use Rattle.words.proofs.Same.{same-true, same-refl}
-use Rattle.arguments.proofs.Arguments.{cases}
+use Rattle.words.proofs.Tests.{cases}
+use Rattle.hashing.specs.Models.Hash.{foldedOf}
 use Rattle.tally.specs.declared.Slot.{Slot}
 use Rattle.tally.specs.declared.Slot.the-variants.{Here, Free, Full}
-use Rattle.tally.specs.Slots.{placeAt, labelAt, isFree, keyAt, foldedOf, startOf, nextOf, probe, seek, findOf}
+use Rattle.tally.specs.Models.Slots.{placeAt, labelAt, isFree, keyAt, startOf, nextOf, probe, seek, findOf}
 
 -- ---- searches by two tests
 
 -- the slot after a slot is a slot
-next-low : (slots s : ℕ) → s < slots → nextOf slots s < slots
+pub next-low : (capacity s : ℕ) → s < capacity → nextOf capacity s < capacity
 unfolding nextOf
-next-low slots s h = cases (ltb (s + 1) slots) (λ e. rw e (ltb-true (s + 1) slots e)) (λ e. rw e (omega arith))
+next-low capacity s h = cases (ltb (s + 1) capacity) (λ e. rw e (ltb-true (s + 1) capacity e)) (λ e. rw e (omega arith))
 
 -- what it means that a slot is found
 abbrev Right : (ℕ → Bool) → (ℕ → Bool) → ℕ → Slot → Type 0
-Right free mine slots (Here s) = (s < slots) × (free s ≡ false) × (mine s ≡ true)
-Right free mine slots (Free s) = (s < slots) × (free s ≡ true)
-Right free mine slots Full = Unit {0}
+Right free mine capacity (Here s) = (s < capacity) × (free s ≡ false) × (mine s ≡ true)
+Right free mine capacity (Free s) = (s < capacity) × (free s ≡ true)
+Right free mine capacity Full = Unit {0}
 
-module _ (free mine : ℕ → Bool) (slots : ℕ) where
+module _ (free mine : ℕ → Bool) (capacity : ℕ) where
   -- what is found is so
-  probe-right : (left s : ℕ) → s < slots → Right free mine slots (probe free mine slots left s)
+  probe-right : (left s : ℕ) → s < capacity → Right free mine capacity (probe free mine capacity left s)
   unfolding probe
   probe-right zero s h = tt
   probe-right (suc left) s h =
       cases (free s)
       (λ e. rw e (h, e))
-      (λ e. rw e (cases (mine s) (λ q. rw q (h, e, q)) (λ q. rw q (probe-right left (nextOf slots s) (next-low slots s h)))))
+      (λ e. rw e (cases (mine s) (λ q. rw q (h, e, q)) (λ q. rw q (probe-right left (nextOf capacity s) (next-low capacity s h)))))
 
   -- d slots after a stands s, around the end
   abbrev After : ℕ → ℕ → ℕ → Type 0
-  After a d s = (a + d ≡ s) ⊎ (a + d ≡ s + slots)
+  After a d s = (a + d ≡ s) ⊎ (a + d ≡ s + capacity)
 
   -- one slot on, the distance is one less
-  next-after : (a d s : ℕ) → a < slots → s < slots → After a (suc d) s → After (nextOf slots a) d s
+  next-after : (a d s : ℕ) → a < capacity → s < capacity → After a (suc d) s → After (nextOf capacity a) d s
   unfolding nextOf
   next-after a d s h g w =
-      cases (ltb (a + 1) slots)
+      cases (ltb (a + 1) capacity)
       (λ e. rw e (⊎-elim (λ q. inl (omega arith)) (λ q. inr (omega arith)) w))
-      (λ e. let l = ltb-false (a + 1) slots e in rw e (⊎-elim (λ q. absurd (omega arith)) (λ q. inl (omega arith)) w))
+      (λ e. let l = ltb-false (a + 1) capacity e in rw e (⊎-elim (λ q. absurd (omega arith)) (λ q. inl (omega arith)) w))
 
   -- where a search ends without a slot, no slot that it passed is free
-  passed-taken : (left a : ℕ) → a < slots → probe free mine slots left a ≡ Full → (d s : ℕ) → d < left → s < slots → After a d s → free s ≡ false
+  passed-taken : (left a : ℕ) → a < capacity → probe free mine capacity left a ≡ Full → (d s : ℕ) → d < left → s < capacity → After a d s → free s ≡ false
   unfolding probe
   passed-taken zero a h e d s l g w = absurd (omega arith)
   passed-taken (suc left) a h e zero s l g w =
@@ -63,20 +64,20 @@ module _ (free mine : ℕ → Bool) (slots : ℕ) where
       (λ p. cc (rw p at e))
       (λ p. cases (mine a)
       (λ q. cc (rw (p, q) at e))
-      (λ q. passed-taken left (nextOf slots a) (next-low slots a h) (rw (p, q) at e) d s (omega arith) g (next-after a d s h g w)))
+      (λ q. passed-taken left (nextOf capacity a) (next-low capacity a h) (rw (p, q) at e) d s (omega arith) g (next-after a d s h g w)))
 
   -- where a search of all slots ends without one, no slot is free
-  all-taken : (a : ℕ) → a < slots → probe free mine slots slots a ≡ Full → (s : ℕ) → s < slots → free s ≡ false
+  all-taken : (a : ℕ) → a < capacity → probe free mine capacity capacity a ≡ Full → (s : ℕ) → s < capacity → free s ≡ false
   all-taken a h e s g =
       cases (ltb s a)
-      (λ p. let l = ltb-true s a p in passed-taken slots a h e (s + slots - a) s (omega arith) g (inr (omega arith)))
-      (λ p. let l = ltb-false s a p in passed-taken slots a h e (s - a) s (omega arith) g (inl (omega arith)))
+      (λ p. let l = ltb-true s a p in passed-taken capacity a h e (s + capacity - a) s (omega arith) g (inr (omega arith)))
+      (λ p. let l = ltb-false s a p in passed-taken capacity a h e (s - a) s (omega arith) g (inl (omega arith)))
 
 -- slots of which each that was taken holds what it held
-module _ (free mine free′ mine′ : ℕ → Bool) (slots : ℕ)
-    (stay : (s : ℕ) → s < slots → free s ≡ false → (free′ s ≡ false) × (mine′ s ≡ mine s)) where
+module _ (free mine free′ mine′ : ℕ → Bool) (capacity : ℕ)
+    (stay : (s : ℕ) → s < capacity → free s ≡ false → (free′ s ≡ false) × (mine′ s ≡ mine s)) where
   -- what was found is found
-  probe-still : (left a s : ℕ) → a < slots → probe free mine slots left a ≡ Here s → probe free′ mine′ slots left a ≡ Here s
+  probe-still : (left a s : ℕ) → a < capacity → probe free mine capacity left a ≡ Here s → probe free′ mine′ capacity left a ≡ Here s
   unfolding probe
   probe-still zero a s h e = e
   probe-still (suc left) a s h e =
@@ -84,11 +85,11 @@ module _ (free mine free′ mine′ : ℕ → Bool) (slots : ℕ)
       (λ p. cc (rw p at e))
       (λ p. cases (mine a)
       (λ q. rw (stay a h p .0, stay a h p .1, q) (rw (p, q) at e))
-      (λ q. rw (stay a h p .0, stay a h p .1, q) (probe-still left (nextOf slots a) s (next-low slots a h) (rw (p, q) at e))))
+      (λ q. rw (stay a h p .0, stay a h p .1, q) (probe-still left (nextOf capacity a) s (next-low capacity a h) (rw (p, q) at e))))
 
   -- the free slot that was found is found, once it is mine
-  probe-taken : (left a s : ℕ) → a < slots → free′ s ≡ false → mine′ s ≡ true → probe free mine slots left a ≡ Free s
-      → probe free′ mine′ slots left a ≡ Here s
+  probe-taken : (left a s : ℕ) → a < capacity → free′ s ≡ false → mine′ s ≡ true → probe free mine capacity left a ≡ Free s
+      → probe free′ mine′ capacity left a ≡ Here s
   unfolding probe
   probe-taken zero a s h f m e = cc
   probe-taken (suc left) a s h f m e =
@@ -96,26 +97,26 @@ module _ (free mine free′ mine′ : ℕ → Bool) (slots : ℕ)
       (λ p. let q : a ≡ s = cc (rw p at e) in rw (q, f, m))
       (λ p. cases (mine a)
       (λ q. cc (rw (p, q) at e))
-      (λ q. rw (stay a h p .0, stay a h p .1, q) (probe-taken left (nextOf slots a) s (next-low slots a h) f m (rw (p, q) at e))))
+      (λ q. rw (stay a h p .0, stay a h p .1, q) (probe-taken left (nextOf capacity a) s (next-low capacity a h) f m (rw (p, q) at e))))
 
 -- slots that are alike are searched alike
-probe-alike : (free mine free′ mine′ : ℕ → Bool) (slots : ℕ) → ((s : ℕ) → s < slots → (free′ s ≡ free s) × (mine′ s ≡ mine s))
-    → (left a : ℕ) → a < slots → probe free′ mine′ slots left a ≡ probe free mine slots left a
+probe-alike : (free mine free′ mine′ : ℕ → Bool) (capacity : ℕ) → ((s : ℕ) → s < capacity → (free′ s ≡ free s) × (mine′ s ≡ mine s))
+    → (left a : ℕ) → a < capacity → probe free′ mine′ capacity left a ≡ probe free mine capacity left a
 unfolding probe
-probe-alike free mine free′ mine′ slots alike zero a h = refl
-probe-alike free mine free′ mine′ slots alike (suc left) a h =
-    rw (alike a h .0, alike a h .1, probe-alike free mine free′ mine′ slots alike left (nextOf slots a) (next-low slots a h))
+probe-alike free mine free′ mine′ capacity alike zero a h = refl
+probe-alike free mine free′ mine′ capacity alike (suc left) a h =
+    rw (alike a h .0, alike a h .1, probe-alike free mine free′ mine′ capacity alike left (nextOf capacity a) (next-low capacity a h))
 
 -- ---- the search for a key in a table
 
 -- a number below 2 ^ 32, scaled down to the slots, is a slot
-scaled-low : (mixed slots : ℕ) → mixed < 2 ^ 32 → 0 < slots → mixed * slots / 2 ^ 32 < slots
-scaled-low mixed slots h some = div-lt-iff-lt-mul (pow-pos 32) .1 (omega (arith, mul-lt-mul-of-pos-right h some))
+scaled-low : (mixed capacity : ℕ) → mixed < 2 ^ 32 → 0 < capacity → mixed * capacity / 2 ^ 32 < capacity
+scaled-low mixed capacity h some = div-lt-iff-lt-mul (pow-pos 32) .1 (omega (arith, mul-lt-mul-of-pos-right h some))
 
 -- a key's first slot is a slot
-pub start-low : (slots : ℕ) (key : List ℕ) → 0 < slots → startOf slots key < slots
+pub start-low : (capacity : ℕ) (key : List ℕ) → 0 < capacity → startOf capacity key < capacity
 unfolding startOf foldedOf
-start-low slots key h = scaled-low _ slots (mod-lt _ (pow-pos 32)) h
+start-low capacity key h = scaled-low _ capacity (mod-lt _ (pow-pos 32)) h
 
 -- a slot that stands before the last 18 words of a stretch
 abbrev pub Low : ℕ → Slot → Type 0

@@ -1,7 +1,7 @@
 -- Sums over the slots of a table and over marks, and the distinct keys of a mark. Assumes nothing.
 use Prim.Native.Nat.{ℕ, zero, suc, _+_, _<_, _≤_, min}
 use mathlib.Core.Path.{_≡_, refl, sym, ap, _∙_}
-use mathlib.Core.List.{List, [], _∷_, _++_}
+use mathlib.Core.List.{[], List, _∷_, _++_}
 use mathlib.Core.Bool.{Bool, true, false, cond, _||_}
 use native.Mathlib.Omega.{arith}
 use lib.Dec.{eqb}
@@ -10,11 +10,11 @@ use borrow.Author.Tests.{eqb-true, eqb-false, eq-eqb, ne-eqb}
 use Rattle.words.specs.Word.{pick}
 use Rattle.words.specs.Stream.{sameBytes}
 use Rattle.words.proofs.Same.{same-true, same-refl}
-use Rattle.arguments.proofs.Arguments.{cases}
-use Rattle.rule.specs.Counting.{sumBy, count, member, keys}
-use Rattle.rule.proofs.Best.{cover, keys-more, keys-counts, keys-prefix, member-used, keys-member, seen-head}
-use Rattle.tally.specs.Slots.{keyMark, sumTo}
-use Rattle.tally.specs.Tally.{distinct}
+use Rattle.words.proofs.Tests.{cases}
+use Rattle.registering.specs.Counting.{sumBy, count, member, keys}
+use Rattle.registering.proofs.Counting.{cover, keys-more, keys-counts, keys-prefix, member-used, keys-member, seen-head}
+use Rattle.tally.specs.Models.Slots.{keyMark, sumTo}
+use Rattle.tally.specs.Models.Tally.{distinct}
 
 -- ---- sums up to a number
 
@@ -38,21 +38,21 @@ sum-both : (n : ℕ) (f g : ℕ → ℕ) → sumTo n (λ s. f s + g s) ≡ sumTo
 sum-both zero f g = refl
 sum-both (suc n) f g = omega (arith, sum-both n f g)
 
--- where no number is above its limit, no sum is
-sum-limits : (n : ℕ) (f limits : ℕ → ℕ) → ((s : ℕ) → s < n → f s ≤ limits s) → sumTo n f ≤ sumTo n limits
-sum-limits zero f limits h = omega arith
-sum-limits (suc n) f limits h = omega (arith, sum-limits n f limits (λ s l. h s (omega arith)), h n (omega arith))
+-- where no number is above its bound, no sum is
+sum-bounds : (n : ℕ) (f bounds : ℕ → ℕ) → ((s : ℕ) → s < n → f s ≤ bounds s) → sumTo n f ≤ sumTo n bounds
+sum-bounds zero f bounds h = omega arith
+sum-bounds (suc n) f bounds h = omega (arith, sum-bounds n f bounds (λ s l. h s (omega arith)), h n (omega arith))
 
--- and where the sum is at its limit, each number is
-pub at-limits : (n : ℕ) (f limits : ℕ → ℕ) → ((s : ℕ) → s < n → f s ≤ limits s) → sumTo n limits ≤ sumTo n f
-    → (s : ℕ) → s < n → f s ≡ limits s
-at-limits zero f limits h g s l = absurd (omega arith)
-at-limits (suc n) f limits h g s l =
+-- and where the sum is at its bound, each number is
+pub at-bounds : (n : ℕ) (f bounds : ℕ → ℕ) → ((s : ℕ) → s < n → f s ≤ bounds s) → sumTo n bounds ≤ sumTo n f
+    → (s : ℕ) → s < n → f s ≡ bounds s
+at-bounds zero f bounds h g s l = absurd (omega arith)
+at-bounds (suc n) f bounds h g s l =
     let last = h n (omega arith) in
-    let others = sum-limits n f limits (λ x y. h x (omega arith)) in
+    let others = sum-bounds n f bounds (λ x y. h x (omega arith)) in
     cases (eqb s n)
     (λ e. rw (eqb-true s n e) (omega arith))
-    (λ e. let i = eqb-false s n e in at-limits n f limits (λ x y. h x (omega arith)) (omega arith) s (omega arith))
+    (λ e. let i = eqb-false s n e in at-bounds n f bounds (λ x y. h x (omega arith)) (omega arith) s (omega arith))
 
 -- of the numbers below n one is x
 sum-one : (n x : ℕ) → x < n → sumTo n (λ s. cond (eqb x s) 1 0) ≡ 1

@@ -1,27 +1,27 @@
--- A table that tells of some uses: an empty one, one use more, what is found, the limits of each mark, and the words that all keys take.
+-- A table that tells of some uses: an empty one, one use more, what is found, the most keys of each mark, and the words that all keys take.
 -- Assumes nothing.
 use Prim.Native.Nat.{ℕ, _+_, _-_, _*_, _/_, _^_, _<_, _≤_, min}
 use mathlib.Core.Path.{_≡_, refl, sym, ap, _∙_}
-use mathlib.Core.List.{List, [], _∷_}
+use mathlib.Core.List.{[], List, _∷_}
 use mathlib.Core.Bool.{true, false, true≢false}
 use native.Mathlib.Omega.{arith}
 use lib.Dec.{eqb}
-use lib.ListN.{length, getD, set, length-set}
+use lib.ListN.{length, getD, length-set}
 use lib.Seq.{getD-set-same, getD-set-other}
 use borrow.Author.Tests.{eqb-true, eqb-false, ne-eqb, ltb-true, ltb-false}
 use Rattle.words.specs.Word.{pick}
 use Rattle.words.specs.Stream.{sameBytes}
 use Rattle.words.proofs.Same.{same-true, same-refl}
-use Rattle.arguments.proofs.Arguments.{cases}
-use Rattle.rule.specs.Counting.{sumBy, count, keys}
-use Rattle.rule.specs.Rule.{registers}
+use Rattle.words.proofs.Tests.{cases}
+use Rattle.registering.specs.Counting.{sumBy, count, keys}
+use Rattle.registering.specs.Registers.{registers}
 use Rattle.tally.specs.declared.Slot.{Slot}
 use Rattle.tally.specs.declared.Slot.the-variants.{Here, Free, Full}
-use Rattle.tally.specs.Slots.{keyOf, keyMark, keyWords, placeAt, usesAt, counterAt, isFree, keyAt, findOf, raised, isAdded, added, costOf, sumTo, measureOf}
-use Rattle.tally.specs.Tally.{distinct, Wide, Tallies}
+use Rattle.tally.specs.Models.Slots.{keyOf, keyMark, keyWords, placeAt, usesAt, counterAt, isFree, keyAt, findOf, raised, countAt, usedAgain, filled, isAdded, added, costOf, sumTo, measureOf}
+use Rattle.tally.specs.Models.Tally.{distinct, Wide, Tallies}
 use Rattle.tally.proofs.Probing.{found-low, here-key, free-slot, full-slots, find-still, find-taken, key-alike}
-use Rattle.tally.proofs.Frames.{raised-more, filled, filled-other, filled-place, filled-label, filled-uses, filled-counter}
-use Rattle.tally.proofs.Sums.{sum-alike, sum-ones, at-limits, held, held-none, held-once, held-keys, count-low, distinct-low, distinct-old, distinct-own, distinct-other, distinct-alike, distinct-sum}
+use Rattle.tally.proofs.Frames.{raised-more, filled-other, filled-place, filled-label, filled-uses, filled-counter}
+use Rattle.tally.proofs.Sums.{sum-alike, sum-ones, at-bounds, held, held-none, held-once, held-keys, count-low, distinct-low, distinct-old, distinct-own, distinct-other, distinct-alike, distinct-sum}
 
 -- a table of zeros tells of no uses
 pub empty-tally : (archive : List ℕ) (stretch : ℕ) (table : List ℕ) → Wide stretch table → ((i : ℕ) → i < 3 * stretch → getD table i 0 ≡ 0)
@@ -207,7 +207,7 @@ module _ {archive : List ℕ} {stretch : ℕ} {table : List ℕ} {us : List (Lis
 
   -- one use more of a key that has a slot
   raised-tally : (key : List ℕ) (s : ℕ) → length us < 2 ^ 32 - 1 → findOf archive stretch table key ≡ Here s
-      → Tallies archive stretch (set table (2 * stretch + s) (raised (usesAt stretch table s))) (key ∷ us)
+      → Tallies archive stretch (usedAgain stretch table s) (key ∷ us)
   raised-tally key s short e =
       tally-more table′ key s stay other
       (stay s l (h .0) .1 ∙ h .1)
@@ -219,7 +219,7 @@ module _ {archive : List ℕ} {stretch : ℕ} {table : List ℕ} {us : List (Lis
       (λ m g. left (counterAt stretch m) (λ q. omega (arith, l)) ∙ T .marks m g ∙ sym (distinct-old m key us (u .1)))
     where
       table′ : List ℕ
-      table′ = set table (2 * stretch + s) (raised (usesAt stretch table s))
+      table′ = usedAgain stretch table s
 
       l : s < stretch - 18
       l = found-low archive stretch table key (T .wide .some) (Here s) e
@@ -308,71 +308,71 @@ module _ {archive : List ℕ} {stretch : ℕ} {table : List ℕ} {us : List (Lis
           let more = distinct-own m (keyOf archive place label) us new i in
           ap (λ (x : ℕ). getD table′ (counterAt stretch x) 0) (sym i)
           ∙ filled-counter stretch table place label s l mark (T .wide)
-          ∙ raised-more (getD table (counterAt stretch (label / 65536)) 0) (omega (arith, distinct-low m us))
+          ∙ raised-more (countAt stretch table label) (omega (arith, distinct-low m us))
           ∙ omega arith)
           (λ q. let i = eqb-false (label / 65536) m q in
           left (counterAt stretch m) (λ z. omega (arith, l)) (λ z. omega (arith, l)) (λ z. omega (arith, l)) (λ z. i (omega arith))
           ∙ T .marks m g ∙ sym (distinct-other m (keyOf archive place label) us new i))
 
   -- a use that is counted keeps the tally
-  pub add-tally : (place label limit : ℕ) → 0 < place → label / 65536 < 18 → length us < 2 ^ 32 - 1
-      → isAdded stretch table label limit (findOf archive stretch table (keyOf archive place label)) ≡ true
-      → Tallies archive stretch (added stretch table place label limit (findOf archive stretch table (keyOf archive place label)))
+  pub add-tally : (place label most : ℕ) → 0 < place → label / 65536 < 18 → length us < 2 ^ 32 - 1
+      → isAdded stretch table label most (findOf archive stretch table (keyOf archive place label)) ≡ true
+      → Tallies archive stretch (added stretch table place label most (findOf archive stretch table (keyOf archive place label)))
       (keyOf archive place label ∷ us)
-  add-tally place label limit some mark short = go (findOf archive stretch table (keyOf archive place label)) refl
+  add-tally place label most some mark short = go (findOf archive stretch table (keyOf archive place label)) refl
     where
-      go : (slot : Slot) → findOf archive stretch table (keyOf archive place label) ≡ slot → isAdded stretch table label limit slot ≡ true
-          → Tallies archive stretch (added stretch table place label limit slot) (keyOf archive place label ∷ us)
+      go : (slot : Slot) → findOf archive stretch table (keyOf archive place label) ≡ slot → isAdded stretch table label most slot ≡ true
+          → Tallies archive stretch (added stretch table place label most slot) (keyOf archive place label ∷ us)
       go (Here s) e a = raised-tally (keyOf archive place label) s short e
       go (Free s) e a = rw a (filled-tally place label s some mark short e)
       go Full e a = absurd (true≢false (sym a))
 
-  -- ---- the limits of the marks
+  -- ---- the most keys of each mark
 
-  -- a use that is counted keeps each mark within its limit
-  pub added-limits : (limits : ℕ → ℕ) (place label : ℕ) → ((mark : ℕ) → mark < 18 → distinct mark us ≤ limits mark) → label / 65536 < 18
-      → isAdded stretch table label (limits (label / 65536)) (findOf archive stretch table (keyOf archive place label)) ≡ true
-      → (mark : ℕ) → mark < 18 → distinct mark (keyOf archive place label ∷ us) ≤ limits mark
-  added-limits limits place label within low = go (findOf archive stretch table (keyOf archive place label)) refl
+  -- a use that is counted leaves no mark with more keys than it may have
+  pub added-within : (most : ℕ → ℕ) (place label : ℕ) → ((mark : ℕ) → mark < 18 → distinct mark us ≤ most mark) → label / 65536 < 18
+      → isAdded stretch table label (most (label / 65536)) (findOf archive stretch table (keyOf archive place label)) ≡ true
+      → (mark : ℕ) → mark < 18 → distinct mark (keyOf archive place label ∷ us) ≤ most mark
+  added-within most place label within low = go (findOf archive stretch table (keyOf archive place label)) refl
     where
       go : (slot : Slot) → findOf archive stretch table (keyOf archive place label) ≡ slot
-          → isAdded stretch table label (limits (label / 65536)) slot ≡ true
-          → (mark : ℕ) → mark < 18 → distinct mark (keyOf archive place label ∷ us) ≤ limits mark
+          → isAdded stretch table label (most (label / 65536)) slot ≡ true
+          → (mark : ℕ) → mark < 18 → distinct mark (keyOf archive place label ∷ us) ≤ most mark
       go (Here s) e a mark l =
           rw (distinct-old mark (keyOf archive place label) us (here-used (keyOf archive place label) s e .1)) (within mark l)
       go (Free s) e a mark l =
           let new = free-new (keyOf archive place label) s e in
           cases (eqb (label / 65536) mark)
           (λ q. let i = eqb-true (label / 65536) mark q in
-          let below = ltb-true (getD table (counterAt stretch (label / 65536)) 0) (limits (label / 65536)) a in
+          let below = ltb-true (countAt stretch table label) (most (label / 65536)) a in
           let here = rw i at below in
           omega (arith, distinct-own mark (keyOf archive place label) us new i, T .marks mark l))
           (λ q. rw (distinct-other mark (keyOf archive place label) us new (eqb-false (label / 65536) mark q)) (within mark l))
       go Full e a mark l = absurd (true≢false (sym a))
 
-  -- a use is not counted only where it would take its mark above its limit
-  pub not-added : (limits : ℕ → ℕ) (place label : ℕ) → ((mark : ℕ) → mark < 18 → distinct mark us ≤ limits mark)
-      → sumTo 18 limits ≤ stretch - 18 → ((key : List ℕ) → 0 < count sameBytes key us → keyMark key < 18) → label / 65536 < 18
-      → isAdded stretch table label (limits (label / 65536)) (findOf archive stretch table (keyOf archive place label)) ≡ false
-      → limits (label / 65536) < distinct (label / 65536) (keyOf archive place label ∷ us)
-  not-added limits place label within room marked low = go (findOf archive stretch table (keyOf archive place label)) refl
+  -- a use is not counted only where its mark would then have more keys than it may have
+  pub not-added : (most : ℕ → ℕ) (place label : ℕ) → ((mark : ℕ) → mark < 18 → distinct mark us ≤ most mark)
+      → sumTo 18 most ≤ stretch - 18 → ((key : List ℕ) → 0 < count sameBytes key us → keyMark key < 18) → label / 65536 < 18
+      → isAdded stretch table label (most (label / 65536)) (findOf archive stretch table (keyOf archive place label)) ≡ false
+      → most (label / 65536) < distinct (label / 65536) (keyOf archive place label ∷ us)
+  not-added most place label within room marked low = go (findOf archive stretch table (keyOf archive place label)) refl
     where
       go : (slot : Slot) → findOf archive stretch table (keyOf archive place label) ≡ slot
-          → isAdded stretch table label (limits (label / 65536)) slot ≡ false
-          → limits (label / 65536) < distinct (label / 65536) (keyOf archive place label ∷ us)
+          → isAdded stretch table label (most (label / 65536)) slot ≡ false
+          → most (label / 65536) < distinct (label / 65536) (keyOf archive place label ∷ us)
       go (Here s) e a = absurd (true≢false a)
       go (Free s) e a =
           omega (
             arith,
-            ltb-false (getD table (counterAt stretch (label / 65536)) 0) (limits (label / 65536)) a,
+            ltb-false (countAt stretch table label) (most (label / 65536)) a,
             T .marks (label / 65536) low,
             distinct-own (label / 65536) (keyOf archive place label) us (free-new (keyOf archive place label) s e) refl,
           )
       go Full e a =
-          let all : sumTo 18 limits ≤ sumTo 18 (λ mark. distinct mark us) =
+          let all : sumTo 18 most ≤ sumTo 18 (λ mark. distinct mark us) =
           rw (distinct-sum 18 us marked, full-keys (keyOf archive place label) e) room in
           omega (
             arith,
-            at-limits 18 (λ mark. distinct mark us) limits within all (label / 65536) low,
+            at-bounds 18 (λ mark. distinct mark us) most within all (label / 65536) low,
             distinct-own (label / 65536) (keyOf archive place label) us (full-new (keyOf archive place label) e) refl,
           )

@@ -1,3 +1,1 @@
-pub mod Slots
-pub mod Tally
-pub mod Codes
+pub mod Models

@@ -2,7 +2,7 @@
 -- Assumes nothing.
 use Prim.Native.Nat.{ℕ, zero, suc, _+_, _-_, _*_, _/_, _%_, _^_, _<_, _≤_}
 use mathlib.Core.Path.{_≡_, refl, sym, ap, subst, _∙_}
-use mathlib.Core.List.{List, [], _∷_}
+use mathlib.Core.List.{[], List, _∷_}
 use native.Mathlib.Nat.{add-comm, zero-add, one-mul, mul-le-mul-left, div-one, div-eq-of-lt, mod-eq-of-lt}
 use native.Mathlib.Nat.{div-div-eq-div-mul, add-mul-div-left, add-mul-mod-self-left}
 use native.Mathlib.Omega.{arith}

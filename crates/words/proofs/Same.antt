@@ -2,7 +2,7 @@
 -- Assumes nothing.
 use Prim.Native.Nat.{ℕ, zero, suc, _+_, _-_, _<_, _≤_}
 use mathlib.Core.Path.{_≡_, refl, sym, ap, _∙_}
-use mathlib.Core.List.{List, [], _∷_}
+use mathlib.Core.List.{[], List, _∷_}
 use mathlib.Core.Bool.{Bool, true, false, _&&_}
 use native.Mathlib.Numerals.{add-one}
 use native.Mathlib.Omega.{arith}
@@ -12,19 +12,12 @@ use lib.ListN.{length, getD, drop, replicate, length-drop, drop-of-length-le}
 use lib.Seq.{drop-cons, drop-drop}
 use Rattle.words.specs.Word.{little, wordAt}
 use Rattle.words.specs.Stream.{sameBytes, allZero}
+use Rattle.words.proofs.Tests.{both-true}
 use Rattle.words.proofs.Words.{AllBytes, bytes-left}
 
 and-false : (b : Bool) → (b && false) ≡ false
 and-false true = refl
 and-false false = refl
-
-and-left : (a b : Bool) → (a && b) ≡ true → a ≡ true
-and-left true b e = refl
-and-left false b e = e
-
-and-right : (a b : Bool) → (a && b) ≡ true → b ≡ true
-and-right true b e = e
-and-right false b e = cc
 
 -- what compares as the same is the same
 pub same-true : (a b : List ℕ) → sameBytes a b ≡ true → a ≡ b
@@ -32,8 +25,9 @@ same-true [] [] e = refl
 same-true [] (y ∷ ys) e = cc
 same-true (x ∷ xs) [] e = cc
 same-true (x ∷ xs) (y ∷ ys) e =
-    let first = eqb-true x y (and-left (eqb x y) (sameBytes xs ys) e) in
-    let others = same-true xs ys (and-right (eqb x y) (sameBytes xs ys) e) in
+    let both = both-true (eqb x y) (sameBytes xs ys) e in
+    let first = eqb-true x y (both .0) in
+    let others = same-true xs ys (both .1) in
     cc
 
 -- bytes compare as the same with themselves
@@ -118,8 +112,9 @@ zero-zeros (suc n) = zero-zeros n
 pub zero-true : (bytes : List ℕ) → allZero bytes ≡ true → bytes ≡ replicate (length bytes) 0
 zero-true [] e = refl
 zero-true (b ∷ bs) e =
-    let first = eqb-true b 0 (and-left (eqb b 0) (allZero bs) e) in
-    let others = zero-true bs (and-right (eqb b 0) (allZero bs) e) in
+    let both = both-true (eqb b 0) (allZero bs) e in
+    let first = eqb-true b 0 (both .0) in
+    let others = zero-true bs (both .1) in
     cc
 
 -- a loop that tests from the front: byte i, then the bytes behind it

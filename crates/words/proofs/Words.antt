@@ -2,10 +2,13 @@
 -- Assumes nothing.
 use Prim.Native.Nat.{ℕ, zero, suc, _+_, _*_, _/_, _^_, _<_, _≤_}
 use mathlib.Core.Path.{_≡_, refl, ap, _∙_}
-use mathlib.Core.List.{List, [], _∷_, _++_, append-assoc}
+use mathlib.Core.List.{List, _∷_, _++_, append-assoc, []}
 use native.Mathlib.Nat.{add-zero, div-one, div-div-eq-div-mul}
 use native.Mathlib.Omega.{arith}
-use lib.ListN.{length, getD, take, drop, replicate}
+use mathlib.Core.Bool.{Bool, true, false}
+use borrow.Author.Tests.{ltb-true, ltb-false}
+use lib.Dec.{ltb}
+use lib.ListN.{length, getD, take, drop, replicate, length-take, List·getD-eq-default}
 use lib.Seq.{getD-drop, getD-take, drop-drop, drop-append-seam, take-append-seam}
 use Rattle.words.specs.Word.{little, wordAt, bytesOf, field}
 use Rattle.words.specs.Stream.{padded, paddingOf}
@@ -46,6 +49,14 @@ AllBytes bytes = (i : ℕ) → getD bytes i 0 < 256
 -- what is left of bytes is bytes
 pub bytes-left : (n : ℕ) (bytes : List ℕ) → AllBytes bytes → AllBytes (drop n bytes)
 bytes-left n bytes h i = rw (getD-drop n bytes i 0) (h (n + i))
+
+-- and so is what stands before a cut
+pub bytes-before : (n : ℕ) (bytes : List ℕ) → AllBytes bytes → AllBytes (take n bytes)
+bytes-before n bytes h i = go (ltb i n) refl
+  where
+    go : (b : Bool) → ltb i n ≡ b → getD (take n bytes) i 0 < 256
+    go true e = rw (getD-take n bytes i 0 (ltb-true i n e)) (h i)
+    go false e = rw (List·getD-eq-default (take n bytes) 0 {n = i} (omega (arith, length-take n bytes, ltb-false i n e))) (omega arith)
 
 -- bytes spell a number of as many bytes
 pub little-lt : (k : ℕ) (bytes : List ℕ) → AllBytes bytes → little k bytes < 256 ^ k

@@ -1,9 +1,10 @@
--- Streams of bytes, their padding, and the magic, after "Words and streams" and number 1 of document 01.
+-- Streams of bytes, their padding, parts of bytes, and the magic, after "Words and streams" and number 1 of document 01.
 use Prim.Native.Nat.{ℕ, _+_, _-_, _*_, _/_}
-use mathlib.Core.List.{List, [], _∷_, _++_}
+use mathlib.Core.List.{List, _∷_, _++_, []}
 use mathlib.Core.Bool.{Bool, true, false, _&&_}
 use lib.ListN.{length, take, drop, replicate}
-use lib.Dec.{eqb}
+use lib.Dec.{eqb, leb}
+use Rattle.words.specs.Word.{pick}
 
 -- "A stream of n bytes takes n/8 words, rounded up"
 abbrev pub streamWords : ℕ → ℕ
@@ -20,6 +21,10 @@ padded bytes = bytes ++ replicate (paddingOf (length bytes)) 0
 -- out with these bytes at a place; what stands before and behind them is as it was
 abbrev pub written : List ℕ → ℕ → List ℕ → List ℕ
 written out place bytes = take place out ++ (bytes ++ drop (place + length bytes) out)
+
+-- "A string is answered as the part of the archive it stands in, by the place and length shown; for a place and length not inside the archive, as the empty part."
+unfoldable pub partOf : List ℕ → ℕ → ℕ → List ℕ
+partOf bytes place long = pick (leb place (length bytes)) (pick (leb long (length bytes - place)) (take long (drop place bytes)) []) []
 
 -- whether two lists of bytes are the same
 abbrev pub sameBytes : List ℕ → List ℕ → Bool

@@ -1,6 +1,6 @@
 -- Words and their fields, after "Words and streams" of document 01. A list of numbers stands for bytes.
 use Prim.Native.Nat.{ℕ, zero, suc, _+_, _-_, _*_, _/_, _%_, _^_}
-use mathlib.Core.List.{List, [], _∷_}
+use mathlib.Core.List.{List, _∷_, []}
 use mathlib.Core.Bool.{Bool, true, false}
 use lib.IntN.{ℤ, pos, negsuc}
 use lib.ListN.{getD, drop}
@@ -42,3 +42,13 @@ pack (value of width ∷ fields) = value + 2 ^ width * pack fields
 -- "Signed numbers are two's complement": the number that k bits stand for
 abbrev pub signed : ℕ → ℕ → ℤ
 signed k n = pick (ltb n (2 ^ (k - 1))) (pos n) (negsuc (2 ^ k - 1 - n))
+
+-- and the k bits that stand for a number
+abbrev pub unsigned : ℕ → ℤ → ℕ
+unsigned k (pos n) = n
+unsigned k (negsuc n) = 2 ^ k - 1 - n
+
+-- the bit of a truth value
+abbrev pub bit : Bool → ℕ
+bit true = 1
+bit false = 0

@@ -1,12 +1,11 @@
 // Words of eight bytes, their fields, and streams of bytes. Nothing here knows a record.
 ghost use mathlib.Core.Path.{_≡_};
-ghost use Prim.Native.Nat.{ℕ, _+_, _-_, _*_, _^_, _<_, _≤_};
+ghost use Prim.Native.Nat.{_+_, _-_, _*_, _^_, _<_, _≤_};
 ghost use lib.ListN.{length, getD, replicate};
-ghost use lib.IntN.{ℤ};
 ghost use Rattle.words.specs.Word.{wordAt, bytesOf, field, signed};
-ghost use Rattle.words.specs.Stream.{streamWords, padded, written, sameBytes, allZero, startsWithMagic};
+ghost use Rattle.words.specs.Stream.{streamWords, padded, written, partOf, sameBytes, allZero, startsWithMagic};
 
-fn byte(bytes: &[u8], place: usize) -> u64
+pub fn byte(bytes: &[u8], place: usize) -> u64
     requires { ⌜ place < length (now bytes) ⌝ }
     ensures { λ r. ⌜ (r ≡ getD (now (bytes .entry)) place 0) × (r < 256) ⌝ }
 {
@@ -135,6 +134,19 @@ pub fn put_stream(out: &mut [u8], place: usize, bytes: &[u8])
     let n = bytes.len();
     copy(out, place, bytes);
     fill_zero(out, place + n, stream_words(n) * 8 - n);
+}
+
+// The part of some bytes that has this place and length, or the empty part where that is not inside them.
+pub fn part(bytes: &[u8], place: usize, length: usize) -> &[u8]
+    ensures { λ r. ⌜ now r ≡ partOf (now (bytes .entry)) place length ⌝ }
+{
+    if place <= bytes.len() {
+        if length <= bytes.len() - place {
+            return &bytes[place..place + length];
+        }
+        return &bytes[0..0];
+    }
+    &bytes[0..0]
 }
 
 // Whether two byte slices of one length are the same, byte by byte.

@@ -20,25 +20,74 @@ loop-holds : tie.Need-loop-holds Inv-loop μ-loop
 loop-holds c = (refl, refl)
 
 returns : tie.Need-returns Inv-loop μ-loop
-returns c = sym (c .before .before .before .before .loop .inv .0 ∙ keep-turn (c .before .before .before .before .before .before .args .f) (c .before .before .before .before .loop .left) (c .before .before .before .before .loop .rest .now) (c .before .before .before .before .loop .at) (c .before .before .before .before .before .before .args .extra) (c .before .before .before .loop-test .taken) ∙ simp (← c .before .before .argument-of .ensures, c .enum-told .given .1))
+returns c =
+    let loop′ = c .before .before .before .before .loop in
+    let given′ = c .before .before .before .before .before .before .args in
+    sym (loop′ .inv .0 ∙ keep-turn (given′ .f) (loop′ .left) (loop′ .rest .now) (loop′ .at) (given′ .extra) (c .before .before .before .loop-test .taken) ∙ simp (← c .before .before .argument-of .ensures, c .enum-told .given .1))
 
 argument-keeps-requires : tie.Need-argument-keeps-requires Inv-loop μ-loop
-argument-keeps-requires c κs = (omega (arith, c .before .before .before .before .before .loop .inv .1), argument-read (c .before .before .before .before .before .before .before .args .f) (c .before .before .before .before .before .loop .rest .now) (c .before .before .before .before .before .loop .at) (c .before .argued .given .0 .0) (c .before .argued .given .0 .1 .0) (sym (c .before .before .before .argument-of .ensures) ∙ c .before .argued .given .1))
+argument-keeps-requires c κs =
+    let loop′′ = c .before .before .before .before .before .loop in
+    let given′′ = c .before .before .before .before .before .before .before .args in
+    let loop′ = loop′′ in let given′ = given′′ in (
+      omega (arith, loop′ .inv .1),
+      argument-read (given′ .f) (loop′ .rest .now) (loop′ .at) (c .before .argued .given .0 .0)
+          (c .before .argued .given .0 .1 .0) (sym (c .before .before .before .argument-of .ensures) ∙ c .before .argued .given .1),
+    )
 
 sub-rest : tie.Need-sub-rest Inv-loop μ-loop
-sub-rest c = argument-read (c .before .before .before .before .before .before .before .before .before .args .f) (c .before .before .before .before .before .before .before .loop .rest .now) (c .before .before .before .before .before .before .before .loop .at) (c .before .before .before .argued .given .0 .0) (c .before .before .before .argued .given .0 .1 .0) (sym (c .before .before .before .before .before .argument-of .ensures) ∙ c .before .before .before .argued .given .1) .inside
+sub-rest c =
+    let argued = c .before .before .before .argued in
+    let argument-of = c .before .before .before .before .before .argument-of in
+    let loop′ = c .before .before .before .before .before .before .before .loop in
+    let given′ = c .before .before .before .before .before .before .before .before .before .args in
+    argument-read (given′ .f) (loop′ .rest .now) (loop′ .at) (argued .given .0 .0) (argued .given .0 .1 .0) (sym (argument-of .ensures) ∙ argued .given .1) .inside
 
 part-rest-start : tie.Need-part-rest-start Inv-loop μ-loop
-part-rest-start c = argument-read (c .before .before .before .before .before .before .before .before .before .args .f) (c .before .before .before .before .before .before .before .loop .rest .now) (c .before .before .before .before .before .before .before .loop .at) (c .before .before .before .argued .given .0 .0) (c .before .before .before .argued .given .0 .1 .0) (sym (c .before .before .before .before .before .argument-of .ensures) ∙ c .before .before .before .argued .given .1) .inside
+part-rest-start c =
+    let argued = c .before .before .before .argued in
+    let argument-of = c .before .before .before .before .before .argument-of in
+    let loop′ = c .before .before .before .before .before .before .before .loop in
+    let given′ = c .before .before .before .before .before .before .before .before .before .args in
+    argument-read (given′ .f) (loop′ .rest .now) (loop′ .at) (argued .given .0 .0) (argued .given .0 .1 .0) (sym (argument-of .ensures) ∙ argued .given .1) .inside
 
 add-at : tie.Need-add-at Inv-loop μ-loop
-add-at c = let s = argument-read (c .before .before .before .before .before .before .before .before .before .before .args .f) (c .before .before .before .before .before .before .before .before .loop .rest .now) (c .before .before .before .before .before .before .before .before .loop .at) (c .before .before .before .before .argued .given .0 .0) (c .before .before .before .before .argued .given .0 .1 .0) (sym (c .before .before .before .before .before .before .argument-of .ensures) ∙ c .before .before .before .before .argued .given .1) in omega (arith, s .inside, c .before .before .before .before .before .before .before .before .loop .inv .1)
+add-at c =
+    let argued = c .before .before .before .before .argued in
+    let argument-of = c .before .before .before .before .before .before .argument-of in
+    let loop′ = c .before .before .before .before .before .before .before .before .loop in
+    let given′ = c .before .before .before .before .before .before .before .before .before .before .args in
+    let s = argument-read (given′ .f) (loop′ .rest .now) (loop′ .at) (argued .given .0 .0) (argued .given .0 .1 .0) (sym (argument-of .ensures) ∙ argued .given .1) in omega (arith, s .inside, loop′ .inv .1)
 
 loop-again : tie.Need-loop-again Inv-loop μ-loop
-loop-again c = let s = argument-read (c .before .before .before .before .before .before .before .before .before .before .args .f) (c .before .before .before .before .before .before .before .before .loop .rest .now) (c .before .before .before .before .before .before .before .before .loop .at) (c .before .before .before .before .argued .given .0 .0) (c .before .before .before .before .argued .given .0 .1 .0) (sym (c .before .before .before .before .before .before .argument-of .ensures) ∙ c .before .before .before .before .argued .given .1) in (c .before .before .before .before .before .before .before .before .loop .inv .0 ∙ keep-turn (c .before .before .before .before .before .before .before .before .before .before .args .f) (c .before .before .before .before .before .before .before .before .loop .left) (c .before .before .before .before .before .before .before .before .loop .rest .now) (c .before .before .before .before .before .before .before .before .loop .at) (c .before .before .before .before .before .before .before .before .before .before .args .extra) (c .before .before .before .before .before .before .before .loop-test .taken) ∙ simp (← c .before .before .before .before .before .before .argument-of .ensures, c .before .before .before .before .argued .given .1, ← c .before .before .argument-keeps .ensures, c .before .if1 .taken, part-from), simp part-from (omega (arith, s .inside, c .before .before .before .before .before .before .before .before .loop .inv .1, length-drop (c .before .before .before .before .argued .given .0 .1 .0) (c .before .before .before .before .before .before .before .before .loop .rest .now))))
+loop-again c =
+    let argued = c .before .before .before .before .argued in
+    let argument-of = c .before .before .before .before .before .before .argument-of in
+    let loop-test = c .before .before .before .before .before .before .before .loop-test in
+    let loop′ = c .before .before .before .before .before .before .before .before .loop in
+    let given′ = c .before .before .before .before .before .before .before .before .before .before .args in
+    let s = argument-read (given′ .f) (loop′ .rest .now) (loop′ .at) (argued .given .0 .0) (argued .given .0 .1 .0) (sym (argument-of .ensures)
+    ∙ argued .given .1) in (
+      loop′ .inv .0 ∙ keep-turn (given′ .f) (loop′ .left) (loop′ .rest .now) (loop′ .at) (given′ .extra) (loop-test .taken)
+          ∙ simp (← argument-of .ensures, argued .given .1, ← c .before .before .argument-keeps .ensures, c .before .if1 .taken, part-from),
+      simp part-from
+          (omega (arith, s .inside, loop′ .inv .1, length-drop (argued .given .0 .1 .0) (loop′ .rest .now))),
+    )
 
 returns-2 : tie.Need-returns-2 Inv-loop μ-loop
-returns-2 c = sym (c .before .before .before .before .before .before .before .loop .inv .0 ∙ keep-turn (c .before .before .before .before .before .before .before .before .before .args .f) (c .before .before .before .before .before .before .before .loop .left) (c .before .before .before .before .before .before .before .loop .rest .now) (c .before .before .before .before .before .before .before .loop .at) (c .before .before .before .before .before .before .before .before .before .args .extra) (c .before .before .before .before .before .before .loop-test .taken) ∙ simp (← c .before .before .before .before .before .argument-of .ensures, c .before .before .before .argued .given .1, ← c .before .argument-keeps .ensures, c .if1 .left))
+returns-2 c =
+    let argument-of′ = c .before .before .before .before .before .argument-of in
+    let loop-test′ = c .before .before .before .before .before .before .loop-test in
+    let loop′′ = c .before .before .before .before .before .before .before .loop in
+    let given′′ = c .before .before .before .before .before .before .before .before .before .args in
+    let argument-of = argument-of′ in let loop-test = loop-test′ in let loop′ = loop′′ in let given′ = given′′ in sym (loop′ .inv .0 ∙ keep-turn
+    (given′ .f) (loop′ .left) (loop′ .rest .now) (loop′ .at) (given′ .extra) (loop-test .taken) ∙ simp (
+      ← argument-of .ensures,
+      c .before .before .before .argued .given .1,
+      ←
+          c .before .argument-keeps .ensures,
+      c .if1 .left,
+    ))
 
 returns-3 : tie.Need-returns-3 Inv-loop μ-loop
 unfolding argumentsKeep

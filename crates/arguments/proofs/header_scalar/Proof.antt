@@ -24,7 +24,10 @@ returns-3 c = simp (← c .field2 .ensures, eq-eqb _ _ (c .before .if3 .taken), 
 
 returns-4 : tie.Need-returns-4
 unfolding headerScalar
-returns-4 c = simp (← c .field3 .ensures, eq-eqb _ _ (c .before .if4 .taken), ne-eqb _ _ (c .before .before .if3 .left), ne-eqb _ _ (c .before .before .before .if2 .left), ne-eqb _ _ (c .before .before .before .before .if1 .left), ← c .before .before .before .before .before .field .ensures)
+returns-4 c =
+    let if1′ = c .before .before .before .before .if1 in
+    let field = c .before .before .before .before .before .field in
+    simp (← c .field3 .ensures, eq-eqb _ _ (c .before .if4 .taken), ne-eqb _ _ (c .before .before .if3 .left), ne-eqb _ _ (c .before .before .before .if2 .left), ne-eqb _ _ (if1′ .left), ← field .ensures)
 
 returns-5 : tie.Need-returns-5
 unfolding headerScalar

@@ -20,19 +20,50 @@ loop-holds : tie.Need-loop-holds Inv-loop μ-loop
 loop-holds c = (refl, refl)
 
 returns : tie.Need-returns Inv-loop μ-loop
-returns c = sym (c .before .before .before .before .before .loop .inv .0 ∙ number-turn (c .before .before .before .before .before .before .before .args .f) (c .before .before .before .before .before .loop .left) (c .before .before .before .before .before .loop .rest .now) (c .before .before .before .before .before .loop .at) (c .before .before .before .before .loop-test .taken) ∙ simp (texts-refused (c .before .before .before .before .before .before .before .args .f) (c .before .before .before .before .before .loop .rest .now) (c .before .before .before .before .before .loop .at) (c .before .texts .given .0 .0) (sym (c .before .before .before .texts-of .ensures) ∙ c .before .texts .given .1)))
+returns c =
+    let loop-test′ = c .before .before .before .before .loop-test in
+    let loop′′ = c .before .before .before .before .before .loop in
+    let given′′ = c .before .before .before .before .before .before .before .args in
+    let loop-test = loop-test′ in let loop′ = loop′′ in let given′ = given′′ in sym (loop′ .inv .0 ∙ number-turn (given′ .f) (loop′ .left)
+    (loop′ .rest .now) (loop′ .at) (loop-test .taken) ∙ simp (texts-refused (given′ .f) (loop′ .rest .now) (loop′ .at) (c .before .texts .given .0 .0)
+    (sym (c .before .before .before .texts-of .ensures) ∙ c .before .texts .given .1)))
 
 sub-rest : tie.Need-sub-rest Inv-loop μ-loop
-sub-rest c = texts-inside (c .before .before .before .before .before .before .before .args .f) (c .before .before .before .before .before .loop .rest .now) (c .before .before .before .before .before .loop .at) (c .before .texts2 .given .0 .0) (c .before .texts2 .given .0 .1 .0) (c .before .texts2 .given .0 .1 .1 .0) (sym (c .before .before .before .texts-of .ensures) ∙ c .before .texts2 .given .1)
+sub-rest c =
+    let loop′′ = c .before .before .before .before .before .loop in
+    let given′′ = c .before .before .before .before .before .before .before .args in
+    let loop′ = loop′′ in let given′ = given′′ in texts-inside (given′ .f) (loop′ .rest .now) (loop′ .at) (c .before .texts2 .given .0 .0) (c .before .texts2 .given .0 .1 .0)
+    (c .before .texts2 .given .0 .1 .1 .0) (sym (c .before .before .before .texts-of .ensures) ∙ c .before .texts2 .given .1)
 
 part-rest-start : tie.Need-part-rest-start Inv-loop μ-loop
-part-rest-start c = texts-inside (c .before .before .before .before .before .before .before .args .f) (c .before .before .before .before .before .loop .rest .now) (c .before .before .before .before .before .loop .at) (c .before .texts2 .given .0 .0) (c .before .texts2 .given .0 .1 .0) (c .before .texts2 .given .0 .1 .1 .0) (sym (c .before .before .before .texts-of .ensures) ∙ c .before .texts2 .given .1)
+part-rest-start c =
+    let loop′′ = c .before .before .before .before .before .loop in
+    let given′′ = c .before .before .before .before .before .before .before .args in
+    let loop′ = loop′′ in let given′ = given′′ in texts-inside (given′ .f) (loop′ .rest .now) (loop′ .at) (c .before .texts2 .given .0 .0) (c .before .texts2 .given .0 .1 .0)
+    (c .before .texts2 .given .0 .1 .1 .0) (sym (c .before .before .before .texts-of .ensures) ∙ c .before .texts2 .given .1)
 
 add-at : tie.Need-add-at Inv-loop μ-loop
-add-at c = let s = texts-inside (c .before .before .before .before .before .before .before .before .args .f) (c .before .before .before .before .before .before .loop .rest .now) (c .before .before .before .before .before .before .loop .at) (c .before .before .texts2 .given .0 .0) (c .before .before .texts2 .given .0 .1 .0) (c .before .before .texts2 .given .0 .1 .1 .0) (sym (c .before .before .before .before .texts-of .ensures) ∙ c .before .before .texts2 .given .1) in omega (arith, s, c .before .before .before .before .before .before .loop .inv .1)
+add-at c =
+    let texts2 = c .before .before .texts2 in
+    let texts-of = c .before .before .before .before .texts-of in
+    let loop′ = c .before .before .before .before .before .before .loop in
+    let given′ = c .before .before .before .before .before .before .before .before .args in
+    let s = texts-inside (given′ .f) (loop′ .rest .now) (loop′ .at) (texts2 .given .0 .0) (texts2 .given .0 .1 .0) (texts2 .given .0 .1 .1 .0) (sym (texts-of .ensures) ∙ texts2 .given .1) in omega (arith, s, loop′ .inv .1)
 
 loop-again : tie.Need-loop-again Inv-loop μ-loop
-loop-again c = let q = texts-read (c .before .before .before .before .before .before .before .before .args .f) (c .before .before .before .before .before .before .loop .rest .now) (c .before .before .before .before .before .before .loop .at) (c .before .before .texts2 .given .0 .0) (c .before .before .texts2 .given .0 .1 .0) (c .before .before .texts2 .given .0 .1 .1 .0) (sym (c .before .before .before .before .texts-of .ensures) ∙ c .before .before .texts2 .given .1) in let s = argument-read (c .before .before .before .before .before .before .before .before .args .f) (c .before .before .before .before .before .before .loop .rest .now) (c .before .before .before .before .before .before .loop .at) (q .0) (c .before .before .texts2 .given .0 .1 .1 .0) (q .1) in (c .before .before .before .before .before .before .loop .inv .0 ∙ number-turn (c .before .before .before .before .before .before .before .before .args .f) (c .before .before .before .before .before .before .loop .left) (c .before .before .before .before .before .before .loop .rest .now) (c .before .before .before .before .before .before .loop .at) (c .before .before .before .before .before .loop-test .taken) ∙ simp (q .1, part-from), simp part-from (omega (arith, s .inside, c .before .before .before .before .before .before .loop .inv .1, length-drop (c .before .before .texts2 .given .0 .1 .1 .0) (c .before .before .before .before .before .before .loop .rest .now))))
+loop-again c =
+    let texts2 = c .before .before .texts2 in
+    let texts-of = c .before .before .before .before .texts-of in
+    let loop-test = c .before .before .before .before .before .loop-test in
+    let loop′ = c .before .before .before .before .before .before .loop in
+    let given′ = c .before .before .before .before .before .before .before .before .args in
+    let q = texts-read (given′ .f) (loop′ .rest .now) (loop′ .at) (texts2 .given .0 .0) (texts2 .given .0 .1 .0) (texts2 .given .0 .1 .1 .0)
+    (sym (texts-of .ensures) ∙ texts2 .given .1) in let s = argument-read (given′ .f) (loop′ .rest .now) (loop′ .at) (q .0) (texts2 .given .0 .1 .1 .0)
+    (q .1) in (
+      loop′ .inv .0 ∙ number-turn (given′ .f) (loop′ .left) (loop′ .rest .now) (loop′ .at) (loop-test .taken) ∙ simp (q .1, part-from),
+      simp part-from
+          (omega (arith, s .inside, loop′ .inv .1, length-drop (texts2 .given .0 .1 .1 .0) (loop′ .rest .now))),
+    )
 
 returns-2 : tie.Need-returns-2 Inv-loop μ-loop
 unfolding numberedOf

@@ -23,7 +23,10 @@ returns-4 c = simp (eq-eqb _ _ (c .if4 .taken), ne-eqb _ _ (c .before .if3 .left
 
 returns-5 : tie.Need-returns-5
 unfolding reservedBits
-returns-5 c = simp (← c .field4 .ensures, ne-eqb _ _ (c .before .if4 .left), ne-eqb _ _ (c .before .before .if3 .left), ne-eqb _ _ (c .before .before .before .if2 .left), ne-eqb _ _ (c .before .before .before .before .if1 .left), ← c .before .before .before .before .before .field .ensures)
+returns-5 c =
+    let if1 = c .before .before .before .before .if1 in
+    let field = c .before .before .before .before .before .field in
+    simp (← c .field4 .ensures, ne-eqb _ _ (c .before .if4 .left), ne-eqb _ _ (c .before .before .if3 .left), ne-eqb _ _ (c .before .before .before .if2 .left), ne-eqb _ _ (if1 .left), ← field .ensures)
 
 pub reserved-bits-spec : {M : Type 1} → statement M
 reserved-bits-spec =

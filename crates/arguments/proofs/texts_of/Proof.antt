@@ -19,16 +19,72 @@ returns-3 : tie.Need-returns-3
 returns-3 c = simp (lt-ltb _ _ (c .if3 .taken), ne-eqb _ _ (c .before .if2 .left), ← c .before .before .field .ensures, ← c .before .before .before .word .ensures, le-ltb _ _ (c .before .before .before .before .if1 .left), name-then-text)
 
 value-text-requires : tie.Need-value-text-requires
-value-text-requires c κs = let m = text-taken (c .before .before .before .before .before .before .before .before .before .before .before .args .f) (c .before .before .before .before .field2 .result) (c .before .before .before .before .before .before .before .before .before .before .before .args .place + 8) (c .before .before .before .before .before .before .before .before .before .before .before .args .place + 8 * c .before .before .before .before .before .before .before .field .result) (c .before .named2 .given .0 .0) (c .before .named2 .given .0 .1 .0) (omega arith) (sym (c .before .before .before .take-text .ensures) ∙ c .before .named2 .given .1) in omega (arith, m .0, m .1)
+value-text-requires c κs =
+    let field2 = c .before .before .before .before .field2 in
+    let field = c .before .before .before .before .before .before .before .field in
+    let given′ = c .before .before .before .before .before .before .before .before .before .before .before .args in
+    let m = text-taken (given′ .f) (field2 .result) (given′ .place + 8) (given′ .place + 8 * field .result) (c .before .named2 .given .0 .0) (c .before .named2 .given .0 .1 .0)
+    (omega arith) (sym (c .before .before .before .take-text .ensures) ∙ c .before .named2 .given .1) in omega (arith, m .0, m .1)
 
 returns-4 : tie.Need-returns-4
-returns-4 c = simp (c .before .named .given .1, ← c .before .before .before .take-text .ensures, ← c .before .before .before .before .field2 .ensures, le-ltb _ _ (c .before .before .before .before .before .if3 .left), ne-eqb _ _ (c .before .before .before .before .before .before .if2 .left), ← c .before .before .before .before .before .before .before .field .ensures, ← c .before .before .before .before .before .before .before .before .word .ensures, le-ltb _ _ (c .before .before .before .before .before .before .before .before .before .if1 .left), name-then-text)
+returns-4 c =
+    let field2 = c .before .before .before .before .field2 in
+    let if3′ = c .before .before .before .before .before .if3 in
+    let if2′ = c .before .before .before .before .before .before .if2 in
+    let field = c .before .before .before .before .before .before .before .field in
+    let word = c .before .before .before .before .before .before .before .before .word in
+    let if1′ = c .before .before .before .before .before .before .before .before .before .if1 in
+    simp (c .before .named .given .1, ← c .before .before .before .take-text .ensures, ← field2 .ensures, le-ltb _ _ (if3′ .left), ne-eqb _ _ (if2′ .left), ← field .ensures, ← word .ensures, le-ltb _ _ (if1′ .left), name-then-text)
 
 returns-5 : tie.Need-returns-5
-returns-5 c = simp (c .before .valued .given .1, ← c .before .before .before .value-text .ensures, c .before .before .before .before .before .named2 .given .1, ← c .before .before .before .before .before .before .before .take-text .ensures, ← c .before .before .before .before .before .before .before .before .field2 .ensures, le-ltb _ _ (c .before .before .before .before .before .before .before .before .before .if3 .left), ne-eqb _ _ (c .before .before .before .before .before .before .before .before .before .before .if2 .left), ← c .before .before .before .before .before .before .before .before .before .before .before .field .ensures, ← c .before .before .before .before .before .before .before .before .before .before .before .before .word .ensures, le-ltb _ _ (c .before .before .before .before .before .before .before .before .before .before .before .before .before .if1 .left), name-then-text)
+returns-5 c =
+    let named2′ = c .before .before .before .before .before .named2 in
+    let take-text′ = c .before .before .before .before .before .before .before .take-text in
+    let field2′ = c .before .before .before .before .before .before .before .before .field2 in
+    let if3′′ = c .before .before .before .before .before .before .before .before .before .if3 in
+    let if2′′ = c .before .before .before .before .before .before .before .before .before .before .if2 in
+    let field′ = c .before .before .before .before .before .before .before .before .before .before .before .field in
+    let word′ = c .before .before .before .before .before .before .before .before .before .before .before .before .word in
+    let if1′′ = c .before .before .before .before .before .before .before .before .before .before .before .before .before .if1 in
+    let named2 = named2′ in let take-text = take-text′ in let field2 = field2′ in let if3′ = if3′′ in let if2′ = if2′′ in let field = field′ in let word = word′ in let if1′ = if1′′ in simp (
+      c .before .valued .given .1,
+      ← c .before .before .before .value-text .ensures,
+      named2 .given .1,
+      ← take-text .ensures,
+      ← field2 .ensures,
+      le-ltb _ _
+          (if3′ .left),
+      ne-eqb _ _ (if2′ .left),
+      ← field .ensures,
+      ← word .ensures,
+      le-ltb _ _ (if1′ .left),
+      name-then-text,
+    )
 
 returns-6 : tie.Need-returns-6
-returns-6 c = simp (c .before .valued2 .given .1, ← c .before .before .before .value-text .ensures, c .before .before .before .before .before .named2 .given .1, ← c .before .before .before .before .before .before .before .take-text .ensures, ← c .before .before .before .before .before .before .before .before .field2 .ensures, le-ltb _ _ (c .before .before .before .before .before .before .before .before .before .if3 .left), ne-eqb _ _ (c .before .before .before .before .before .before .before .before .before .before .if2 .left), ← c .before .before .before .before .before .before .before .before .before .before .before .field .ensures, ← c .before .before .before .before .before .before .before .before .before .before .before .before .word .ensures, le-ltb _ _ (c .before .before .before .before .before .before .before .before .before .before .before .before .before .if1 .left), name-then-text)
+returns-6 c =
+    let named2′ = c .before .before .before .before .before .named2 in
+    let take-text′ = c .before .before .before .before .before .before .before .take-text in
+    let field2′ = c .before .before .before .before .before .before .before .before .field2 in
+    let if3′′ = c .before .before .before .before .before .before .before .before .before .if3 in
+    let if2′′ = c .before .before .before .before .before .before .before .before .before .before .if2 in
+    let field′ = c .before .before .before .before .before .before .before .before .before .before .before .field in
+    let word′ = c .before .before .before .before .before .before .before .before .before .before .before .before .word in
+    let if1′′ = c .before .before .before .before .before .before .before .before .before .before .before .before .before .if1 in
+    let named2 = named2′ in let take-text = take-text′ in let field2 = field2′ in let if3′ = if3′′ in let if2′ = if2′′ in let field = field′ in let word = word′ in let if1′ = if1′′ in simp (
+      c .before .valued2 .given .1,
+      ← c .before .before .before .value-text .ensures,
+      named2 .given .1,
+      ← take-text .ensures,
+      ← field2 .ensures,
+      le-ltb _ _
+          (if3′ .left),
+      ne-eqb _ _ (if2′ .left),
+      ← field .ensures,
+      ← word .ensures,
+      le-ltb _ _ (if1′ .left),
+      name-then-text,
+    )
 
 pub texts-of-spec : {M : Type 1} → statement M
 texts-of-spec =

@@ -2,13 +2,17 @@
 use mathlib.Core.Path.{subst}
 use Prim.Native.Nat.{_+_}
 use lib.ListN.{length}
-use Rattle.arguments.specs.Loss.{valuePaddingZero, ValueInside}
+use Rattle.arguments.specs.Loss.{valuePaddingZero}
+use Rattle.arguments.specs.Models.Bounds.{ValueInside}
 use borrow.Author.Needs.{needs}
 use Rattle.arguments.proofs.value_padding_zero.Statement.{statement}
 use Rattle.arguments.proofs.value_padding_zero.Tie as tie
 
 padding-zero-requires : tie.Need-padding-zero-requires
-padding-zero-requires c κs = (c .before .before .before .before .pre .0, subst (ValueInside (c .before .before .before .before .args .place) (c .before .before .before .before .args .place + length (c .before .before .before .before .args .rest .now))) (c .before .value .given .1) (c .before .before .before .before .pre .1))
+padding-zero-requires c κs =
+    let given′ = c .before .before .before .before .args in
+    let pre = c .before .before .before .before .pre in
+    (pre .0, subst (ValueInside (given′ .place) (given′ .place + length (given′ .rest .now))) (c .before .value .given .1) (pre .1))
 
 returns : tie.Need-returns
 unfolding valuePaddingZero

@@ -1,6 +1,6 @@
 -- `arguments::value_text` meets its contract: each answer is what the definition gives under the tests that led there. Assumes nothing.
 use borrow.Author.Tests.{eq-eqb, ne-eqb, lt-ltb, le-ltb}
-use Rattle.arguments.specs.Argument.{valueText}
+use Rattle.arguments.specs.Models.Reading.{valueText}
 use Rattle.format.specs.Part.{takeParts, takePart, takeWords}
 use borrow.Author.Needs.{needs}
 use Rattle.arguments.proofs.value_text.Statement.{statement}
@@ -8,11 +8,19 @@ use Rattle.arguments.proofs.value_text.Tie as tie
 
 returns : tie.Need-returns
 unfolding valueText takeParts takePart takeWords
-returns c = simp (c .before .text .given .1, ← c .before .before .before .take-text .ensures, ← c .before .before .before .before .field2 .ensures, eq-eqb _ _ (c .before .before .before .before .before .if1 .taken), ← c .before .before .before .before .before .before .field .ensures)
+returns c =
+    let field2 = c .before .before .before .before .field2 in
+    let if1 = c .before .before .before .before .before .if1 in
+    let field = c .before .before .before .before .before .before .field in
+    simp (c .before .text .given .1, ← c .before .before .before .take-text .ensures, ← field2 .ensures, eq-eqb _ _ (if1 .taken), ← field .ensures)
 
 returns-2 : tie.Need-returns-2
 unfolding valueText takeParts takePart takeWords
-returns-2 c = simp (c .before .text2 .given .1, ← c .before .before .before .take-text .ensures, ← c .before .before .before .before .field2 .ensures, eq-eqb _ _ (c .before .before .before .before .before .if1 .taken), ← c .before .before .before .before .before .before .field .ensures)
+returns-2 c =
+    let field2 = c .before .before .before .before .field2 in
+    let if1 = c .before .before .before .before .before .if1 in
+    let field = c .before .before .before .before .before .before .field in
+    simp (c .before .text2 .given .1, ← c .before .before .before .take-text .ensures, ← field2 .ensures, eq-eqb _ _ (if1 .taken), ← field .ensures)
 
 returns-3 : tie.Need-returns-3
 unfolding valueText takeParts takePart takeWords

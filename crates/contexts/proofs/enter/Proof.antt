@@ -9,7 +9,9 @@ use Rattle.contexts.proofs.enter.Statement.{statement}
 use Rattle.contexts.proofs.enter.Tie as tie
 
 add-t11 : tie.Need-add-t11
-add-t11 c = omega (arith, found-lt (c .before .before .before .before .before .args .s .ids) (c .before .before .before .before .before .args .s .count) (c .before .before .before .before .before .args .id) (c .before .found .given .0 .0) (sym (c .before .before .before .find-id .ensures) ∙ c .before .found .given .1))
+add-t11 c =
+    let given′ = c .before .before .before .before .before .args in
+    omega (arith, found-lt (given′ .s .ids) (given′ .s .count) (given′ .id) (c .before .found .given .0 .0) (sym (c .before .before .before .find-id .ensures) ∙ c .before .found .given .1))
 
 returns : tie.Need-returns
 unfolding entering

@@ -22,14 +22,22 @@ loop-holds c = (search needs, search needs, refl)
 
 returns : tie.Need-returns Inv-loop μ-loop
 unfolding findId
-returns c = sym (c .before .before .loop .inv .2 ∙ find-turn (c .before .before .before .args .t1) (c .before .before .before .args .count) (c .before .before .before .args .id) (c .before .before .loop .i) (omega arith) (omega arith) ∙ simp (eq-eqb _ _ (c .if1 .taken)))
+returns c =
+    let loop′′ = c .before .before .loop in
+    let given′ = c .before .before .before .args in
+    sym (loop′′ .inv .2 ∙ find-turn (given′ .t1) (given′ .count) (given′ .id) (loop′′ .i) (omega arith) (omega arith) ∙ simp (eq-eqb _ _ (c .if1 .taken)))
 
 loop-again : tie.Need-loop-again Inv-loop μ-loop
-loop-again c = (omega arith, c .before .before .loop .inv .1, c .before .before .loop .inv .2 ∙ find-turn (c .before .before .before .args .t1) (c .before .before .before .args .count) (c .before .before .before .args .id) (c .before .before .loop .i) (omega arith) (omega arith) ∙ simp (ne-eqb _ _ (c .if1 .left)))
+loop-again c =
+    let loop′ = c .before .before .loop in
+    let given = c .before .before .before .args in
+    (omega arith, loop′ .inv .1, loop′ .inv .2 ∙ find-turn (given .t1) (given .count) (given .id) (loop′ .i) (omega arith) (omega arith) ∙ simp (ne-eqb _ _ (c .if1 .left)))
 
 returns-2 : tie.Need-returns-2 Inv-loop μ-loop
 unfolding findId
-returns-2 c = let e = length-take-le (c .before .before .args .count) (c .before .before .args .t1) (omega arith) in sym (c .before .loop .inv .2 ∙ rw (drop-of-length-le (take (c .before .before .args .count) (c .before .before .args .t1)) {i = c .before .loop .i} (omega arith)))
+returns-2 c =
+    let given′ = c .before .before .args in
+    let e = length-take-le (given′ .count) (given′ .t1) (omega arith) in sym (c .before .loop .inv .2 ∙ rw (drop-of-length-le (take (given′ .count) (given′ .t1)) {i = c .before .loop .i} (omega arith)))
 
 pub find-id-spec : {M : Type 1} → statement M
 find-id-spec =

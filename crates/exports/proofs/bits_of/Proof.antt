@@ -3,8 +3,8 @@ use native.Mathlib.Omega.{arith}
 use mathlib.Core.Path.{ap}
 use lib.IntN.{natAbs}
 use mir.Syntax.{w64}
-use Rattle.records.specs.Written.{unsigned}
-use Rattle.writers.proofs.Signs.{plain, turned}
+use Rattle.words.specs.Word.{unsigned}
+use Rattle.encoding.proofs.Signs.{plain, turned}
 use Rattle.exports.proofs.bits_of.Statement.{statement}
 use Rattle.exports.proofs.bits_of.Tie as tie
 

@@ -4,8 +4,8 @@ use lib.IntN.{ℤ}
 use mir.Syntax.{w64}
 use mir.Val.{SFits, toZ, ofZ}
 use mir.Facts.{sfits-widen, toZ-ofZ}
-use Rattle.records.specs.Written.{unsigned}
-use Rattle.writers.proofs.Signs.{handed-on}
+use Rattle.words.specs.Word.{unsigned}
+use Rattle.encoding.proofs.Signs.{handed-on}
 use borrow.Author.Needs.{needs}
 use Rattle.exports.proofs.half_bits_of.Statement.{statement}
 use Rattle.exports.proofs.half_bits_of.Tie as tie

@@ -1,4 +1,4 @@
--- `put_answer` meets its contract: each case is a short block, or an event's.
+-- `put_answer` meets its contract: each case is a short block, or a report's.
 use Rattle.exports.specs.Block.{answerNumbers}
 use borrow.Author.Needs.{needs}
 use Rattle.exports.proofs.put_answer.Statement.{statement}
@@ -33,7 +33,7 @@ unfolding answerNumbers
 returns-7 c = rw (c .before .before .before .before .before .answer5 .given .1) (c .before .before .put-short7 .ensures)
 
 returns-8 : tie.Need-returns-8
-returns-8 c = rw (c .before .before .before .before .before .answer6 .given .1) (c .before .before .put-event .ensures)
+returns-8 c = rw (c .before .before .before .before .before .answer6 .given .1) (c .before .before .put-report .ensures)
 
 returns-9 : tie.Need-returns-9
 unfolding answerNumbers

@@ -1,7 +1,7 @@
 -- `scalar_value` meets its contract, case by case; a signed number is its bits (handed-on).
 use native.Mathlib.Omega.{arith}
 use mir.Syntax.{w32, w64}
-use Rattle.writers.proofs.Signs.{handed-on}
+use Rattle.encoding.proofs.Signs.{handed-on}
 use borrow.Author.Needs.{needs}
 use Rattle.exports.proofs.scalar_value.Statement.{statement}
 use Rattle.exports.proofs.scalar_value.Tie as tie

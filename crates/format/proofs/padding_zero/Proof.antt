@@ -4,25 +4,41 @@ use native.Mathlib.Nat.{add-sub-cancel-left}
 use Prim.Native.Nat.{_+_, _-_}
 use mathlib.Core.Path.{subst, _∙_}
 use lib.ListN.{length}
-use Rattle.format.specs.Part.{Inside, paddingZero}
+use Rattle.format.specs.Part.{paddingZero}
+use Rattle.format.specs.Models.Bounds.{Inside}
 use borrow.Author.Needs.{needs}
 use Rattle.format.proofs.padding_zero.Statement.{statement}
 use Rattle.format.proofs.padding_zero.Tie as tie
 
 add-from : tie.Need-add-from
-add-from c = let i = subst (Inside (c .before .before .before .before .args .start) (c .before .before .before .before .args .start + length (c .before .before .before .before .args .source .now))) (c .before .reference .given .1) (c .before .before .before .before .pre .1) in omega (arith, i .0, i .1)
+add-from c =
+    let given′ = c .before .before .before .before .args in
+    let pre = c .before .before .before .before .pre in
+    let i = subst (Inside (given′ .start) (given′ .start + length (given′ .source .now))) (c .before .reference .given .1) (pre .1) in omega (arith, i .0, i .1)
 
 sub-from : tie.Need-sub-from
-sub-from c = let i = subst (Inside (c .before .before .before .before .args .start) (c .before .before .before .before .args .start + length (c .before .before .before .before .args .source .now))) (c .before .reference .given .1) (c .before .before .before .before .pre .1) in omega (arith, i .0, i .1)
+sub-from c =
+    let given′ = c .before .before .before .before .args in
+    let pre = c .before .before .before .before .pre in
+    let i = subst (Inside (given′ .start) (given′ .start + length (given′ .source .now))) (c .before .reference .given .1) (pre .1) in omega (arith, i .0, i .1)
 
 mul-to : tie.Need-mul-to
-mul-to c = let i = subst (Inside (c .before .before .before .before .before .args .start) (c .before .before .before .before .before .args .start + length (c .before .before .before .before .before .args .source .now))) (c .before .before .reference .given .1) (c .before .before .before .before .before .pre .1) in omega (arith, i .0, i .1, c .stream-words .ensures)
+mul-to c =
+    let given′ = c .before .before .before .before .before .args in
+    let pre = c .before .before .before .before .before .pre in
+    let i = subst (Inside (given′ .start) (given′ .start + length (given′ .source .now))) (c .before .before .reference .given .1) (pre .1) in omega (arith, i .0, i .1, c .stream-words .ensures)
 
 add-to : tie.Need-add-to
-add-to c = let i = subst (Inside (c .before .before .before .before .before .args .start) (c .before .before .before .before .before .args .start + length (c .before .before .before .before .before .args .source .now))) (c .before .before .reference .given .1) (c .before .before .before .before .before .pre .1) in omega (arith, i .0, i .1, c .stream-words .ensures)
+add-to c =
+    let given′ = c .before .before .before .before .before .args in
+    let pre = c .before .before .before .before .before .pre in
+    let i = subst (Inside (given′ .start) (given′ .start + length (given′ .source .now))) (c .before .before .reference .given .1) (pre .1) in omega (arith, i .0, i .1, c .stream-words .ensures)
 
 part-all-zero-end : tie.Need-part-all-zero-end
-part-all-zero-end c = let i = subst (Inside (c .before .before .before .before .before .args .start) (c .before .before .before .before .before .args .start + length (c .before .before .before .before .before .args .source .now))) (c .before .before .reference .given .1) (c .before .before .before .before .before .pre .1) in omega (arith, i .0, i .1, c .stream-words .ensures)
+part-all-zero-end c =
+    let given′ = c .before .before .before .before .before .args in
+    let pre = c .before .before .before .before .before .pre in
+    let i = subst (Inside (given′ .start) (given′ .start + length (given′ .source .now))) (c .before .before .reference .given .1) (pre .1) in omega (arith, i .0, i .1, c .stream-words .ensures)
 
 returns : tie.Need-returns
 unfolding paddingZero

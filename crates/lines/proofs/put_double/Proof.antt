@@ -4,12 +4,10 @@ use lib.ListN.{length}
 use Prim.Native.Nat.{ℕ}
 use mathlib.Core.Path.{ap, _∙_}
 use mathlib.Core.List.{List, _++_}
-use Rattle.lines.specs.Shown.{space}
-use Rattle.lines.proofs.Puts.{puts-same}
+use Rattle.lines.specs.Shown.{space, doubleShown}
+use Rattle.lines.proofs.Puts.{puts-same, _then_}
 use mathlib.Core.Path.{_≡_}
 use native.Mathlib.Omega.{arith}
-use Rattle.lines.specs.Shown.{doubleShown}
-use Rattle.lines.proofs.Puts.{_then_}
 use borrow.Author.Needs.{needs}
 use Rattle.lines.proofs.put_double.Statement.{statement}
 use Rattle.lines.proofs.put_double.Tie as tie

@@ -13,7 +13,8 @@ use Rattle.lines.proofs.put_hex.Statement.{statement}
 use Rattle.lines.proofs.put_hex.Tie as tie
 
 abbrev Inv-loop : tie.InvT-loop
-Inv-loop out₀ at bytes last₀ i₀ out last i = (i ≤ length bytes) × (length out ≡ length out₀) × Leaves out₀ at (hexShown bytes) out last (hexShown (drop i bytes))
+Inv-loop out₀ at bytes last₀ i₀ out last i =
+    (i ≤ length bytes) × (length out ≡ length out₀) × Leaves out₀ at (hexShown bytes) out last (hexShown (drop i bytes))
 
 abbrev μ-loop : tie.MeasureT-loop
 μ-loop out₀ at bytes last₀ i₀ out last i = length bytes - i
@@ -30,7 +31,8 @@ loop-again c =
     let bytes = c .before .before .before .before .before .before .before .before .before .args .bytes .now in
     let test : h .i < length bytes = omega arith in
     let kept : length (c .before .before .put-hex-byte .last .0) ≡ length (h .out) = search needs in
-    (omega arith, omega arith, rw (add-one (h .i)) (leaves-less (leaves-same (h .inv .2) (ap hexShown (drop-cons bytes (h .i) 0 test))) (c .before .before .put-hex-byte .ensures)))
+    let left = leaves-same (h .inv .2) (ap hexShown (drop-cons bytes (h .i) 0 test)) in
+    (omega arith, omega arith, rw (add-one (h .i)) (leaves-less left (c .before .before .put-hex-byte .ensures)))
 
 returns : tie.Need-returns Inv-loop μ-loop
 unfolding hexShown

@@ -1,6 +1,6 @@
 -- `put_signed` meets its contract: a negative number is taken from minus one, which gives one less than its magnitude.
 use Rattle.lines.proofs.Puts.{puts-same}
-use Rattle.lines.proofs.Signs.{turned-shown, kept-shown}
+use Rattle.lines.proofs.Signs.{turned-shown, kept-shown, turned-fits, turned-is, kept-is}
 use mathlib.Core.Path.{subst⁻¹}
 use lib.Dec.{T}
 use lib.IntN.{ℤ, natAbs}
@@ -9,27 +9,31 @@ use Prim.Native.Nat.{_<_, _^_}
 use native.Mathlib.Omega.{arith}
 use mir.Syntax.{w64}
 use mir.Val.{Fits}
-use Rattle.lines.proofs.Signs.{turned-fits, turned-is, kept-is}
 use borrow.Author.Needs.{needs}
 use Rattle.lines.proofs.put_signed.Statement.{statement}
 use Rattle.lines.proofs.put_signed.Tie as tie
 
 sub-put-negative : tie.Need-sub-put-negative
-sub-put-negative c = turned-fits w64 (c .before .before .before .args .n) (c .before .before .before .fits .n) (c .before .if1 .taken)
+sub-put-negative c =
+    let start = c .before .before .before in
+    turned-fits w64 (start .args .n) (start .fits .n) (c .before .if1 .taken)
 
 cast-put-negative : tie.Need-cast-put-negative
 cast-put-negative c =
-    subst⁻¹ (λ (z : ℤ). T (nonNeg z) × Fits w64 (natAbs z)) (turned-is w64 (c .before .before .before .args .n) (c .before .before .before .fits .n) (c .before .if1 .taken))
-    (tt, record { fits = omega (arith, c .before .before .before .fits .n .sfits) })
+    let start = c .before .before .before in
+    subst⁻¹ (λ (z : ℤ). T (nonNeg z) × Fits w64 (natAbs z)) (turned-is w64 (start .args .n) (start .fits .n) (c .before .if1 .taken))
+    (tt, record { fits = omega (arith, start .fits .n .sfits) })
 
 put-negative-requires : tie.Need-put-negative-requires
 put-negative-requires c κs =
-    subst⁻¹ (λ (z : ℤ). natAbs z < 2 ^ 63) (turned-is w64 (c .before .before .before .args .n) (c .before .before .before .fits .n) (c .before .if1 .taken)) (c .before .before .before .fits .n .sfits)
+    let start = c .before .before .before in
+    subst⁻¹ (λ (z : ℤ). natAbs z < 2 ^ 63) (turned-is w64 (start .args .n) (start .fits .n) (c .before .if1 .taken)) (start .fits .n .sfits)
 
 cast-put-number : tie.Need-cast-put-number
 cast-put-number c =
-    subst⁻¹ (λ (z : ℤ). T (nonNeg z) × Fits w64 (natAbs z)) (kept-is w64 (c .before .before .before .args .n) (c .before .before .before .fits .n) (c .before .if1 .left))
-    (tt, record { fits = omega (arith, c .before .before .before .fits .n .sfits) })
+    let start = c .before .before .before in
+    subst⁻¹ (λ (z : ℤ). T (nonNeg z) × Fits w64 (natAbs z)) (kept-is w64 (start .args .n) (start .fits .n) (c .before .if1 .left))
+    (tt, record { fits = omega (arith, start .fits .n .sfits) })
 
 returns : tie.Need-returns
 returns c =

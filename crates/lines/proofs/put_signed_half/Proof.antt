@@ -18,10 +18,11 @@ cast-put-signed c =
 
 returns : tie.Need-returns
 returns c =
-    let n = c .before .before .before .before .before .args .n in
+    let start = c .before .before .before .before .before in
+    let n = start .args .n in
     let half = toZ w32 (ofZ w32 n) in
-    let wide = subst⁻¹ (SFits w64) (toZ-ofZ (c .before .before .before .before .before .fits .n)) (sfits-widen tt (c .before .before .before .before .before .fits .n)) in
-    puts-same (puts-same (c .before .before .put-signed .ensures) (handed-on w64 half wide)) (handed-on w32 n (c .before .before .before .before .before .fits .n))
+    let wide = subst⁻¹ (SFits w64) (toZ-ofZ (start .fits .n)) (sfits-widen tt (start .fits .n)) in
+    puts-same (puts-same (c .before .before .put-signed .ensures) (handed-on w64 half wide)) (handed-on w32 n (start .fits .n))
 
 pub put-signed-half-spec : {M : Type 1} → statement M
 put-signed-half-spec =

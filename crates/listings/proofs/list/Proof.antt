@@ -17,28 +17,38 @@ use Rattle.listings.proofs.list.Tie as tie
 returns : tie.Need-returns
 unfolding listing listTables traceLine
 returns c =
-    let a = c .before .before .before .before .before .before .before .before .before .before .before .before .before .before .before .before .before .before .before .args in
+    let test = c .before .before .before .before in
+    let opened = test .before .before .before .before .before in
+    let first = opened .before .before .before .before in
+    let a = first .before .before .before .before .before .before .args in
     let archive = a .archive .now in
-    let reply = c .before .before .before .before .before .before .before .before .before .«open» .ensures .0 in
-    let ended : isEnd (openReply smallFormat archive (length (a .tables .now)) .answer) ≡ true = sym (ap (λ (r : Reply). isEnd (r .answer)) reply) ∙ sym (c .before .before .before .before .before .is-end .ensures) ∙ c .before .before .before .before .if1 .taken in
+    let reply = opened .«open» .ensures .0 in
+    let ended : isEnd (openReply smallFormat archive (length (a .tables .now)) .answer) ≡ true =
+    sym (ap (λ (r : Reply). isEnd (r .answer)) reply) ∙ sym (test .before .is-end .ensures) ∙ test .if1 .taken in
     let lines = puts-same (c .before .before .put-answer .ensures) (ap (λ (r : Reply). answerLine archive (r .answer)) reply) in
-    rw ended (c .before .before .before .before .before .before .before .before .before .before .before .before .before .put-bytes .ensures then lines, c .before .before .before .before .before .before .before .before .before .«open» .ensures .1)
+    rw ended (first .put-bytes .ensures then lines, opened .«open» .ensures .1)
 
 returns-2 : tie.Need-returns-2
 unfolding listing listTables traceLine
 returns-2 c =
-    let a = c .before .before .before .before .before .before .before .before .before .before .before .before .before .before .before .before .before .before .before .before .before .before .args in
+    let listed = c .before .before .before .before .list-records .ensures in
+    let test = c .before .before .before .before .before .before .before in
+    let opened = test .before .before .before .before .before in
+    let first = opened .before .before .before .before in
+    let a = first .before .before .before .before .before .before .args in
     let archive = a .archive .now in
-    let reply = c .before .before .before .before .before .before .before .before .before .before .before .before .«open» .ensures .0 in
-    let tables = c .before .before .before .before .before .before .before .before .before .before .before .before .«open» .ensures .1 in
-    let on : isEnd (openReply smallFormat archive (length (a .tables .now)) .answer) ≡ false = sym (ap (λ (r : Reply). isEnd (r .answer)) reply) ∙ sym (c .before .before .before .before .before .before .before .before .is-end .ensures) ∙ c .before .before .before .before .before .before .before .if1 .left in
-    let opened = openReply smallFormat archive (length (a .tables .now)) in
+    let reply = opened .«open» .ensures .0 in
+    let tables = opened .«open» .ensures .1 in
+    let cleared = opened .«open» .last .1 .0 in
+    let on : isEnd (openReply smallFormat archive (length (a .tables .now)) .answer) ≡ false =
+    sym (ap (λ (r : Reply). isEnd (r .answer)) reply) ∙ sym (test .before .is-end .ensures) ∙ test .if1 .left in
+    let start = openReply smallFormat archive (length (a .tables .now)) .state in
     let steps = stepsOf archive in
-    let by-reply = ap (λ (r : Reply). linesFrom smallFormat archive steps (r .state) (c .before .before .before .before .before .before .before .before .before .before .before .before .«open» .last .1 .0)) reply in
-    let by-tables = ap (linesFrom smallFormat archive steps (opened .state)) tables in
-    let after-reply = ap (λ (r : Reply). tablesFrom smallFormat archive steps (r .state) (c .before .before .before .before .before .before .before .before .before .before .before .before .«open» .last .1 .0)) reply in
-    let after-tables = ap (tablesFrom smallFormat archive steps (opened .state)) tables in
-    rw on (c .before .before .before .before .before .before .before .before .before .before .before .before .before .before .before .before .put-bytes .ensures then puts-same (c .before .before .before .before .list-records .ensures .0) (by-reply ∙ by-tables), c .before .before .before .before .list-records .ensures .1 ∙ after-reply ∙ after-tables)
+    let by-reply = ap (λ (r : Reply). linesFrom smallFormat archive steps (r .state) cleared) reply in
+    let by-tables = ap (linesFrom smallFormat archive steps start) tables in
+    let after-reply = ap (λ (r : Reply). tablesFrom smallFormat archive steps (r .state) cleared) reply in
+    let after-tables = ap (tablesFrom smallFormat archive steps start) tables in
+    rw on (first .put-bytes .ensures then puts-same (listed .0) (by-reply ∙ by-tables), listed .1 ∙ after-reply ∙ after-tables)
 
 pub list-spec : {M : Type 1} → statement M
 list-spec =

@@ -15,14 +15,20 @@ use Rattle.listings.proofs.list_record.Tie as tie
 returns : tie.Need-returns
 unfolding stepLines
 returns c =
-    let a = c .before .before .before .before .before .before .before .before .before .before .before .before .before .before .before .before .before .before .args in
+    let arguments = c .before .before .before in
+    let answer = arguments .before .before .before .before .before in
+    let stepped = answer .before .before .before .before .before in
+    let a = stepped .before .before .before .before .before .args in
     let archive = a .archive .now in
-    let reply = c .before .before .before .before .before .before .before .before .before .before .before .before .before .step .ensures .0 in
-    let tables = c .before .before .before .before .before .before .before .before .before .before .before .before .before .step .ensures .1 in
+    let reply = stepped .step .ensures .0 in
+    let tables = stepped .step .ensures .1 in
+    let after = stepped .step .last .1 .1 .0 in
     let answered = stepReply smallFormat archive (a .tables .now) (a .state) in
-    let by-reply = ap (λ (r : Reply). answerLine archive (r .answer) ++ answerArguments smallFormat archive (c .before .before .before .before .before .before .before .before .before .before .before .before .before .step .last .1 .1 .0) (r .state) (r .answer)) reply in
-    let by-tables = ap (λ (t : List ℕ). answerLine archive (answered .answer) ++ answerArguments smallFormat archive t (answered .state) (answered .answer)) tables in (
-      puts-same (c .before .before .before .before .before .before .before .before .put-answer .ensures then c .before .before .before .put-answer-arguments .ensures) (by-reply ∙ by-tables),
+    let lines : List ℕ → Reply → List ℕ =
+    λ t r. answerLine archive (r .answer) ++ answerArguments smallFormat archive t (r .state) (r .answer) in
+    let by-reply = ap (lines after) reply in
+    let by-tables = ap (λ (t : List ℕ). lines t answered) tables in (
+      puts-same (answer .put-answer .ensures then arguments .put-answer-arguments .ensures) (by-reply ∙ by-tables),
       (ap (λ (r : Reply). r .state) reply, (c .is-end .ensures ∙ ap (λ (r : Reply). isEnd (r .answer)) reply, tables)),
     )
 

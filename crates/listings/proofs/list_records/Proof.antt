@@ -1,13 +1,11 @@
 -- `list_records` meets its contract: each turn puts the lines of one step more (lines-turn), up to the first that ends.
-use Prim.Native.Nat.{ℕ, _+_, _-_, _/_, _<_}
+use Prim.Native.Nat.{ℕ}
 use mathlib.Core.Path.{_≡_, refl, sym, ap, _∙_}
-use mathlib.Core.List.{List, []}
-use mathlib.Core.Bool.{Bool, true, false}
+use mathlib.Core.Bool.{true, false}
 use native.Mathlib.Omega.{arith}
 use lib.ListN.{length}
-use Rattle.words.specs.Word.{pick}
 use Rattle.format.specs.Limits.{smallFormat}
-use Rattle.reader.specs.Step.{stepReply, stepTables}
+use Rattle.reader.specs.Step.{stepReply}
 use Rattle.listings.specs.Listing.{isEnd, linesFrom, tablesFrom}
 use Rattle.lines.proofs.Puts.{Leaves, leaves-all, leaves-less, leaves-none, leaves-same}
 use Rattle.listings.proofs.Turns.{lines-turn, tables-turn}
@@ -25,9 +23,7 @@ abbrev μ-loop : tie.MeasureT-loop
 μ-loop out₀ at archive tables₀ next₀ last₀ turns₀ out tables next last turns = turns
 
 loop-holds : tie.Need-loop-holds Inv-loop μ-loop
-loop-holds c =
-    let a = c .before .before .before .args in
-    (refl, refl, refl, leaves-all (a .out .now) (a .at) (linesFrom smallFormat (a .archive .now) (length (a .archive .now) / 8 + 1) (a .state) (a .tables .now)))
+loop-holds c = (refl, refl, refl, leaves-all _ _ _)
 
 returns : tie.Need-returns Inv-loop μ-loop
 returns c =

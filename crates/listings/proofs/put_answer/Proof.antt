@@ -47,7 +47,7 @@ returns-7 c =
 
 returns-8 : tie.Need-returns-8
 unfolding answerLine
-returns-8 c = rw (c .before .before .before .before .before .answer6 .given .1) (c .before .before .put-event .ensures)
+returns-8 c = rw (c .before .before .before .before .before .answer6 .given .1) (c .before .before .put-report .ensures)
 
 returns-9 : tie.Need-returns-9
 unfolding answerLine

@@ -1,4 +1,4 @@
--- `put_answer_arguments` meets its contract: an event's arguments, and nothing for any other answer.
+-- `put_answer_arguments` meets its contract: a report's arguments, and nothing for any other answer.
 use Rattle.listings.specs.Listing.{answerArguments}
 use Rattle.lines.proofs.Puts.{puts-none}
 use borrow.Author.Needs.{needs}

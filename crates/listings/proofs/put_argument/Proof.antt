@@ -8,12 +8,13 @@ use Rattle.listings.proofs.put_argument.Tie as tie
 returns : tie.Need-returns
 unfolding argumentLine
 returns c =
-    let put-value = c .before .before .before .before .before .before .before .put-value in
-    let put-text = c .before .before .before .before .before .before .before .before .before .before .before .put-text in
-    let put-number = c .before .before .before .before .before .before .before .before .before .before .before .before .before .before .before .put-number in
-    let value-type = c .before .before .before .before .before .before .before .before .before .before .before .before .before .before .before .before .value-type in
-    let put-bytes = c .before .before .before .before .before .before .before .before .before .before .before .before .before .before .before .before .before .before .before .before .put-bytes in
-    rw (← value-type .ensures) (put-bytes .ensures then put-number .ensures then put-text .ensures then put-value .ensures then c .before .before .put-bytes2 .ensures)
+    let value = c .before .before .before .before .before .before .before in
+    let name = value .before .before .before .before in
+    let number = name .before .before .before .before in
+    let letter = number .before .before .before .before .before in
+    let start = letter .put-bytes .ensures then number .put-number .ensures in
+    rw (← number .before .value-type .ensures)
+    (start then name .put-text .ensures then value .put-value .ensures then c .before .before .put-bytes2 .ensures)
 
 pub put-argument-spec : {M : Type 1} → statement M
 put-argument-spec =

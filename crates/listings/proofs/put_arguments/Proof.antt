@@ -16,7 +16,8 @@ use Rattle.listings.proofs.put_arguments.Tie as tie
 abbrev Inv-loop : tie.InvT-loop
 Inv-loop out₀ at archive state tables place count last₀ number₀ out last number =
     (number ≤ count) × (length out ≡ length out₀)
-    × Leaves out₀ at (argumentLines smallFormat archive tables state place 0 count) out last (argumentLines smallFormat archive tables state place number (count - number))
+    × Leaves out₀ at (argumentLines smallFormat archive tables state place 0 count) out last
+    (argumentLines smallFormat archive tables state place number (count - number))
 
 abbrev μ-loop : tie.MeasureT-loop
 μ-loop out₀ at archive state tables place count last₀ number₀ out last number = count - number

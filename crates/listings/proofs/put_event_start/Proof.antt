@@ -8,13 +8,10 @@ use Rattle.listings.proofs.put_event_start.Tie as tie
 returns : tie.Need-returns
 unfolding eventStart
 returns c =
-    let put-number2 = c .before .before .before .before .before .before .put-number2 in
-    let put-provider = c .before .before .before .before .before .before .before .before .before .before .put-provider in
-    let put-number = c .before .before .before .before .before .before .before .before .before .before .before .before .before .before .put-number in
-    let put-bytes = c .before .before .before .before .before .before .before .before .before .before .before .before .before .before .before .before .before .before .before .put-bytes in
-    put-bytes .ensures then put-number .ensures then put-provider .ensures then put-number2 .ensures then c .before .before .put-number3 .ensures
+    let put-number = c .before .before .before .before .before .before .put-number in
+    let put-bytes = c .before .before .before .before .before .before .before .before .before .before .before .put-bytes in
+    put-bytes .ensures then put-number .ensures then c .before .before .put-timestamp .ensures
 
 pub put-event-start-spec : {M : Type 1} → statement M
 put-event-start-spec =
-    tie.close (tie.spec (λ c. search needs) (λ c κs. search needs) (λ c. search needs) (λ c κs. search needs) (λ c κs. search needs) (λ c κs. search needs) (λ c
-    κs. search needs) (λ c. search needs) returns)
+    tie.close (tie.spec (λ c. search needs) (λ c κs. search needs) (λ c. search needs) (λ c κs. search needs) (λ c κs. search needs) (λ c. search needs) returns)

@@ -1,8 +1,9 @@
 -- `packer::pack` meets its contract: what the first pass counted is the written length (lent-measured), so the second pass writes exactly that.
 use native.Mathlib.Omega.{arith}
 use mathlib.Core.Path.{refl, _∙_}
-use Rattle.counting.proofs.Counting.{left-tally}
-use Rattle.packer.proofs.Room.{small-format, lent-wide, lent-measured}
+use Rattle.first_pass.proofs.Counting.{left-tally}
+use Rattle.tables.proofs.Tables.{small-format}
+use Rattle.packer.proofs.Room.{lent-wide, lent-measured}
 use borrow.Author.Needs.{needs}
 use Rattle.packer.proofs.pack.Statement.{statement}
 use Rattle.packer.proofs.pack.Tie as tie
@@ -11,14 +12,13 @@ table-words-requires : tie.Need-table-words-requires
 table-words-requires c κs =
     let a = c .before .before .before .args in
     let asked = c .before .before .before .pre in
-    small-format (a .f) (asked .0) .0
+    small-format (a .f) (asked .0)
 
 count-all-requires : tie.Need-count-all-requires
 count-all-requires c κs =
     let a = c .before .before .before .before .before .args in
     let asked = c .before .before .before .before .before .pre in
-    let s = small-format (a .f) (asked .0) in
-    (s .0, s .1, asked .1, asked .2, asked .3)
+    (small-format (a .f) (asked .0), asked .1, asked .2, asked .3)
 
 measure-requires : tie.Need-measure-requires
 measure-requires c κs =

@@ -3,7 +3,8 @@ use native.Mathlib.Omega.{arith}
 use mathlib.Core.Path.{refl, _∙_}
 use borrow.Author.Tests.{lt-ltb, le-ltb}
 use Rattle.packer.specs.Pack.{writtenReply}
-use Rattle.packer.proofs.Room.{small-format, choices-ready}
+use Rattle.tables.proofs.Tables.{small-format}
+use Rattle.packer.proofs.Room.{choices-ready}
 use borrow.Author.Needs.{needs}
 use Rattle.packer.proofs.write.Statement.{statement}
 use Rattle.packer.proofs.write.Tie as tie
@@ -16,7 +17,7 @@ table-words-requires : tie.Need-table-words-requires
 table-words-requires c κs =
     let a = c .before .before .before .before .args in
     let asked = c .before .before .before .before .pre in
-    small-format (a .f) (asked .0 .0) .0
+    small-format (a .f) (asked .0 .0)
 
 write-all-requires : tie.Need-write-all-requires
 write-all-requires c κs =

@@ -11,18 +11,22 @@ use Rattle.reader.proofs.decide.Tie as tie
 
 returns : tie.Need-returns
 unfolding decisionOf
-returns c = simp (← c .stop .ensures, ne-eqb _ _ (c .before .if1 .taken), ← c .before .before .door .ensures)
+returns c = simp (← c .stop .ensures, ne-eqb _ _ (c .before .if1 .taken), ← c .before .before .opening-number .ensures)
 
 decide-place-requires : tie.Need-decide-place-requires
-decide-place-requires c κs = let a = admitted (c .before .before .before .before .before .before .args .f) (c .before .before .before .before .before .before .args .archive .now) (length (c .before .before .before .before .before .before .args .tables .now)) (sym (c .before .before .before .door .ensures) ∙ c .before .before .if1 .left) in (c .before .before .before .before .before .before .pre, omega (arith, a .short), a .enough, sym (c .before .belongs .ensures) ∙ c .if2 .taken)
+decide-place-requires c κs =
+    let given′ = c .before .before .before .before .before .before .args in
+    let pre′ = c .before .before .before .before .before .before .pre in
+    let given = given′ in let pre = pre′ in let a = admitted (given .f) (given .archive .now) (length (given .tables .now)) (sym (c .before .before .before .opening-number .ensures)
+    ∙ c .before .before .if1 .left) in (pre, omega (arith, a .short), a .enough, sym (c .before .belongs .ensures) ∙ c .if2 .taken)
 
 returns-2 : tie.Need-returns-2
 unfolding decisionOf
-returns-2 c = simp (← c .decide-place .ensures, c .before .if2 .taken, ← c .before .before .belongs .ensures, eq-eqb _ _ (c .before .before .before .if1 .left), ← c .before .before .before .before .door .ensures)
+returns-2 c = simp (← c .decide-place .ensures, c .before .if2 .taken, ← c .before .before .belongs .ensures, eq-eqb _ _ (c .before .before .before .if1 .left), ← c .before .before .before .before .opening-number .ensures)
 
 returns-3 : tie.Need-returns-3
 unfolding decisionOf
-returns-3 c = simp (← c .stop2 .ensures, c .before .if2 .left, ← c .before .before .belongs .ensures, eq-eqb _ _ (c .before .before .before .if1 .left), ← c .before .before .before .before .door .ensures)
+returns-3 c = simp (← c .stop2 .ensures, c .before .if2 .left, ← c .before .before .belongs .ensures, eq-eqb _ _ (c .before .before .before .if1 .left), ← c .before .before .before .before .opening-number .ensures)
 
 pub decide-spec : {M : Type 1} → statement M
 decide-spec =

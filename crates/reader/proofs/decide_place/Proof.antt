@@ -14,7 +14,10 @@ unfolding placeDecision
 returns c = simp (← c .stop .ensures, eq-eqb _ _ (c .before .if1 .taken))
 
 decide-content-requires : tie.Need-decide-content-requires
-decide-content-requires c κs = let b = belongs-facts (c .before .before .before .before .args .s) (length (c .before .before .before .before .args .archive .now)) (c .before .before .before .before .pre .3) in (c .before .before .before .before .pre .0, c .before .before .before .before .pre .1, c .before .before .before .before .pre .2, b .few, omega (arith, b .few, b .known), b .inside, sym (c .record-at .ensures))
+decide-content-requires c κs =
+    let given = c .before .before .before .before .args in
+    let pre = c .before .before .before .before .pre in
+    let b = belongs-facts (given .s) (length (given .archive .now)) (pre .3) in (pre .0, pre .1, pre .2, b .few, omega (arith, b .few, b .known), b .inside, sym (c .record-at .ensures))
 
 returns-2 : tie.Need-returns-2
 unfolding placeDecision

@@ -2,7 +2,8 @@
 use native.Mathlib.Omega.{arith}
 use mathlib.Core.Path.{subst}
 use lib.ListN.{length}
-use Rattle.reader.specs.Shown.{shownThread, ThreadInside}
+use Rattle.reader.specs.Shown.{shownThread}
+use Rattle.reader.specs.Models.Bounds.{ThreadInside}
 use borrow.Author.Needs.{needs}
 use Rattle.reader.proofs.shown_thread.Statement.{statement}
 use Rattle.reader.proofs.shown_thread.Tie as tie

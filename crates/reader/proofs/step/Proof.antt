@@ -3,8 +3,9 @@ use mathlib.Core.Path.{ap, _∙_, _≡_}
 use Rattle.format.specs.declared.Format.{Format}
 use Rattle.format.specs.Limits.{smallFormat}
 use Rattle.tables.proofs.Tables.{small-fits}
+use Rattle.effects.specs.Follow.{changed}
 use Rattle.reader.specs.declared.Decision.{Decision}
-use Rattle.reader.specs.Step.{decisionOf, changed}
+use Rattle.reader.specs.Step.{decisionOf}
 use borrow.Author.Needs.{needs}
 use Rattle.reader.proofs.step.Statement.{statement}
 use Rattle.reader.proofs.step.Tie as tie
@@ -13,7 +14,15 @@ decide-requires : tie.Need-decide-requires
 decide-requires c κs = rw (c .before .small-format .ensures) small-fits
 
 returns : tie.Need-returns
-returns c = let e : c .before .before .before .before .before .decide .result ≡ decisionOf smallFormat (c .before .before .before .before .before .before .before .before .before .before .args .archive .now) (c .before .before .before .before .before .before .before .before .before .before .args .tables .now) (c .before .before .before .before .before .before .before .before .before .before .args .state) = c .before .before .before .before .before .decide .ensures ∙ ap (λ (f : Format). decisionOf f (c .before .before .before .before .before .before .before .before .before .before .args .archive .now) (c .before .before .before .before .before .before .before .before .before .before .args .tables .now) (c .before .before .before .before .before .before .before .before .before .before .args .state)) (c .before .before .before .before .before .before .before .small-format .ensures) in (ap (λ (d : Decision). record { answer = d .answer; state = d .state }) e, c .before .before .apply .ensures ∙ ap (λ (d : Decision). changed (c .before .before .before .before .before .before .before .before .before .before .args .tables .now) (d .change)) e)
+returns c =
+    let decide = c .before .before .before .before .before .decide in
+    let small-format = c .before .before .before .before .before .before .before .small-format in
+    let given = c .before .before .before .before .before .before .before .before .before .before .args in
+    let e : decide .result ≡ decisionOf smallFormat (given .archive .now) (given .tables .now) (given .state) = decide .ensures ∙ ap (λ (f : Format). decisionOf f
+    (given .archive .now) (given .tables .now) (given .state)) (small-format .ensures) in (
+      ap (λ (d : Decision). record { answer = d .answer; state = d .state }) e,
+      c .before .before .apply .ensures ∙ ap (λ (d : Decision). changed (given .tables .now) (d .change)) e,
+    )
 
 pub step-spec : {M : Type 1} → statement M
 step-spec =

@@ -1,6 +1,6 @@
 -- `records::has_extra` meets its contract: each answer is what the definition gives under the tests that led there. Assumes nothing.
 use borrow.Author.Tests.{eq-eqb, ne-eqb}
-use Rattle.records.specs.Record.{hasExtra}
+use Rattle.records.specs.Layout.{hasExtra}
 use Rattle.records.proofs.has_extra.Statement.{statement}
 use Rattle.records.proofs.has_extra.Tie as tie
 

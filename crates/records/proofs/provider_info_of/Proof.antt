@@ -7,11 +7,15 @@ use Rattle.records.proofs.provider_info_of.Tie as tie
 
 returns : tie.Need-returns
 unfolding providerInfoOf takeParts takePart
-returns c = simp (c .before .stream .given .1, ← c .before .before .before .take-stream .ensures, ← c .before .before .before .before .field .ensures)
+returns c =
+    let field = c .before .before .before .before .field in
+    simp (c .before .stream .given .1, ← c .before .before .before .take-stream .ensures, ← field .ensures)
 
 returns-2 : tie.Need-returns-2
 unfolding providerInfoOf takeParts takePart
-returns-2 c = simp (← c .field2 .ensures, c .before .enum-told .given .1, ← c .before .before .before .take-stream .ensures, ← c .before .before .before .before .field .ensures)
+returns-2 c =
+    let field = c .before .before .before .before .field in
+    simp (← c .field2 .ensures, c .before .enum-told .given .1, ← c .before .before .before .take-stream .ensures, ← field .ensures)
 
 pub provider-info-of-spec : {M : Type 1} → statement M
 provider-info-of-spec =

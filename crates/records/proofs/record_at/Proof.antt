@@ -13,16 +13,40 @@ use Rattle.records.proofs.record_at.Tie as tie
 
 returns : tie.Need-returns
 unfolding recordOf extentOf
-returns c = let h : length (c .before .before .args .archive .now) ≤ c .before .before .args .place = omega arith in rw (drop-of-length-le (c .before .before .args .archive .now) {i = c .before .before .args .place} h)
+returns c =
+    let given′ = c .before .before .args in
+    let h : length (given′ .archive .now) ≤ given′ .place = omega arith in rw (drop-of-length-le (given′ .archive .now) {i = given′ .place} h)
 
 slice-aggregate-content-of : tie.Need-slice-aggregate-content-of
-slice-aggregate-content-of c = let w = extent-read (take (length (c .before .before .before .before .before .before .before .before .args .archive .now) - c .before .before .before .before .before .before .before .before .args .place) (drop (c .before .before .before .before .before .before .before .before .args .place) (c .before .before .before .before .before .before .before .before .args .archive .now))) (c .before .before .extent2 .given .0 .0) (sym (c .before .before .before .before .extent-of .ensures) ∙ c .before .before .extent2 .given .1) in sym (length-take-le (c .before .before .extent2 .given .0 .0) (take (length (c .before .before .before .before .before .before .before .before .args .archive .now) - c .before .before .before .before .before .before .before .before .args .place) (drop (c .before .before .before .before .before .before .before .before .args .place) (c .before .before .before .before .before .before .before .before .args .archive .now))) (w .inside))
+slice-aggregate-content-of c =
+    let extent2 = c .before .before .extent2 in
+    let extent-of = c .before .before .before .before .extent-of in
+    let given′ = c .before .before .before .before .before .before .before .before .args in
+    let w = extent-read (take (length (given′ .archive .now) - given′ .place) (drop (given′ .place) (given′ .archive .now))) (extent2 .given .0 .0)
+    (sym (extent-of .ensures) ∙ extent2 .given .1) in sym (length-take-le (extent2 .given .0 .0)
+    (take (length (given′ .archive .now) - given′ .place) (drop (given′ .place) (given′ .archive .now))) (w .inside))
 
 content-of-requires : tie.Need-content-of-requires
-content-of-requires c κs = let w = extent-read (take (length (c .before .before .before .before .before .before .before .before .args .archive .now) - c .before .before .before .before .before .before .before .before .args .place) (drop (c .before .before .before .before .before .before .before .before .args .place) (c .before .before .before .before .before .before .before .before .args .archive .now))) (c .before .before .extent2 .given .0 .0) (sym (c .before .before .before .before .extent-of .ensures) ∙ c .before .before .extent2 .given .1) in let l : length (take (length (c .before .before .before .before .before .before .before .before .args .archive .now) - c .before .before .before .before .before .before .before .before .args .place) (drop (c .before .before .before .before .before .before .before .before .args .place) (c .before .before .before .before .before .before .before .before .args .archive .now))) ≡ length (c .before .before .before .before .before .before .before .before .args .archive .now) - c .before .before .before .before .before .before .before .before .args .place = simp part-from (length-drop (c .before .before .before .before .before .before .before .before .args .place) (c .before .before .before .before .before .before .before .before .args .archive .now)) in rw (length-take-le (c .before .before .extent2 .given .0 .0) (take (length (c .before .before .before .before .before .before .before .before .args .archive .now) - c .before .before .before .before .before .before .before .before .args .place) (drop (c .before .before .before .before .before .before .before .before .args .place) (c .before .before .before .before .before .before .before .before .args .archive .now))) (w .inside)) (omega (arith, w .some, w .inside))
+content-of-requires c κs =
+    let extent2 = c .before .before .extent2 in
+    let extent-of = c .before .before .before .before .extent-of in
+    let given′ = c .before .before .before .before .before .before .before .before .args in
+    let w = extent-read (take (length (given′ .archive .now) - given′ .place) (drop (given′ .place) (given′ .archive .now))) (extent2 .given .0 .0)
+    (sym (extent-of .ensures) ∙ extent2 .given .1) in let l : length
+    (take (length (given′ .archive .now) - given′ .place) (drop (given′ .place) (given′ .archive .now))) ≡ length
+    (given′ .archive .now) - given′ .place = simp part-from (length-drop (given′ .place) (given′ .archive .now)) in
+    rw (length-take-le (extent2 .given .0 .0) (take (length (given′ .archive .now) - given′ .place) (drop (given′ .place) (given′ .archive .now)))
+    (w .inside)) (omega (arith, w .some, w .inside))
 
 add-t18 : tie.Need-add-t18
-add-t18 c = let w = extent-read (take (length (c .before .before .before .before .before .before .before .before .before .args .archive .now) - c .before .before .before .before .before .before .before .before .before .args .place) (drop (c .before .before .before .before .before .before .before .before .before .args .place) (c .before .before .before .before .before .before .before .before .before .args .archive .now))) (c .before .before .before .extent2 .given .0 .0) (sym (c .before .before .before .before .before .extent-of .ensures) ∙ c .before .before .before .extent2 .given .1) in let l : length (take (length (c .before .before .before .before .before .before .before .before .before .args .archive .now) - c .before .before .before .before .before .before .before .before .before .args .place) (drop (c .before .before .before .before .before .before .before .before .before .args .place) (c .before .before .before .before .before .before .before .before .before .args .archive .now))) ≡ length (c .before .before .before .before .before .before .before .before .before .args .archive .now) - c .before .before .before .before .before .before .before .before .before .args .place = simp part-from (length-drop (c .before .before .before .before .before .before .before .before .before .args .place) (c .before .before .before .before .before .before .before .before .before .args .archive .now)) in omega (arith, w .inside)
+add-t18 c =
+    let extent2 = c .before .before .before .extent2 in
+    let extent-of = c .before .before .before .before .before .extent-of in
+    let given′ = c .before .before .before .before .before .before .before .before .before .args in
+    let w = extent-read (take (length (given′ .archive .now) - given′ .place) (drop (given′ .place) (given′ .archive .now))) (extent2 .given .0 .0)
+    (sym (extent-of .ensures) ∙ extent2 .given .1) in let l : length
+    (take (length (given′ .archive .now) - given′ .place) (drop (given′ .place) (given′ .archive .now))) ≡ length
+    (given′ .archive .now) - given′ .place = simp part-from (length-drop (given′ .place) (given′ .archive .now)) in omega (arith, w .inside)
 
 returns-2 : tie.Need-returns-2
 unfolding recordOf
@@ -30,7 +54,9 @@ returns-2 c = let e = simp part-from at (sym (c .before .before .before .extent-
 
 returns-3 : tie.Need-returns-3
 unfolding recordOf
-returns-3 c = let e = simp part-from at (sym (c .before .before .before .before .before .extent-of .ensures) ∙ c .before .before .before .extent2 .given .1) in rw (e, ← (simp part-from at (c .content-of .ensures)))
+returns-3 c =
+    let extent-of = c .before .before .before .before .before .extent-of in
+    let e = simp part-from at (sym (extent-of .ensures) ∙ c .before .before .before .extent2 .given .1) in rw (e, ← (simp part-from at (c .content-of .ensures)))
 
 pub record-at-spec : {M : Type 1} → statement M
 record-at-spec =

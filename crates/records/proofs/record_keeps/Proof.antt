@@ -1,65 +1,89 @@
--- `records::record_keeps` meets its contract: each answer is what the definition gives under the tests that led there. Assumes nothing.
 use native.Mathlib.Omega.{arith}
 use mathlib.Core.Path.{subst}
 use Prim.Native.Nat.{_+_}
 use lib.ListN.{length}
-use Rattle.records.specs.Loss.{ContentInside, recordKeeps}
+use Rattle.records.specs.Loss.{recordKeeps}
+use Rattle.records.specs.Models.Bounds.{ContentInside}
 use borrow.Author.Needs.{needs}
 use Rattle.records.proofs.record_keeps.Statement.{statement}
 use Rattle.records.proofs.record_keeps.Tie as tie
 
 stream-keeps-requires : tie.Need-stream-keeps-requires
-stream-keeps-requires c κs = let i = subst (ContentInside (c .before .before .before .before .before .before .args .place) (c .before .before .before .before .before .before .args .place + length (c .before .before .before .before .before .before .args .source .now))) (c .before .before .content .given .1) (c .before .before .before .before .before .before .pre .2) in omega (arith, i .0, i .1)
+stream-keeps-requires c κs =
+    let given′ = c .before .before .before .before .before .before .args in
+    let pre = c .before .before .before .before .before .before .pre in
+    let i = subst (ContentInside (given′ .place) (given′ .place + length (given′ .source .now))) (c .before .before .content .given .1) (pre .2) in omega (arith, i .0, i .1)
 
 stream-keeps-requires-2 : tie.Need-stream-keeps-requires-2
-stream-keeps-requires-2 c κs = let i = subst (ContentInside (c .before .before .before .before .before .before .before .args .place) (c .before .before .before .before .before .before .before .args .place + length (c .before .before .before .before .before .before .before .args .source .now))) (c .before .before .before .content2 .given .1) (c .before .before .before .before .before .before .before .pre .2) in omega (arith, i .0, i .1)
+stream-keeps-requires-2 c κs =
+    let given′ = c .before .before .before .before .before .before .before .args in
+    let pre = c .before .before .before .before .before .before .before .pre in
+    let i = subst (ContentInside (given′ .place) (given′ .place + length (given′ .source .now))) (c .before .before .before .content2 .given .1) (pre .2) in omega (arith, i .0, i .1)
 
-event-keeps-requires : tie.Need-event-keeps-requires
-event-keeps-requires c κs = (omega arith, subst (ContentInside (c .before .before .before .before .before .args .place) (c .before .before .before .before .before .args .place + length (c .before .before .before .before .before .args .source .now))) (c .before .content3 .given .1) (c .before .before .before .before .before .pre .2))
+report-keeps-requires : tie.Need-report-keeps-requires
+report-keeps-requires c κs =
+    let given′ = c .before .before .before .before .before .args in
+    let pre = c .before .before .before .before .before .pre in
+    let i = subst (ContentInside (given′ .place) (given′ .place + length (given′ .source .now))) (c .before .content3 .given .1) (pre .2) in (pre .0, omega arith, i)
 
 returns : tie.Need-returns
 unfolding recordKeeps
-returns c = simp (c .enum-told .given .1)
+returns c = simp (c .enum-told .given .1, ← c .before .before .word .ensures)
 
 returns-2 : tie.Need-returns-2
 unfolding recordKeeps
-returns-2 c = simp (c .enum-told2 .given .1)
+returns-2 c = simp (c .enum-told2 .given .1, ← c .before .before .word .ensures)
 
 returns-3 : tie.Need-returns-3
 unfolding recordKeeps
-returns-3 c = simp (← c .stream-keeps .ensures, ← c .before .field .ensures, c .before .before .before .content .given .1, ← c .before .before .before .before .before .word .ensures, c .before .before .before .content .given .1)
+returns-3 c =
+    let word = c .before .before .before .before .before .word in
+    simp (← c .stream-keeps .ensures, ← c .before .field .ensures, c .before .before .before .content .given .1, ← word .ensures)
 
 returns-4 : tie.Need-returns-4
 unfolding recordKeeps
-returns-4 c = simp (← c .words-keep .ensures, ← c .before .field2 .ensures, c .before .before .enum-told3 .given .1, ← c .before .before .before .before .word .ensures)
+returns-4 c =
+    let word = c .before .before .before .before .word in
+    simp (← c .words-keep .ensures, ← c .before .field2 .ensures, c .before .before .enum-told3 .given .1, ← word .ensures)
 
 returns-5 : tie.Need-returns-5
 unfolding recordKeeps
-returns-5 c = simp (← c .words-keep2 .ensures, ← c .before .field3 .ensures, c .before .before .enum-told4 .given .1, ← c .before .before .before .before .word .ensures)
+returns-5 c =
+    let word = c .before .before .before .before .word in
+    simp (← c .words-keep2 .ensures, ← c .before .field3 .ensures, c .before .before .enum-told4 .given .1, ← word .ensures)
 
 returns-6 : tie.Need-returns-6
 unfolding recordKeeps
-returns-6 c = simp (← c .words-keep3 .ensures, ← c .before .field4 .ensures, c .before .before .enum-told5 .given .1, ← c .before .before .before .before .word .ensures)
+returns-6 c =
+    let word = c .before .before .before .before .word in
+    simp (← c .words-keep3 .ensures, ← c .before .field4 .ensures, c .before .before .enum-told5 .given .1, ← word .ensures)
 
 returns-7 : tie.Need-returns-7
 unfolding recordKeeps
-returns-7 c = simp (← c .stream-keeps2 .ensures, ← c .before .field6 .ensures, ← c .before .before .field5 .ensures, c .before .before .before .before .content2 .given .1, ← c .before .before .before .before .before .before .word .ensures, c .before .before .before .before .content2 .given .1)
+returns-7 c =
+    let content2 = c .before .before .before .before .content2 in
+    let word = c .before .before .before .before .before .before .word in
+    simp (← c .stream-keeps2 .ensures, ← c .before .field6 .ensures, ← c .before .before .field5 .ensures, content2 .given .1, ← word .ensures)
 
 returns-8 : tie.Need-returns-8
 unfolding recordKeeps
-returns-8 c = simp (← c .words-keep4 .ensures, ← c .before .field7 .ensures, c .before .before .enum-told6 .given .1, ← c .before .before .before .before .word .ensures)
+returns-8 c =
+    let word = c .before .before .before .before .word in
+    simp (← c .words-keep4 .ensures, ← c .before .field7 .ensures, c .before .before .enum-told6 .given .1, ← word .ensures)
 
 returns-9 : tie.Need-returns-9
 unfolding recordKeeps
-returns-9 c = simp (← c .event-keeps .ensures, c .before .before .content3 .given .1, c .before .before .content3 .given .1)
+returns-9 c =
+    let word = c .before .before .before .before .word in
+    simp (← c .report-keeps .ensures, c .before .before .content3 .given .1, ← word .ensures)
 
 returns-10 : tie.Need-returns-10
 unfolding recordKeeps
-returns-10 c = simp (c .enum-told7 .given .1)
+returns-10 c = simp (c .enum-told7 .given .1, ← c .before .before .word .ensures)
 
 returns-11 : tie.Need-returns-11
 unfolding recordKeeps
-returns-11 c = simp (c .enum-told8 .given .1)
+returns-11 c = simp (c .enum-told8 .given .1, ← c .before .before .word .ensures)
 
 pub record-keeps-spec : {M : Type 1} → statement M
 record-keeps-spec =
@@ -67,5 +91,5 @@ record-keeps-spec =
     (λ c. search needs) (λ c κs. search needs) (λ c κs. search needs) (λ c. search needs) (λ c κs. search needs) (λ c κs. search needs)
     (λ c. search needs) (λ c κs. search needs) (λ c κs. search needs) (λ c. search needs) (λ c κs. search needs) (λ c κs. search needs)
     (λ c. search needs) stream-keeps-requires-2 (λ c. search needs) (λ c κs. search needs) (λ c κs. search needs) (λ c. search needs)
-    event-keeps-requires (λ c. search needs) (λ c. search needs) returns returns-2 returns-3 returns-4 returns-5 returns-6 returns-7
+    report-keeps-requires (λ c. search needs) (λ c. search needs) returns returns-2 returns-3 returns-4 returns-5 returns-6 returns-7
     returns-8 returns-9 returns-10 returns-11)

@@ -12,15 +12,26 @@ returns c = simp (eq-eqb _ _ (c .if1 .taken), ← c .before .field2 .ensures, �
 
 returns-2 : tie.Need-returns-2
 unfolding stringOf takeParts takePart
-returns-2 c = simp (lt-ltb _ _ (c .if2 .taken), ne-eqb _ _ (c .before .before .if1 .left), ← c .before .before .before .field2 .ensures, ← c .before .before .before .before .field .ensures)
+returns-2 c =
+    let field = c .before .before .before .before .field in
+    simp (lt-ltb _ _ (c .if2 .taken), ne-eqb _ _ (c .before .before .if1 .left), ← c .before .before .before .field2 .ensures, ← field .ensures)
 
 returns-3 : tie.Need-returns-3
 unfolding stringOf takeParts takePart
-returns-3 c = simp (c .before .stream .given .1, ← c .before .before .before .take-stream .ensures, le-ltb _ _ (c .before .before .before .before .if2 .left), ne-eqb _ _ (c .before .before .before .before .before .before .if1 .left), ← c .before .before .before .before .before .before .before .field2 .ensures, ← c .before .before .before .before .before .before .before .before .field .ensures)
+returns-3 c =
+    let if2′ = c .before .before .before .before .if2 in
+    let if1′ = c .before .before .before .before .before .before .if1 in
+    let field2 = c .before .before .before .before .before .before .before .field2 in
+    let field = c .before .before .before .before .before .before .before .before .field in
+    simp (c .before .stream .given .1, ← c .before .before .before .take-stream .ensures, le-ltb _ _ (if2′ .left), ne-eqb _ _ (if1′ .left), ← field2 .ensures, ← field .ensures)
 
 returns-4 : tie.Need-returns-4
 unfolding stringOf takeParts takePart
-returns-4 c = simp (c .enum-told .given .1, ← c .before .before .take-stream .ensures, le-ltb _ _ (c .before .before .before .if2 .left), ne-eqb _ _ (c .before .before .before .before .before .if1 .left), ← c .before .before .before .before .before .before .field2 .ensures, ← c .before .before .before .before .before .before .before .field .ensures)
+returns-4 c =
+    let if1′ = c .before .before .before .before .before .if1 in
+    let field2 = c .before .before .before .before .before .before .field2 in
+    let field = c .before .before .before .before .before .before .before .field in
+    simp (c .enum-told .given .1, ← c .before .before .take-stream .ensures, le-ltb _ _ (c .before .before .before .if2 .left), ne-eqb _ _ (if1′ .left), ← field2 .ensures, ← field .ensures)
 
 pub string-of-spec : {M : Type 1} → statement M
 string-of-spec =

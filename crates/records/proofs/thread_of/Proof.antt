@@ -12,11 +12,16 @@ returns c = simp (eq-eqb _ _ (c .if1 .taken), ← c .before .field .ensures)
 
 returns-2 : tie.Need-returns-2
 unfolding threadOf takeParts takePart
-returns-2 c = simp (c .before .pair .given .1, ← c .before .before .before .take-words .ensures, ne-eqb _ _ (c .before .before .before .before .if1 .left), ← c .before .before .before .before .before .field .ensures)
+returns-2 c =
+    let if1′ = c .before .before .before .before .if1 in
+    let field = c .before .before .before .before .before .field in
+    simp (c .before .pair .given .1, ← c .before .before .before .take-words .ensures, ne-eqb _ _ (if1′ .left), ← field .ensures)
 
 returns-3 : tie.Need-returns-3
 unfolding threadOf takeParts takePart
-returns-3 c = simp (c .enum-told .given .1, ← c .before .before .take-words .ensures, ne-eqb _ _ (c .before .before .before .if1 .left), ← c .before .before .before .before .field .ensures)
+returns-3 c =
+    let field = c .before .before .before .before .field in
+    simp (c .enum-told .given .1, ← c .before .before .take-words .ensures, ne-eqb _ _ (c .before .before .before .if1 .left), ← field .ensures)
 
 pub thread-of-spec : {M : Type 1} → statement M
 thread-of-spec =

@@ -1,6 +1,6 @@
 -- `tables::belonging` meets its contract: each answer is what the definition gives under the tests that led there. Assumes nothing.
 use borrow.Author.Tests.{eq-eqb, ne-eqb}
-use Rattle.tables.specs.Table.{belonging}
+use Rattle.tables.specs.Models.Entries.{belonging}
 use borrow.Author.Needs.{needs}
 use Rattle.tables.proofs.belonging.Statement.{statement}
 use Rattle.tables.proofs.belonging.Tie as tie

@@ -16,7 +16,9 @@ add-result-2 c = omega (arith, c .before .before .before .pre .0 .indexes, mul-l
 
 add-result-3 : tie.Need-add-result-3
 unfolding highestOf
-add-result-3 c = let i = simp (eq-eqb _ _ (c .before .if1 .taken)) at (c .before .before .before .pre .2) in omega (arith, i, c .before .before .before .pre .0 .indexes, mul-le-mul-right (c .before .before .before .args .f .highest + 257) (c .before .before .before .pre .1))
+add-result-3 c =
+    let pre = c .before .before .before .pre in
+    let i = simp (eq-eqb _ _ (c .before .if1 .taken)) at (pre .2) in omega (arith, i, pre .0 .indexes, mul-le-mul-right (c .before .before .before .args .f .highest + 257) (pre .1))
 
 returns : tie.Need-returns
 unfolding position

@@ -1,6 +1,6 @@
 -- `tables::registration_at` meets its contract: each answer is what the definition gives under the tests that led there. Assumes nothing.
 use borrow.Author.Tests.{eq-eqb, ne-eqb}
-use Rattle.tables.specs.Table.{registrationAt}
+use Rattle.tables.specs.Models.Entries.{registrationAt}
 use borrow.Author.Needs.{needs}
 use Rattle.tables.proofs.registration_at.Statement.{statement}
 use Rattle.tables.proofs.registration_at.Tie as tie

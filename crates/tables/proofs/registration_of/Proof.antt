@@ -1,4 +1,4 @@
--- `tables::registration_of` meets its contract: each answer is what the definition gives for the content that was matched. Assumes nothing.
+-- `tables::registration_of` meets its contract: each answer is what the definition gives for the effect that was matched. Assumes nothing.
 use Rattle.tables.specs.Table.{registrationOf}
 use borrow.Author.Needs.{needs}
 use Rattle.tables.proofs.registration_of.Statement.{statement}
@@ -6,50 +6,25 @@ use Rattle.tables.proofs.registration_of.Tie as tie
 
 returns : tie.Need-returns
 unfolding registrationOf
-returns c = simp (c .before .content .given .1)
+returns c = simp (c .before .effect .given .1, ← c .before .before .before .effect-of .ensures)
 
 returns-2 : tie.Need-returns-2
 unfolding registrationOf
-returns-2 c = simp (c .before .content2 .given .1)
+returns-2 c = simp (c .enum-told .given .1, ← c .before .before .effect-of .ensures)
 
 returns-3 : tie.Need-returns-3
 unfolding registrationOf
-returns-3 c = simp (c .enum-told .given .1)
+returns-3 c = simp (c .enum-told2 .given .1, ← c .before .before .effect-of .ensures)
 
 returns-4 : tie.Need-returns-4
 unfolding registrationOf
-returns-4 c = simp (c .enum-told2 .given .1)
+returns-4 c = simp (c .enum-told3 .given .1, ← c .before .before .effect-of .ensures)
 
 returns-5 : tie.Need-returns-5
 unfolding registrationOf
-returns-5 c = simp (c .enum-told3 .given .1)
-
-returns-6 : tie.Need-returns-6
-unfolding registrationOf
-returns-6 c = simp (c .enum-told4 .given .1)
-
-returns-7 : tie.Need-returns-7
-unfolding registrationOf
-returns-7 c = simp (c .enum-told5 .given .1)
-
-returns-8 : tie.Need-returns-8
-unfolding registrationOf
-returns-8 c = simp (c .enum-told6 .given .1)
-
-returns-9 : tie.Need-returns-9
-unfolding registrationOf
-returns-9 c = simp (c .enum-told7 .given .1)
-
-returns-10 : tie.Need-returns-10
-unfolding registrationOf
-returns-10 c = simp (c .enum-told8 .given .1)
-
-returns-11 : tie.Need-returns-11
-unfolding registrationOf
-returns-11 c = simp (c .enum-told9 .given .1)
+returns-5 c = simp (c .enum-told4 .given .1, ← c .before .before .effect-of .ensures)
 
 pub registration-of-spec : {M : Type 1} → statement M
 registration-of-spec =
-    tie.close (tie.spec (λ c. search needs) (λ c. search needs) (λ c. search needs) (λ c. search needs) (λ c. search needs) (λ c. search needs)
-    (λ c. search needs) (λ c. search needs) (λ c. search needs) (λ c. search needs) (λ c. search needs) returns returns-2 returns-3
-    returns-4 returns-5 returns-6 returns-7 returns-8 returns-9 returns-10 returns-11)
+    tie.close (tie.spec (λ c κs. search needs) (λ c. search needs) (λ c. search needs) (λ c. search needs) (λ c. search needs) (λ c. search needs) returns
+    returns-2 returns-3 returns-4 returns-5)

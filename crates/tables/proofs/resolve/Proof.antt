@@ -15,14 +15,19 @@ mul-entry : tie.Need-mul-entry
 mul-entry c = let h = at-lt _ _ _ _ _ (c .position-of .ensures) (omega (arith, c .before .before .before .before .before .before .before .before .pre .3)) (omega (arith, c .before .if1 .left)) in omega (arith, h)
 
 shared-slice-read-entry : tie.Need-shared-slice-read-entry
-shared-slice-read-entry c = let h = at-lt _ _ _ _ _ (c .before .position-of .ensures) (omega (arith, c .before .before .before .before .before .before .before .before .before .pre .3)) (omega (arith, c .before .before .if1 .left)) in omega (arith, h)
+shared-slice-read-entry c =
+    let pre = c .before .before .before .before .before .before .before .before .before .pre in
+    let h = at-lt _ _ _ _ _ (c .before .position-of .ensures) (omega (arith, pre .3)) (omega (arith, c .before .before .if1 .left)) in omega (arith, h)
 
 cast-entry : tie.Need-cast-entry
 cast-entry c = omega (arith, c .shared-slice-known3 .given (c .before .position-of .result))
 
 returns-2 : tie.Need-returns-2
 unfolding resolved
-returns-2 c = simp (eq-eqb _ _ (c .if2 .taken), ← c .before .before .position-of .ensures, le-ltb _ _ (c .before .before .before .if1 .left), ← c .before .before .before .before .highest-of .ensures, c .before .before .before .before .before .before .reference2 .given .1)
+returns-2 c =
+    let highest-of′ = c .before .before .before .before .highest-of in
+    let reference2′ = c .before .before .before .before .before .before .reference2 in
+    simp (eq-eqb _ _ (c .if2 .taken), ← c .before .before .position-of .ensures, le-ltb _ _ (c .before .before .before .if1 .left), ← highest-of′ .ensures, reference2′ .given .1)
 
 returns-3 : tie.Need-returns-3
 unfolding resolved
@@ -30,7 +35,11 @@ returns-3 c = simp (c .before .reference .given .1)
 
 returns-4 : tie.Need-returns-4
 unfolding resolved
-returns-4 c = simp (← c .entry-at .ensures, ne-eqb _ _ (c .before .if2 .left), ← c .before .before .before .position-of .ensures, le-ltb _ _ (c .before .before .before .before .if1 .left), ← c .before .before .before .before .before .highest-of .ensures, c .before .before .before .before .before .before .before .reference2 .given .1)
+returns-4 c =
+    let if1′ = c .before .before .before .before .if1 in
+    let highest-of = c .before .before .before .before .before .highest-of in
+    let reference2 = c .before .before .before .before .before .before .before .reference2 in
+    simp (← c .entry-at .ensures, ne-eqb _ _ (c .before .if2 .left), ← c .before .before .before .position-of .ensures, le-ltb _ _ (if1′ .left), ← highest-of .ensures, reference2 .given .1)
 
 pub resolve-spec : {M : Type 1} → statement M
 resolve-spec =

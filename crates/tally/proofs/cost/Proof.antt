@@ -1,10 +1,11 @@
--- `tally::cost` meets its contract: each answer is what the definition gives under the tests that led there; what is not registered costs no more than it would registered (inline-least). Assumes nothing.
+-- `tally::cost` meets its contract: each answer is what the definition gives under the tests that led there; what is not registered
+-- costs no more than it would registered (inline-least). Assumes nothing.
 use mathlib.Core.Path.{sym, _∙_}
 use native.Mathlib.Omega.{arith}
 use borrow.Author.Tests.{eq-eqb, ne-eqb}
 use borrow.Author.Needs.{needs}
-use Rattle.tally.specs.Slots.{costOf}
-use Rattle.tally.proofs.Laws.{inline-least}
+use Rattle.registering.proofs.Registers.{inline-least}
+use Rattle.tally.specs.Models.Slots.{costOf}
 use Rattle.tally.proofs.cost.Statement.{statement}
 use Rattle.tally.proofs.cost.Tie as tie
 
@@ -14,14 +15,22 @@ returns c = (simp (eq-eqb _ _ (c .if1 .taken)), omega arith)
 
 returns-2 : tie.Need-returns-2
 unfolding costOf
-returns-2 c = (simp (ne-eqb _ _ (c .before .before .before .if1 .left), ← c .before .before .stream-words .ensures, ← c .before .is-registered .ensures, c .if2 .taken), omega (arith, c .before .before .stream-words .ensures))
+returns-2 c =
+    let words = c .before .before .stream-words .ensures in
+    let registered = c .before .is-registered .ensures in
+    (simp (ne-eqb _ _ (c .before .before .before .if1 .left), ← words, ← registered, c .if2 .taken), omega (arith, words))
 
 mul-result : tie.Need-mul-result
 mul-result c = omega (arith, inline-least _ _ (sym (c .before .is-registered .ensures) ∙ c .if2 .left), c .before .before .stream-words .ensures)
 
 returns-3 : tie.Need-returns-3
 unfolding costOf
-returns-3 c = (simp (ne-eqb _ _ (c .before .before .before .if1 .left), ← c .before .before .stream-words .ensures, ← c .before .is-registered .ensures, c .if2 .left), omega (arith, inline-least _ _ (sym (c .before .is-registered .ensures) ∙ c .if2 .left), c .before .before .stream-words .ensures))
+returns-3 c =
+    let words = c .before .before .stream-words .ensures in
+    let registered = c .before .is-registered .ensures in (
+      simp (ne-eqb _ _ (c .before .before .before .if1 .left), ← words, ← registered, c .if2 .left),
+      omega (arith, inline-least _ _ (sym registered ∙ c .if2 .left), words),
+    )
 
 pub cost-spec : {M : Type 1} → statement M
 cost-spec =

@@ -4,22 +4,23 @@ use mathlib.Core.Path.{_≡_, refl, sym, _∙_}
 use native.Mathlib.Omega.{arith}
 use mir.Facts.{fits-32-64}
 use borrow.Author.Needs.{needs}
-use Rattle.tally.specs.Slots.{keyOf, seek, findOf}
-use Rattle.tally.proofs.Laws.{start-below, next-below, seek-none, seek-free, seek-here, seek-on}
+use Rattle.tally.specs.Models.Slots.{keyOf, seek, findOf}
+use Rattle.tally.proofs.Probing.{start-low, next-low}
+use Rattle.tally.proofs.Laws.{seek-none, seek-free, seek-here, seek-on}
 use Rattle.tally.proofs.find.Statement.{statement}
 use Rattle.tally.proofs.find.Tie as tie
 
 abbrev Inv-loop : tie.InvT-loop
-Inv-loop archive table stretch place label slots s₀ left₀ s left =
-    (s < slots) × (seek archive stretch table (keyOf archive place label) left₀ s₀ ≡ seek archive stretch table (keyOf archive place label) left s)
+Inv-loop archive table stretch place label capacity s₀ left₀ s left =
+    (s < capacity) × (seek archive stretch table (keyOf archive place label) left₀ s₀ ≡ seek archive stretch table (keyOf archive place label) left s)
 
 abbrev μ-loop : tie.MeasureT-loop
-μ-loop archive table stretch place label slots s₀ left₀ s left = left
+μ-loop archive table stretch place label capacity s₀ left₀ s left = left
 
 loop-holds : tie.Need-loop-holds Inv-loop μ-loop
 loop-holds c =
     let a = c .before .before .before .args in
-    (rw (c .first-slot .ensures) (start-below (a .stretch - 18) (keyOf (a .archive .now) (a .place) (a .label)) (search needs)), refl)
+    (rw (c .first-slot .ensures) (start-low (a .stretch - 18) (keyOf (a .archive .now) (a .place) (a .label)) (search needs)), refl)
 
 cast-p : tie.Need-cast-p Inv-loop μ-loop
 cast-p c = fits-32-64 (c .shared-slice-known3 .given _)
@@ -41,17 +42,20 @@ unfolding findOf
 returns-2 c =
     let a = c .before .before .before .before .before .before .before .before .before .before .args in
     let h = c .before .before .before .before .before .before .loop in
+    let test = c .before .before .before .before .before .loop-test in
     sym (rw (← c .before .before .before .before .before .before .before .first-slot .ensures)
     (h .inv .1 ∙ seek-here (a .archive .now) (a .stretch) (a .table .now) (keyOf (a .archive .now) (a .place) (a .label)) (h .left) (h .s)
-    (c .before .before .before .before .before .loop-test .taken) (c .before .before .before .if1 .left) (sym (c .before .same-key .ensures) ∙ c .if2 .taken)))
+    (test .taken) (c .before .before .before .if1 .left) (sym (c .before .same-key .ensures) ∙ c .if2 .taken)))
 
 loop-again : tie.Need-loop-again Inv-loop μ-loop
 loop-again c =
     let a = c .before .before .before .before .before .before .before .before .before .before .before .args in
-    let h = c .before .before .before .before .before .before .before .loop in (
-      rw (c .next-slot .ensures) (next-below (a .stretch - 18) (h .s) (h .inv .0)),
+    let h = c .before .before .before .before .before .before .before .loop in
+    let test = c .before .before .before .before .before .before .loop-test in
+    let taken = c .before .before .before .before .if1 in (
+      rw (c .next-slot .ensures) (next-low (a .stretch - 18) (h .s) (h .inv .0)),
       h .inv .1 ∙ seek-on (a .archive .now) (a .stretch) (a .table .now) (keyOf (a .archive .now) (a .place) (a .label)) (h .left) (h .s)
-          (c .before .before .before .before .before .before .loop-test .taken) (c .before .before .before .before .if1 .left) (sym (c .before .before .same-key .ensures) ∙ c .before .if2 .left) (c .next-slot .result) (c .next-slot .ensures),
+          (test .taken) (taken .left) (sym (c .before .before .same-key .ensures) ∙ c .before .if2 .left) (c .next-slot .result) (c .next-slot .ensures),
     )
 
 returns-3 : tie.Need-returns-3 Inv-loop μ-loop

@@ -2,7 +2,7 @@
 use native.Mathlib.Omega.{arith}
 use native.Mathlib.Nat.{mul-lt-mul-of-pos-right}
 use borrow.Author.Needs.{needs}
-use Rattle.tally.specs.Slots.{startOf}
+use Rattle.tally.specs.Models.Slots.{startOf}
 use Rattle.tally.proofs.first_slot.Statement.{statement}
 use Rattle.tally.proofs.first_slot.Tie as tie
 
@@ -13,7 +13,7 @@ mul-result c =
 
 returns : tie.Need-returns
 unfolding startOf
-returns c = rw (c .folded .ensures .0, c .before .hash .ensures, c .before .before .text .ensures)
+returns c = rw (c .folded .ensures .0, c .before .hash .ensures, c .before .before .part .ensures)
 
 pub first-slot-spec : {M : Type 1} → statement M
 first-slot-spec =

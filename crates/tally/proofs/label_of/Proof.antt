@@ -1,7 +1,7 @@
 -- `tally::label_of` meets its contract: the label is the definition itself. Assumes nothing.
 use mathlib.Core.Path.{refl}
 use borrow.Author.Needs.{needs}
-use Rattle.tally.specs.Slots.{labelOf}
+use Rattle.tally.specs.Models.Slots.{labelOf}
 use Rattle.tally.proofs.label_of.Statement.{statement}
 use Rattle.tally.proofs.label_of.Tie as tie
 

@@ -4,7 +4,7 @@ use mathlib.Core.Path.{_≡_, refl, _∙_}
 use native.Mathlib.Omega.{arith}
 use native.Mathlib.Numerals.{add-one}
 use borrow.Author.Needs.{needs}
-use Rattle.tally.specs.Slots.{placeAt, labelAt, usesAt, costOf, sumTo, measureOf}
+use Rattle.tally.specs.Models.Slots.{placeAt, labelAt, usesAt, costOf, sumTo, measureOf}
 use Rattle.tally.proofs.measure.Statement.{statement}
 use Rattle.tally.proofs.measure.Tie as tie
 

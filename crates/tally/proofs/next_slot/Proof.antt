@@ -1,7 +1,7 @@
 -- `tally::next_slot` meets its contract: each answer is what the definition gives under the test that led there. Assumes nothing.
 use borrow.Author.Tests.{lt-ltb, le-ltb}
 use borrow.Author.Needs.{needs}
-use Rattle.tally.specs.Slots.{nextOf}
+use Rattle.tally.specs.Models.Slots.{nextOf}
 use Rattle.tally.proofs.next_slot.Statement.{statement}
 use Rattle.tally.proofs.next_slot.Tie as tie
 

@@ -1,7 +1,7 @@
 -- `tally::raise` meets its contract: each answer is what the definition gives under the test that led there. Assumes nothing.
 use borrow.Author.Tests.{lt-ltb, le-ltb}
 use borrow.Author.Needs.{needs}
-use Rattle.tally.specs.Slots.{raised}
+use Rattle.tally.specs.Models.Slots.{raised}
 use Rattle.tally.proofs.raise.Statement.{statement}
 use Rattle.tally.proofs.raise.Tie as tie
 

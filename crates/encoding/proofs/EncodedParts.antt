@@ -1,0 +1,228 @@
+-- The parts of a body as they are written: how long they are, that reading takes each of them, and that what it takes is what was written.
+-- Assumes nothing.
+use Prim.Native.Nat.{ℕ, _+_, _*_, _%_, _^_, _<_, _≤_}
+use mathlib.Core.Path.{_≡_, refl}
+use mathlib.Core.List.{List, [], _∷_, map}
+use native.Mathlib.Omega.{arith}
+use native.Mathlib.Nat.{add-assoc, add-zero, add-sub-cancel-left}
+use borrow.Author.Tests.{le-ltb, lt-ltb, ne-eqb}
+use lib.ListN.{length, take, drop, length-append}
+use Rattle.words.specs.Word.{wordAt, bytesOf}
+use Rattle.words.specs.Stream.{streamWords}
+use Rattle.words.proofs.Words.{At, at-left, at-right, length-bytesOf, word-is, stream-is}
+use Rattle.words.proofs.Streams.{length-padded}
+use Rattle.format.specs.declared.Format.{Format}
+use Rattle.format.specs.declared.Reference.{Reference}
+use Rattle.format.specs.declared.Reference.the-variants.{Inline, Index}
+use Rattle.format.specs.declared.Taken.the-variants.{Part as Read}
+use Rattle.format.specs.declared.Part.{Part}
+use Rattle.format.specs.declared.Part.the-variants.{Words as wordsPart, Stream as streamPart, Text as textPart, Thread as threadPart}
+use Rattle.format.specs.Part.{takeWords, takeStream, takeText, takeThread, takePart, body, takeParts}
+use Rattle.records.specs.Item.{thread}
+use Rattle.encoding.specs.Encoded.{Encoded, word, words, stream, wordsBytes, textIndex, threadIndex, textInline, threadInline, referenceOf, partBytes, partsBytes}
+
+-- ---- what is read for a part
+
+-- the part that a reader is told to take
+abbrev pub partOf : Encoded → Part
+partOf (word n) = wordsPart 1
+partOf (words ns) = wordsPart (length ns)
+partOf (stream b) = streamPart (length b)
+partOf (textIndex index) = textPart index
+partOf (threadIndex index) = threadPart index
+partOf (textInline b) = textPart (referenceOf (textInline b))
+partOf (threadInline t) = threadPart 0
+
+-- the reference that is read for a part written at a place
+abbrev pub referenceAt : Encoded → ℕ → Reference
+referenceAt (word n) place = Inline place 8
+referenceAt (words ns) place = Inline place (8 * length ns)
+referenceAt (stream b) place = Inline place (length b)
+referenceAt (textIndex index) place = Index index
+referenceAt (threadIndex index) place = Index index
+referenceAt (textInline b) place = Inline place (length b)
+referenceAt (threadInline t) place = Inline place 16
+
+-- the references of parts, each right behind the one before
+abbrev pub referencesAt : List Encoded → ℕ → List Reference
+referencesAt [] place = []
+referencesAt (w ∷ ws) place = referenceAt w place ∷ referencesAt ws (place + length (partBytes w))
+
+abbrev pub AllWords : List ℕ → Type 0
+AllWords [] = Unit {0}
+AllWords (n ∷ ns) = (n < 256 ^ 8) × AllWords ns
+
+-- what can be written: a word of 64 bits, an index that fits its reference, a text that is short enough, a thread of two words
+abbrev pub Fine : Format → Encoded → Type 0
+Fine f (word n) = n < 256 ^ 8
+Fine f (words ns) = AllWords ns
+Fine f (stream b) = length b ≤ f .longest
+Fine f (textIndex index) = (0 < index) × (index < 0x8000)
+Fine f (threadIndex index) = (0 < index) × (index < 256)
+Fine f (textInline b) = (length b ≤ f .longest) × (length b < 0x8000)
+Fine f (threadInline (thread p t)) = (p < 256 ^ 8) × (t < 256 ^ 8)
+
+-- parts that can all be written
+abbrev pub AllFine : Format → List Encoded → Type 0
+AllFine f [] = Unit {0}
+AllFine f (w ∷ ws) = Fine f w × AllFine f ws
+
+-- ---- lengths
+
+-- the words that a part takes in the body
+abbrev pub partWords : Encoded → ℕ
+partWords (word n) = 1
+partWords (words ns) = length ns
+partWords (stream b) = streamWords (length b)
+partWords (textIndex index) = 0
+partWords (threadIndex index) = 0
+partWords (textInline b) = streamWords (length b)
+partWords (threadInline t) = 2
+
+-- the words of parts together
+abbrev pub partsWords : List Encoded → ℕ
+partsWords [] = 0
+partsWords (w ∷ ws) = partWords w + partsWords ws
+
+-- so many words
+pub length-words : (ns : List ℕ) → length (wordsBytes ns) ≡ 8 * length ns
+length-words [] = refl
+length-words (n ∷ ns) = omega (arith, length-append (bytesOf 8 n) (wordsBytes ns), length-bytesOf 8 n, length-words ns)
+
+-- a part is as long as its words
+pub length-part : (w : Encoded) → length (partBytes w) ≡ 8 * partWords w
+length-part (word n) = length-bytesOf 8 n
+length-part (words ns) = length-words ns
+length-part (stream b) = length-padded b
+length-part (textIndex index) = refl
+length-part (threadIndex index) = refl
+length-part (textInline b) = length-padded b
+length-part (threadInline (thread p t)) =
+    omega (arith, length-append (bytesOf 8 p) (bytesOf 8 t), length-bytesOf 8 p, length-bytesOf 8 t)
+
+-- parts are as long as their words
+pub length-parts : (ws : List Encoded) → length (partsBytes ws) ≡ 8 * partsWords ws
+length-parts [] = refl
+length-parts (w ∷ ws) = omega (arith, length-append (partBytes w) (partsBytes ws), length-part w, length-parts ws)
+
+-- parts are a whole number of words
+pub parts-whole : (ws : List Encoded) → length (partsBytes ws) % 8 ≡ 0
+parts-whole ws = omega (arith, length-parts ws)
+
+-- ---- reading takes what is written
+
+-- a stream that is short enough, and ends inside its record, is taken
+pub stream-read : (f : Format) (n place end : ℕ) → n ≤ f .longest → place + 8 * streamWords n ≤ end
+    → takeStream f n place end ≡ Read (Inline place n) (place + 8 * streamWords n)
+unfolding takeStream
+stream-read f n place end short inside = rw (le-ltb (f .longest) n short, le-ltb end (place + 8 * streamWords n) inside)
+
+-- words that end inside their record are taken
+pub words-read : (n place end : ℕ) → place + 8 * n ≤ end → takeWords n place end ≡ Read (Inline place (8 * n)) (place + 8 * n)
+unfolding takeWords
+words-read n place end inside = rw (le-ltb end (place + 8 * n) inside)
+
+text-read : (f : Format) (b : List ℕ) (place end : ℕ) → length b ≤ f .longest → place + 8 * streamWords (length b) ≤ end
+    → takeText f (referenceOf (textInline b)) place end ≡ Read (Inline place (length b)) (place + 8 * streamWords (length b))
+unfolding takeText
+text-read f [] place end short inside = rw (add-zero place)
+text-read f (c ∷ b) place end short inside =
+    let n = length (c ∷ b) in
+    rw (ne-eqb (0x8000 + n) 0 (omega arith), le-ltb (0x8000 + n) 0x8000 (omega arith), add-sub-cancel-left 0x8000 n)
+    (stream-read f n place end short inside)
+
+part-read : (f : Format) (w : Encoded) (place end : ℕ) → Fine f w → place + 8 * partWords w ≤ end
+    → takePart f (partOf w) place end ≡ Read (referenceAt w place) (place + 8 * partWords w)
+unfolding takePart takeText takeThread
+part-read f (word n) place end fine inside = words-read 1 place end inside
+part-read f (words ns) place end fine inside = words-read (length ns) place end inside
+part-read f (stream b) place end fine inside = stream-read f (length b) place end fine inside
+part-read f (textIndex index) place end fine inside =
+    rw (ne-eqb index 0 (omega arith), lt-ltb index 0x8000 (fine .1), add-zero place)
+part-read f (threadIndex index) place end fine inside = rw (ne-eqb index 0 (omega arith), add-zero place)
+part-read f (textInline b) place end fine inside = text-read f b place end (fine .0) inside
+part-read f (threadInline t) place end fine inside = words-read 2 place end inside
+
+-- reading takes the parts that are written, one right behind the other
+pub parts-read : (f : Format) (ws : List Encoded) (place end : ℕ) → AllFine f ws → place + length (partsBytes ws) ≤ end
+    → takeParts f (map partOf ws) place end ≡ body (referencesAt ws place) (place + length (partsBytes ws))
+unfolding takeParts
+parts-read f [] place end fine inside = rw (add-zero place)
+parts-read f (w ∷ ws) place end fine inside =
+    let both = length-append (partBytes w) (partsBytes ws) in
+    rw (
+      part-read f w place end (fine .0) (omega (arith, both, length-part w)),
+      ← length-part w,
+      parts-read f ws (place + length (partBytes w)) end (fine .1) (omega (arith, both)),
+      both,
+      add-assoc place,
+    )
+
+-- ---- what is taken is what was written
+
+-- these words stand one behind the other from a place on
+abbrev pub WordsAre : List ℕ → ℕ → List ℕ → Type 0
+WordsAre bytes place [] = Unit {0}
+WordsAre bytes place (n ∷ ns) = (wordAt bytes place ≡ n) × WordsAre bytes (place + 8) ns
+
+-- in these bytes, whose places count from their start, the reference that is read is the part that was written
+abbrev pub Spells : List ℕ → Reference → Encoded → Type 0
+Spells bytes (Inline place n) (word value) = wordAt bytes place ≡ value
+Spells bytes (Inline place n) (words ns) = WordsAre bytes place ns
+Spells bytes (Inline place n) (stream b) = (n ≡ length b) × (take n (drop place bytes) ≡ b)
+Spells bytes (Inline place n) (textIndex index) = ⊥
+Spells bytes (Inline place n) (threadIndex index) = ⊥
+Spells bytes (Inline place n) (textInline b) = (n ≡ length b) × (take n (drop place bytes) ≡ b)
+Spells bytes (Inline place n) (threadInline (thread p t)) = (wordAt bytes place ≡ p) × (wordAt bytes (place + 8) ≡ t)
+Spells bytes (Index i) (word value) = ⊥
+Spells bytes (Index i) (words ns) = ⊥
+Spells bytes (Index i) (stream b) = ⊥
+Spells bytes (Index i) (textIndex index) = i ≡ index
+Spells bytes (Index i) (threadIndex index) = i ≡ index
+Spells bytes (Index i) (textInline b) = ⊥
+Spells bytes (Index i) (threadInline t) = ⊥
+
+-- the references that are read are the parts that were written, one by one
+abbrev pub AllSpell : List ℕ → List Reference → List Encoded → Type 0
+AllSpell bytes [] [] = Unit {0}
+AllSpell bytes [] (w ∷ ws) = ⊥
+AllSpell bytes (r ∷ rs) [] = ⊥
+AllSpell bytes (r ∷ rs) (w ∷ ws) = Spells bytes r w × AllSpell bytes rs ws
+
+-- where the two words of a thread stand, they are read
+pub thread-is : (bytes : List ℕ) (place p t : ℕ) → p < 256 ^ 8 → t < 256 ^ 8 → At bytes place (partBytes (threadInline (thread p t)))
+    → (wordAt bytes place ≡ p) × (wordAt bytes (place + 8) ≡ t)
+thread-is bytes place p t hp ht at =
+    let second = at-right bytes place (bytesOf 8 p) (bytesOf 8 t) at in (
+      word-is bytes place p hp (at-left bytes place (bytesOf 8 p) (bytesOf 8 t) at),
+      word-is bytes (place + 8) t ht (rw (length-bytesOf 8 p) at second),
+    )
+
+-- where words stand, they are read
+pub words-are : (bytes : List ℕ) (place : ℕ) (ns : List ℕ) → AllWords ns → At bytes place (wordsBytes ns) → WordsAre bytes place ns
+words-are bytes place [] small at = tt
+words-are bytes place (n ∷ ns) small at =
+    let behind = at-right bytes place (bytesOf 8 n) (wordsBytes ns) at in (
+      word-is bytes place n (small .0) (at-left bytes place (bytesOf 8 n) (wordsBytes ns) at),
+      words-are bytes (place + 8) ns (small .1) (rw (length-bytesOf 8 n) at behind),
+    )
+
+-- where a part stands, its reference spells it
+pub spelled : (f : Format) (bytes : List ℕ) (place : ℕ) (w : Encoded) → Fine f w → At bytes place (partBytes w)
+    → Spells bytes (referenceAt w place) w
+spelled f bytes place (word n) fine at = word-is bytes place n fine at
+spelled f bytes place (words ns) fine at = words-are bytes place ns fine at
+spelled f bytes place (stream b) fine at = (refl, stream-is bytes place b at)
+spelled f bytes place (textIndex index) fine at = refl
+spelled f bytes place (threadIndex index) fine at = refl
+spelled f bytes place (textInline b) fine at = (refl, stream-is bytes place b at)
+spelled f bytes place (threadInline (thread p t)) fine at = thread-is bytes place p t (fine .0) (fine .1) at
+
+-- where parts stand, their references spell them
+pub all-spelled : (f : Format) (bytes : List ℕ) (place : ℕ) (ws : List Encoded) → AllFine f ws → At bytes place (partsBytes ws)
+    → AllSpell bytes (referencesAt ws place) ws
+all-spelled f bytes place [] fine at = tt
+all-spelled f bytes place (w ∷ ws) fine at = (
+  spelled f bytes place w (fine .0) (at-left bytes place (partBytes w) (partsBytes ws) at),
+  all-spelled f bytes (place + length (partBytes w)) ws (fine .1) (at-right bytes place (partBytes w) (partsBytes ws) at),
+)

@@ -1,0 +1,248 @@
+-- A record that refers to texts and threads, as it is written, reads back: its own values, its references, its stream, its arguments and its last word.
+-- What a kind has to show is `own-encoded`; all else is the same for all kinds. Assumes nothing.
+use Prim.Native.Nat.{ℕ, _+_, _-_, _*_, _^_, _<_, _≤_}
+use mathlib.Core.Path.{_≡_, refl, ap}
+use mathlib.Core.List.{List, [], _∷_, _++_, append-assoc}
+use mathlib.Core.Bool.{true}
+use native.Mathlib.Omega.{arith}
+use borrow.Author.Tests.{eqb-false, eqb-true, le-ltb, le-leb}
+use lib.Dec.{eqb}
+use lib.ListN.{length, drop, length-append}
+use Rattle.words.proofs.Tests.{cases}
+use Rattle.words.specs.Word.{wordAt, bytesOf}
+use Rattle.words.proofs.Words.{At, at-left, at-right, word-is}
+use Rattle.format.specs.declared.Format.{Format}
+use Rattle.format.specs.Limits.{smallFormat}
+use Rattle.format.specs.Part.{part}
+use Rattle.arguments.specs.Argument.{arguments, argumentsOf, walked}
+use Rattle.records.specs.declared.Event.{Event}
+use Rattle.records.specs.declared.Report.{Report as ReadReport}
+use Rattle.records.specs.declared.Layout.{Layout}
+use Rattle.records.specs.declared.Fields.the-variants.{Fields as FieldsRead}
+use Rattle.records.specs.declared.Last.the-variants.{Word}
+use Rattle.records.specs.declared.Content.the-variants.{Report as ReportRead}
+use Rattle.records.specs.Layout.{isReport, layoutOf, ownOf, takeFields, lastWord, lookupOf}
+use Rattle.records.specs.Models.Layouts.{reportArguments}
+use Rattle.records.specs.Record.{contentOf}
+use Rattle.records.specs.Item.{referentTable, Report, report, ownType, ownWords, ownBehind, lastWords, reportLayout, Key}
+use Rattle.records.proofs.Layouts.{extra-few, report-is}
+use Rattle.encoding.specs.Encoded.{Encoded, stream, wordsBytes, partsBytes, encodedReferent, argumentsRecords, encodedPieces, layoutHeader, layoutBody, itemRecord}
+use Rattle.encoding.proofs.EncodedParts.{partOf, referencesAt, AllWords, length-words, WordsAre, Spells}
+use Rattle.encoding.proofs.EncodedRecords.{RecordFits, at-start, own-field}
+use Rattle.encoding.proofs.EncodedArguments.{AllFit, all-sized, arguments-words, argumentsAt, arguments-read, SpellsArguments, arguments-spelled}
+use Rattle.encoding.proofs.EncodedLayouts.{layoutWords, behindPieces, length-body, referent-words, PiecesFit, ReportSuits, referent-thread, referent-text, referent-table, ItemFits, behind-at, pieces-spelled, length-all, pieces-read}
+
+-- the pieces of a record, encoded, and the record
+abbrev pub reportParts : (Key → ℕ) → Report → List Encoded
+reportParts index r = encodedPieces index (reportLayout r .pieces)
+
+abbrev pub reportRecord : (Key → ℕ) → Report → List ℕ
+reportRecord index r = itemRecord index (report r)
+
+-- as many words as stand behind the arguments
+pub length-last : (behind last : ℕ) → behind ≤ 1 → length (lastWords behind last) ≡ behind
+length-last behind last few =
+    cases (eqb behind 0) (λ e. let is = eqb-true behind 0 e in rw e (omega (arith, is)))
+    (λ e. let is = eqb-false behind 0 e in rw e (omega arith))
+
+-- every kind has at most one word behind its arguments
+pub behind-few : (e : Event) → ownBehind e ≤ 1
+behind-few e = extra-few (e .variant)
+
+-- ---- what a kind has to show
+
+-- the layout that is read
+abbrev pub layoutEncoded : (Key → ℕ) → Report → Layout
+layoutEncoded index r =
+    record {
+      words = length (ownWords (r .own));
+      first = partOf (encodedReferent index (r .first));
+      second = partOf (encodedReferent index (r .second));
+      third = partOf (encodedReferent index (r .third));
+      stream = partOf (stream (r .stream));
+      count = length (r .arguments);
+      behind = ownBehind (r .own);
+      reserved = 0;
+    }
+
+pub record OwnEncoded (f : Format) (index : Key → ℕ) (r : Report) : Type 0 where
+  pub known : ownType (r .own) < 15
+  pub fits : RecordFits (ownType (r .own)) (layoutHeader index (reportLayout r)) (layoutBody index (reportLayout r))
+  pub kind : isReport (wordAt (reportRecord index r) 0) ≡ true
+  pub layout : layoutOf (wordAt (reportRecord index r) 0) ≡ layoutEncoded index r
+  pub values : WordsAre (reportRecord index r) 8 (ownWords (r .own)) → ownOf (reportRecord index r) ≡ r .own
+
+-- an event
+own-fits : (f : Format) (index : Key → ℕ) (r : Report) → ItemFits f index (report r)
+    → RecordFits (ownType (r .own)) (layoutHeader index (reportLayout r)) (layoutBody index (reportLayout r))
+own-fits f index r fit =
+    let own = fit .suits .own in
+    let size = length-body index (reportLayout r) in
+    let a = referent-thread f index (r .first) (own .first) (fit .layout .pieces .1 .0) .bits in
+    let b = referent-text f index (r .second) (own .second) (fit .layout .pieces .1 .1 .0) .bits in
+    let c = referent-text f index (r .third) (own .third) (fit .layout .pieces .1 .1 .1 .0) .bits in
+    record { fits = omega (arith, size, fit .layout .size, own .type, own .few, a, b, c); full = refl; whole = omega (arith, size) }
+
+pub own-encoded : (f : Format) (index : Key → ℕ) (r : Report) → ItemFits f index (report r) → OwnEncoded f index r
+unfolding isReport layoutOf ownOf
+own-encoded f index r fit =
+    let own = fit .suits .own in
+    let fits = own-fits f index r fit in
+    let a = referent-thread f index (r .first) (own .first) (fit .layout .pieces .1 .0) in
+    let b = referent-text f index (r .second) (own .second) (fit .layout .pieces .1 .1 .0) in
+    let c = referent-text f index (r .third) (own .third) (fit .layout .pieces .1 .1 .1 .0) in
+    record {
+      known = omega arith;
+      fits = fits;
+      kind = rw (own-field fits 0, own-field fits 2, le-leb (r .own .variant) 10 (own .type));
+      layout =
+          rw (own-field fits 4, own-field fits 5, own-field fits 6, own-field fits 3, own-field fits 2, ← (a .part), ← (b .part), ← (c .part), own .stream);
+      values = λ w. rw (own-field fits 2, w .0);
+    }
+
+-- ---- reading
+
+-- what is read for a record written at a place
+abbrev pub reportAt : (Key → ℕ) → Report → ℕ → ReadReport
+reportAt index r place =
+    let references = referencesAt (reportParts index r) (place + 8) in
+    let l = layoutEncoded index r in
+    record {
+      own = r .own;
+      first = lookupOf (l .first) (part 1 references);
+      second = lookupOf (l .second) (part 2 references);
+      third = lookupOf (l .third) (part 3 references);
+      stream = part 4 references;
+      count = length (r .arguments);
+      arguments = place + 8 + length (partsBytes (reportParts index r));
+      last = r .last;
+    }
+
+last-read : (source : List ℕ) (place at behind last : ℕ) → AllWords (lastWords behind last) → (behind ≡ 0 → last ≡ 0)
+    → At source (at - place) (wordsBytes (lastWords behind last)) → at + 8 * behind ≤ place + length source
+    → lastWord source place at behind ≡ Word last
+unfolding lastWord
+last-read source place at behind last small none there room =
+    cases (eqb behind 0) (λ e. rw (le-ltb (place + length source) (at + 8 * behind) room, e, none (eqb-true behind 0 e)))
+    (λ e.
+    let there′ : At source (at - place) (bytesOf 8 last ++ []) = rw e at there in
+    let small′ : AllWords (last ∷ []) = rw e at small in
+    rw (
+      le-ltb (place + length source) (at + 8 * behind) room,
+      e,
+      word-is source (at - place) last (small′ .0) (at-left source (at - place) (bytesOf 8 last) [] there′),
+    ))
+
+own-behind : (index : Key → ℕ) (r : Report) (place : ℕ)
+    → At (reportRecord index r) (reportAt index r place .arguments - place) (behindPieces index (reportLayout r))
+own-behind index r place =
+    let source = reportRecord index r in
+    let n = length (partsBytes (reportParts index r)) in
+    let from : 0 + 8 + n ≡ place + 8 + n - place = omega arith in
+    rw from at (behind-at index (reportLayout r) source 0 (at-start source))
+
+module _ (f : Format) (index : Key → ℕ) (r : Report) (place : ℕ) (fit : ItemFits f index (report r)) where
+  abbrev source : List ℕ
+  source = reportRecord index r
+
+  abbrev first : ℕ
+  first = reportAt index r place .arguments
+
+  abbrev list : List ℕ
+  list = argumentsRecords index (r .arguments)
+
+  abbrev end : List ℕ
+  end = wordsBytes (lastWords (ownBehind (r .own)) (r .last))
+
+  room : length source ≡ 8 + length (partsBytes (reportParts index r)) + length list + 8 * ownBehind (r .own)
+  room =
+      omega (
+        arith,
+        length-all index (reportLayout r),
+        length-append list end,
+        length-words (lastWords (ownBehind (r .own)) (r .last)),
+        length-last (ownBehind (r .own)) (r .last) (behind-few (r .own)),
+      )
+
+  fields-there : takeFields f (layoutEncoded index r) (place + 8) (place + length source)
+      ≡ FieldsRead (reportAt index r place .first .reference) (reportAt index r place .second .reference) (reportAt index r place .third .reference)
+      (reportAt index r place .stream) first
+  unfolding takeFields
+  fields-there = rw (pieces-read index (reportLayout r) f place (fit .layout .pieces))
+
+  -- its arguments are read
+  pub arguments-there : argumentsOf f (length (r .arguments)) (drop (first - place) source) first
+      ≡ arguments (argumentsAt index (r .arguments) first) (first + length list)
+  arguments-there =
+      let there = own-behind index r place in
+      let sized = all-sized index (r .arguments) (omega (arith, fit .layout .size)) in
+      rw (there .1, append-assoc list end (there .0)) (arguments-read f index (r .arguments) (end ++ there .0) first (fit .layout .arguments) sized)
+
+  last-there : lastWord source place (first + length list) (ownBehind (r .own)) ≡ Word (r .last)
+  last-there =
+      let from : first - place + length list ≡ first + length list - place = omega arith in
+      let there = rw from at (at-right source (first - place) list end (own-behind index r place)) in
+      last-read source place (first + length list) (ownBehind (r .own)) (r .last) (fit .layout .last) (fit .suits .no-last) there (omega (arith, room))
+
+  -- a record that fits is read as its own values, its references and its last word
+  pub report-content : contentOf f source place ≡ ReportRead (reportAt index r place)
+  unfolding contentOf
+  report-content =
+      let own = own-encoded f index r fit in
+      rw (
+        own .kind,
+        report-is f source place (layoutEncoded index r) (own .layout) fields-there (ap walked arguments-there) last-there,
+        own .values (pieces-spelled index (reportLayout r) f source 0 (fit .layout .pieces) (at-start source) .0),
+      )
+
+-- a record that is read at a place of an archive as it was written: the same values, and references that spell what was written
+pub record ReportSpelled (f : Format) (index : Key → ℕ) (r : Report) (archive : List ℕ) (place : ℕ) (q : ReadReport) : Type 0 where
+  pub content : contentOf f (reportRecord index r) place ≡ ReportRead q
+  pub own : q .own ≡ r .own
+  pub first : Spells archive (q .first .reference) (encodedReferent index (r .first))
+  pub second : Spells archive (q .second .reference) (encodedReferent index (r .second))
+  pub third : Spells archive (q .third .reference) (encodedReferent index (r .third))
+  pub stream : Spells archive (q .stream) (stream (r .stream))
+  pub tables : (q .first .table ≡ referentTable (r .first)) × (q .second .table ≡ referentTable (r .second)) × (q .third .table ≡ referentTable (r .third))
+  pub count : q .count ≡ length (r .arguments)
+  pub arguments : SpellsArguments archive index (reportArguments f (reportRecord index r) place q) (r .arguments)
+  pub last : q .last ≡ r .last
+
+-- a record that fits is read as it was written
+pub report-read : (f : Format) (index : Key → ℕ) (r : Report) (archive : List ℕ) (place : ℕ) → ItemFits f index (report r)
+    → At archive place (reportRecord index r) → ReportSpelled f index r archive place (reportAt index r place)
+report-read f index r archive place fit at =
+    let fields = pieces-spelled index (reportLayout r) f archive place (fit .layout .pieces) at in
+    let l = argumentsRecords index (r .arguments) in
+    let first = reportAt index r place .arguments in
+    let there = at-left archive first l (wordsBytes (lastWords (ownBehind (r .own)) (r .last))) (behind-at index (reportLayout r) archive place at) in
+    record {
+      content = report-content f index r place fit;
+      own = refl;
+      first = fields .1 .0;
+      second = fields .1 .1 .0;
+      third = fields .1 .1 .1 .0;
+      stream = fields .1 .1 .1 .1 .0;
+      tables = (referent-table f index (r .first) (fit .layout .pieces .1 .0), referent-table f index (r .second) (fit .layout .pieces .1 .1 .0), referent-table f index (r .third) (fit .layout .pieces .1 .1 .1 .0));
+      count = refl;
+      arguments = rw (arguments-there f index r place fit) (arguments-spelled f index archive first (r .arguments) (fit .layout .arguments) there);
+      last = refl;
+    }
+
+-- ---- sizes
+
+-- with strings of at most 256 bytes a record is small enough: a header and few words of its own, three references and a stream, 15 arguments
+pub small-report : (index : Key → ℕ) (r : Report) → ReportSuits r → PiecesFit smallFormat index (reportLayout r .pieces)
+    → AllFit smallFormat index (r .arguments) → layoutWords index (reportLayout r) ≤ 4095
+small-report index r suits pieces fit =
+    omega (
+      arith,
+      suits .own .few,
+      referent-words smallFormat index (r .first) (pieces .1 .0),
+      referent-words smallFormat index (r .second) (pieces .1 .1 .0),
+      referent-words smallFormat index (r .third) (pieces .1 .1 .1 .0),
+      pieces .1 .1 .1 .1 .0,
+      arguments-words smallFormat index (r .arguments) fit,
+      length-last (ownBehind (r .own)) (r .last) (behind-few (r .own)),
+      behind-few (r .own),
+    )

@@ -1,0 +1,10 @@
+pub mod EncodedParts
+pub mod EncodedRecords
+pub mod EncodedArguments
+pub mod EncodedLayouts
+pub mod EncodedReports
+pub mod EncodedItems
+pub mod EncodedKeeps
+pub mod Headers
+pub mod Parts
+pub mod Signs

@@ -1,0 +1,373 @@
+// Records, written into lent bytes at a place. Each function answers the place right behind what it wrote.
+ghost use mathlib.Core.Path.{_≡_};
+ghost use Prim.Native.Nat.{_+_, _*_, _^_, _<_, _≤_};
+ghost use mathlib.Core.List.{[], _∷_};
+ghost use lib.ListN.{length};
+ghost use Rattle.words.specs.Stream.{streamWords, written};
+ghost use Rattle.records.specs.Item.{thread as threadOf, magic, providerInfo, section, providerEvent, initialization, ownHeader, ownWords};
+ghost use Rattle.encoding.specs.Encoded.{word as wordPart, stream as streamPart, referenceOf, wordsBytes, partBytes, encodedArgument, stringRecord, threadRecord};
+ghost use Rattle.words.specs.Word.{unsigned, bit};
+ghost use Rattle.arguments.specs.Argument.{scalarType};
+ghost use Rattle.encoding.specs.Part.{plainRecord, textPart, threadPart, referentPart, FieldsFit, reportHeader, argumentStart, textArgument, scalarArgument};
+use arguments::Scalar;
+use records::Event;
+
+// The lowest 16 bits of a header: a type and a size in words.
+fn header(kind: u64, words: usize) -> u64
+    requires { ⌜ (kind < 2 ^ 4) × (words < 2 ^ 12) ⌝ }
+    ensures { λ r. ⌜ r ≡ kind + words * 2 ^ 4 ⌝ }
+{
+    words::with_field(kind, 4, 15, words as u64)
+}
+
+// The registration of a text.
+pub fn put_string_record(out: &mut [u8], place: usize, index: usize, bytes: &[u8]) -> usize
+    requires { ⌜ (index < 2 ^ 15) × (1 + streamWords (length (now bytes)) < 2 ^ 12) × (place + length (stringRecord index (now bytes)) ≤ length (now out)) ⌝ }
+    ensures { λ _. ⌜ now (out .exit) ≡ written (now (out .entry)) place (stringRecord index (now (bytes .entry))) ⌝ }
+    ensures { λ r. ⌜ r ≡ place + length (stringRecord index (now (bytes .entry))) ⌝ }
+{
+    let size = words::stream_words(bytes.len());
+    let indexed = words::with_field(header(2, 1 + size), 16, 30, index as u64);
+    let word = words::with_field(indexed, 32, 46, bytes.len() as u64);
+    words::put_word(out, place, word);
+    words::put_stream(out, place + 8, bytes);
+    place + 8 + size * 8
+}
+
+// The registration of a thread.
+pub fn put_thread_record(
+    out: &mut [u8],
+    place: usize,
+    index: usize,
+    process: u64,
+    thread: u64,
+) -> usize
+    requires { ⌜ (index < 2 ^ 8) × (place + length (threadRecord index (threadOf process thread)) ≤ length (now out)) ⌝ }
+    ensures { λ _. ⌜ now (out .exit) ≡ written (now (out .entry)) place (threadRecord index (threadOf process thread)) ⌝ }
+    ensures { λ r. ⌜ r ≡ place + length (threadRecord index (threadOf process thread)) ⌝ }
+{
+    words::put_word(
+        out,
+        place,
+        words::with_field(header(3, 3), 16, 23, index as u64),
+    );
+    words::put_word(out, place + 8, process);
+    words::put_word(out, place + 16, thread);
+    place + 24
+}
+
+// The magic.
+pub fn put_magic(out: &mut [u8], place: usize) -> usize
+    requires { ⌜ place + length (plainRecord magic) ≤ length (now out) ⌝ }
+    ensures { λ _. ⌜ now (out .exit) ≡ written (now (out .entry)) place (plainRecord magic) ⌝ }
+    ensures { λ r. ⌜ r ≡ place + length (plainRecord magic) ⌝ }
+{
+    words::put_stream(out, place, b"\x10\x00\x04\x46\x78\x54\x16\x00");
+    place + 8
+}
+
+// A provider's id and name.
+pub fn put_provider_info(out: &mut [u8], place: usize, id: u32, name: &[u8]) -> usize
+    requires { ⌜ (length (now name) < 2 ^ 8) × (place + length (plainRecord (providerInfo id (now name))) ≤ length (now out)) ⌝ }
+    ensures { λ _. ⌜ now (out .exit) ≡ written (now (out .entry)) place (plainRecord (providerInfo id (now (name .entry)))) ⌝ }
+    ensures { λ r. ⌜ r ≡ place + length (plainRecord (providerInfo id (now (name .entry)))) ⌝ }
+{
+    let size = words::stream_words(name.len());
+    let kind = words::with_field(header(0, 1 + size), 16, 19, 1);
+    let named = words::with_field(kind, 20, 51, id as u64);
+    let word = words::with_field(named, 52, 59, name.len() as u64);
+    words::put_word(out, place, word);
+    words::put_stream(out, place + 8, name);
+    place + 8 + size * 8
+}
+
+// The start of a provider's section.
+pub fn put_section(out: &mut [u8], place: usize, id: u32) -> usize
+    requires { ⌜ place + length (plainRecord (section id)) ≤ length (now out) ⌝ }
+    ensures { λ _. ⌜ now (out .exit) ≡ written (now (out .entry)) place (plainRecord (section id)) ⌝ }
+    ensures { λ r. ⌜ r ≡ place + length (plainRecord (section id)) ⌝ }
+{
+    let kind = words::with_field(header(0, 1), 16, 19, 2);
+    words::put_word(out, place, words::with_field(kind, 20, 51, id as u64));
+    place + 8
+}
+
+// What a provider reports of itself.
+pub fn put_provider_event(out: &mut [u8], place: usize, id: u32, event: u8) -> usize
+    requires { ⌜ (event < 2 ^ 4) × (place + length (plainRecord (providerEvent id event)) ≤ length (now out)) ⌝ }
+    ensures { λ _. ⌜ now (out .exit) ≡ written (now (out .entry)) place (plainRecord (providerEvent id event)) ⌝ }
+    ensures { λ r. ⌜ r ≡ place + length (plainRecord (providerEvent id event)) ⌝ }
+{
+    let kind = words::with_field(header(0, 1), 16, 19, 3);
+    let named = words::with_field(kind, 20, 51, id as u64);
+    words::put_word(out, place, words::with_field(named, 52, 55, event as u64));
+    place + 8
+}
+
+// The rate from here on.
+pub fn put_initialization(out: &mut [u8], place: usize, rate: u64) -> usize
+    requires { ⌜ place + length (plainRecord (initialization rate)) ≤ length (now out) ⌝ }
+    ensures { λ _. ⌜ now (out .exit) ≡ written (now (out .entry)) place (plainRecord (initialization rate)) ⌝ }
+    ensures { λ r. ⌜ r ≡ place + length (plainRecord (initialization rate)) ⌝ }
+{
+    words::put_word(out, place, header(1, 2));
+    words::put_word(out, place + 8, rate);
+    place + 16
+}
+
+// The reference of a text that is written by its index, or inline where that is 0.
+pub fn text_reference(index: usize, bytes: &[u8]) -> u64
+    ensures { λ r. ⌜ r ≡ referenceOf (textPart index (now (bytes .entry))) ⌝ }
+{
+    if index != 0 {
+        return index as u64;
+    }
+    if bytes.len() == 0 {
+        return 0;
+    }
+    0x8000 + bytes.len() as u64
+}
+
+// The words that such a text takes in a body.
+pub fn text_words(index: usize, bytes: &[u8]) -> usize
+    ensures { λ r. ⌜ r * 8 ≡ length (partBytes (textPart index (now (bytes .entry)))) ⌝ }
+{
+    if index != 0 {
+        return 0;
+    }
+    words::stream_words(bytes.len())
+}
+
+// Such a text, written in a body.
+pub fn put_text(out: &mut [u8], place: usize, index: usize, bytes: &[u8]) -> usize
+    requires { ⌜ place + length (partBytes (textPart index (now bytes))) ≤ length (now out) ⌝ }
+    ensures { λ _. ⌜ now (out .exit) ≡ written (now (out .entry)) place (partBytes (textPart index (now (bytes .entry)))) ⌝ }
+    ensures { λ r. ⌜ r ≡ place + length (partBytes (textPart index (now (bytes .entry)))) ⌝ }
+{
+    if index != 0 {
+        return place;
+    }
+    words::put_stream(out, place, bytes);
+    place + words::stream_words(bytes.len()) * 8
+}
+
+// A thread that is written by its index, or inline where that is 0; its reference is the index.
+pub fn put_thread(out: &mut [u8], place: usize, index: usize, process: u64, thread: u64) -> usize
+    requires { ⌜ place + length (partBytes (threadPart index (threadOf process thread))) ≤ length (now out) ⌝ }
+    ensures { λ _. ⌜ now (out .exit) ≡ written (now (out .entry)) place (partBytes (threadPart index (threadOf process thread))) ⌝ }
+    ensures { λ r. ⌜ r ≡ place + length (partBytes (threadPart index (threadOf process thread))) ⌝ }
+{
+    if index != 0 {
+        return place;
+    }
+    words::put_word(out, place, process);
+    words::put_word(out, place + 8, thread);
+    place + 16
+}
+
+// The reference of a text or a thread, by its table, that is written by its index, or inline where that is 0.
+pub fn referent_reference(table: u64, index: usize, bytes: &[u8]) -> u64
+    ensures { λ r. ⌜ r ≡ referenceOf (referentPart table index (now (bytes .entry))) ⌝ }
+{
+    if table == 3 {
+        return index as u64;
+    }
+    text_reference(index, bytes)
+}
+
+// Such a text or thread, written in a body.
+pub fn put_referent(out: &mut [u8], place: usize, table: u64, index: usize, bytes: &[u8]) -> usize
+    requires { ⌜ (table ≡ 3 → index ≡ 0 → 16 ≤ length (now bytes)) × (place + length (partBytes (referentPart table index (now bytes))) ≤ length (now out)) ⌝ }
+    ensures { λ _. ⌜ now (out .exit) ≡ written (now (out .entry)) place (partBytes (referentPart table index (now (bytes .entry)))) ⌝ }
+    ensures { λ r. ⌜ r ≡ place + length (partBytes (referentPart table index (now (bytes .entry)))) ⌝ }
+{
+    if table != 3 {
+        return put_text(out, place, index, bytes);
+    }
+    if index != 0 {
+        return place;
+    }
+    put_thread(out, place, 0, words::word(bytes, 0), words::word(bytes, 8))
+}
+
+// A stream that is no reference, written in a body.
+pub fn put_stream(out: &mut [u8], place: usize, bytes: &[u8]) -> usize
+    requires { ⌜ place + length (partBytes (streamPart (now bytes))) ≤ length (now out) ⌝ }
+    ensures { λ _. ⌜ now (out .exit) ≡ written (now (out .entry)) place (partBytes (streamPart (now (bytes .entry)))) ⌝ }
+    ensures { λ r. ⌜ r ≡ place + length (partBytes (streamPart (now (bytes .entry)))) ⌝ }
+{
+    words::put_stream(out, place, bytes);
+    place + words::stream_words(bytes.len()) * 8
+}
+
+// The header of a record that refers to texts and threads, of this size in words: from what is particular to its kind, its count of arguments, its
+// three references and the length of its stream. An event has no stream.
+pub fn put_report_header(
+    out: &mut [u8],
+    place: usize,
+    own: Event,
+    size: usize,
+    count: usize,
+    first: u64,
+    second: u64,
+    third: u64,
+    long: usize,
+) -> usize
+    requires { ⌜ (size < 2 ^ 12) × FieldsFit (ownHeader own count first second third long) × (place + 8 ≤ length (now out)) ⌝ }
+    ensures { λ _. ⌜ now (out .exit) ≡ written (now (out .entry)) place (reportHeader own size count first second third long) ⌝ }
+    ensures { λ r. ⌜ r ≡ place + 8 ⌝ }
+{
+    let varied = words::with_field(header(4, size), 16, 19, own.variant as u64);
+    let counted = words::with_field(varied, 20, 23, count as u64);
+    let threaded = words::with_field(counted, 24, 31, first);
+    let sorted = words::with_field(threaded, 32, 47, second);
+    words::put_word(out, place, words::with_field(sorted, 48, 63, third));
+    place + 8
+}
+
+// The words of its own that such a record has before its references: an event has its timestamp.
+pub fn put_own_words(out: &mut [u8], place: usize, own: Event) -> usize
+    requires { ⌜ place + length (wordsBytes (ownWords own)) ≤ length (now out) ⌝ }
+    ensures { λ _. ⌜ now (out .exit) ≡ written (now (out .entry)) place (wordsBytes (ownWords own)) ⌝ }
+    ensures { λ r. ⌜ r ≡ place + length (wordsBytes (ownWords own)) ⌝ }
+{
+    words::put_word(out, place, own.timestamp);
+    place + 8
+}
+
+// An argument's header and name, where so many words follow them.
+fn put_argument_start(
+    out: &mut [u8],
+    place: usize,
+    kind: u64,
+    more: usize,
+    half: u64,
+    index: usize,
+    name: &[u8],
+) -> usize
+    requires { ⌜ (kind < 2 ^ 4) × (half < 2 ^ 32) × (index < 2 ^ 15) × (length (now name) < 2 ^ 15) ⌝ }
+    requires { ⌜ (length (argumentStart kind more half (textPart index (now name))) + more * 8 < 2 ^ 15) × (place + length (argumentStart kind more half (textPart index (now name))) ≤ length (now out)) ⌝ }
+    ensures { λ _. ⌜ now (out .exit) ≡ written (now (out .entry)) place (argumentStart kind more half (textPart index (now (name .entry)))) ⌝ }
+    ensures { λ r. ⌜ r ≡ place + length (argumentStart kind more half (textPart index (now (name .entry)))) ⌝ }
+{
+    let named = words::with_field(
+        header(kind, 1 + text_words(index, name) + more),
+        16,
+        31,
+        text_reference(index, name),
+    );
+    words::put_word(out, place, words::with_field(named, 32, 63, half));
+    put_text(out, place + 8, index, name)
+}
+
+// An argument whose value stands in its header.
+pub fn put_short_argument(
+    out: &mut [u8],
+    place: usize,
+    kind: u64,
+    half: u64,
+    index: usize,
+    name: &[u8],
+) -> usize
+    requires { ⌜ (kind < 2 ^ 4) × (half < 2 ^ 32) × (index < 2 ^ 15) × (length (now name) < 2 ^ 15) ⌝ }
+    requires { ⌜ (length (encodedArgument kind half (textPart index (now name)) []) < 2 ^ 15) × (place + length (encodedArgument kind half (textPart index (now name)) []) ≤ length (now out)) ⌝ }
+    ensures { λ _. ⌜ now (out .exit) ≡ written (now (out .entry)) place (encodedArgument kind half (textPart index (now (name .entry))) []) ⌝ }
+    ensures { λ r. ⌜ r ≡ place + length (encodedArgument kind half (textPart index (now (name .entry))) []) ⌝ }
+{
+    put_argument_start(out, place, kind, 0, half, index, name)
+}
+
+// An argument whose value is a word behind its name.
+pub fn put_word_argument(
+    out: &mut [u8],
+    place: usize,
+    kind: u64,
+    word: u64,
+    index: usize,
+    name: &[u8],
+) -> usize
+    requires { ⌜ (kind < 2 ^ 4) × (index < 2 ^ 15) × (length (now name) < 2 ^ 15) ⌝ }
+    requires { ⌜ (length (encodedArgument kind 0 (textPart index (now name)) (wordPart word ∷ [])) < 2 ^ 15) × (place + length (encodedArgument kind 0 (textPart index (now name)) (wordPart word ∷ [])) ≤ length (now out)) ⌝ }
+    ensures { λ _. ⌜ now (out .exit) ≡ written (now (out .entry)) place (encodedArgument kind 0 (textPart index (now (name .entry))) (wordPart word ∷ [])) ⌝ }
+    ensures { λ r. ⌜ r ≡ place + length (encodedArgument kind 0 (textPart index (now (name .entry))) (wordPart word ∷ [])) ⌝ }
+{
+    let behind = put_argument_start(out, place, kind, 1, 0, index, name);
+    words::put_word(out, behind, word);
+    behind + 8
+}
+
+// An argument whose value is a text.
+pub fn put_text_argument(
+    out: &mut [u8],
+    place: usize,
+    index: usize,
+    name: &[u8],
+    key: usize,
+    text: &[u8],
+) -> usize
+    requires { ⌜ (index < 2 ^ 15) × (length (now name) < 2 ^ 15) × (key < 2 ^ 15) × (length (now text) < 2 ^ 15) ⌝ }
+    requires { ⌜ (length (textArgument (textPart index (now name)) (textPart key (now text))) < 2 ^ 15) × (place + length (textArgument (textPart index (now name)) (textPart key (now text))) ≤ length (now out)) ⌝ }
+    ensures { λ _. ⌜ now (out .exit) ≡ written (now (out .entry)) place (textArgument (textPart index (now (name .entry))) (textPart key (now (text .entry)))) ⌝ }
+    ensures { λ r. ⌜ r ≡ place + length (textArgument (textPart index (now (name .entry))) (textPart key (now (text .entry)))) ⌝ }
+{
+    let more = text_words(key, text);
+    let behind = put_argument_start(out, place, 6, more, text_reference(key, text), index, name);
+    put_text(out, behind, key, text)
+}
+
+// The bits of a signed number, as the high half of a header holds them.
+fn unsigned_half(n: i32) -> u64
+    ensures { λ r. ⌜ (r ≡ unsigned 32 n) × (r < 2 ^ 32) ⌝ }
+{
+    if n < 0 {
+        return 0xffff_ffff - (-1 - n) as u64;
+    }
+    n as u64
+}
+
+// The bits of a signed number, as a word holds them.
+fn unsigned_word(n: i64) -> u64
+    ensures { λ r. ⌜ r ≡ unsigned 64 n ⌝ }
+{
+    if n < 0 {
+        return 0xffff_ffff_ffff_ffff - (-1 - n) as u64;
+    }
+    n as u64
+}
+
+// A truth value, as the high half of a header holds it.
+fn boolean_half(b: bool) -> u64
+    ensures { λ r. ⌜ (r ≡ bit b) × (r < 2) ⌝ }
+{
+    if b {
+        return 1;
+    }
+    0
+}
+
+// An argument whose value is no text.
+pub fn put_scalar_argument(
+    out: &mut [u8],
+    place: usize,
+    scalar: Scalar,
+    index: usize,
+    name: &[u8],
+) -> usize
+    requires { ⌜ (scalarType scalar < 2 ^ 4) × (index < 2 ^ 15) × (length (now name) < 2 ^ 15) ⌝ }
+    requires { ⌜ (length (scalarArgument (textPart index (now name)) scalar) < 2 ^ 15) × (place + length (scalarArgument (textPart index (now name)) scalar) ≤ length (now out)) ⌝ }
+    ensures { λ _. ⌜ now (out .exit) ≡ written (now (out .entry)) place (scalarArgument (textPart index (now (name .entry))) scalar) ⌝ }
+    ensures { λ r. ⌜ r ≡ place + length (scalarArgument (textPart index (now (name .entry))) scalar) ⌝ }
+{
+    match scalar {
+        Scalar::Null => put_short_argument(out, place, 0, 0, index, name),
+        Scalar::Signed32(n) => put_short_argument(out, place, 1, unsigned_half(n), index, name),
+        Scalar::Unsigned32(n) => put_short_argument(out, place, 2, n as u64, index, name),
+        Scalar::Signed64(n) => put_word_argument(out, place, 3, unsigned_word(n), index, name),
+        Scalar::Unsigned64(n) => put_word_argument(out, place, 4, n, index, name),
+        Scalar::Double(n) => put_word_argument(out, place, 5, n, index, name),
+        Scalar::Pointer(n) => put_word_argument(out, place, 7, n, index, name),
+        Scalar::KernelObject(n) => put_word_argument(out, place, 8, n, index, name),
+        Scalar::Boolean(b) => put_short_argument(out, place, 9, boolean_half(b), index, name),
+        Scalar::Unknown(kind) => put_short_argument(out, place, kind as u64, 0, index, name),
+    }
+}

@@ -1,0 +1,114 @@
+-- The references of a record counted one after the other: what comes of it, what the slots tell of afterwards, and that they are kept.
+-- Assumes nothing.
+use Prim.Native.Nat.{ℕ, _+_, _^_, _≤_, _<_}
+use mathlib.Core.Path.{_≡_, refl}
+use mathlib.Core.List.{List, [], _∷_, _++_, append-assoc, append-nil}
+use mathlib.Core.Bool.{Bool, true, false, _&&_, _||_}
+use mathlib.Core.Option.{Option}
+use native.Mathlib.Omega.{arith}
+use lib.ListN.{length, length-append}
+use Rattle.passes.specs.Models.Codes.{contextIn}
+use Rattle.words.proofs.Words.{AllBytes}
+use Rattle.words.proofs.Tests.{on-pick}
+use Rattle.format.specs.declared.Format.{Format}
+use Rattle.records.specs.declared.Lookup.{Lookup}
+use Rattle.records.specs.Item.{Use}
+use Rattle.contexts.specs.declared.State.{State}
+use Rattle.tables.specs.Table.{lookedUp}
+use Rattle.rule.specs.Refusal.{passesLimit}
+use Rattle.passes.proofs.Places.{LookupStands, LookupsStand}
+use Rattle.first_pass.specs.Models.Count.{unresolvedIn, lookupGood, lookupSlots, lookupsGood, lookupsSlots, anyUnresolved}
+use Rattle.first_pass.specs.Models.Left.{withinLimit, countedUses}
+use Rattle.first_pass.proofs.Kept.{SlotsKept, kept-same, kept-then, added-kept}
+use Rattle.first_pass.proofs.References.{lookupUses, lookupsUses, on-lookup}
+use Rattle.first_pass.proofs.Told.{Told, Outcome, outcome-none, outcome-unresolved, outcome-then, outcome-use, use-counted, key-mark}
+
+-- uses in two parts
+counted-both : (f : Format) (uses us vs : List Use) → countedUses f uses (us ++ vs) ≡ countedUses f (countedUses f uses us) vs
+counted-both f uses [] vs = refl
+counted-both f uses (u ∷ us) vs = counted-both f (withinLimit f uses u) us vs
+
+-- no more are counted than there are
+counted-few : (f : Format) (uses us : List Use) → length (countedUses f uses us) ≤ length uses + length us
+counted-few f uses [] = omega arith
+counted-few f uses (u ∷ us) =
+    let all = uses ++ (u ∷ []) in
+    let one : length (withinLimit f uses u) ≤ length uses + 1 =
+    on-pick (λ (l : List Use). length l ≤ length uses + 1) (passesLimit f all all) uses all (λ e. omega arith)
+    (λ e. omega (arith, length-append uses (u ∷ []))) in
+    omega (arith, one, counted-few f (withinLimit f uses u) us)
+
+-- counting these uses leads from slots to slots, which keep what they must. Where the first tell of some uses, the second tell of those with
+-- these counted, and whether all went well is what comes of it.
+pub record Counts (f : Format) (archive : List ℕ) (last : State) (slots : List ℕ) (us : List Use) (bad good : Bool) (slots′ : List ℕ) : Type 0 where
+  pub kept : SlotsKept f slots slots′
+  pub counted : (uses : List Use) → Told f archive last slots uses → length (uses ++ us) < 2 ^ 32 → Told f archive last slots′ (countedUses f uses us)
+  pub outcome : (uses : List Use) → Told f archive last slots uses → length (uses ++ us) < 2 ^ 32
+      → Outcome f archive last slots′ (uses ++ us) good bad
+
+-- no uses
+counts-none : (f : Format) (archive : List ℕ) (last : State) (slots : List ℕ) → Counts f archive last slots [] false true slots
+counts-none f archive last slots =
+    record {
+      kept = kept-same f slots;
+      counted = λ uses told short. told;
+      outcome = λ uses told short. rw (append-nil uses) (outcome-none f archive last slots uses told);
+    }
+
+-- some uses, and then others
+counts-both : (f : Format) (archive : List ℕ) (last : State) (slots : List ℕ) (us vs : List Use) (bad good bad′ good′ : Bool) (slots′ slots″ : List ℕ)
+    → Counts f archive last slots us bad good slots′ → Counts f archive last slots′ vs bad′ good′ slots″
+    → Counts f archive last slots (us ++ vs) (bad || bad′) (good && good′) slots″
+counts-both f archive last slots us vs bad good bad′ good′ slots′ slots″ first second =
+    record {
+      kept = kept-then f slots slots′ slots″ (first .kept) (second .kept);
+      counted = λ uses told short.
+          let all = length-append uses (us ++ vs) in
+          let both = length-append us vs in
+          rw (counted-both f uses us vs)
+          (second .counted (countedUses f uses us) (first .counted uses told (omega (arith, short, all, both, length-append uses us)))
+          (omega (arith, short, all, both, length-append (countedUses f uses us) vs, counted-few f uses us)));
+      outcome = λ uses told short.
+          let all = append-assoc uses us vs in
+          let fits = rw (← all) at short in
+          rw (← all)
+          (outcome-then f archive last slots′ slots″ (uses ++ us) vs good bad good′ bad′
+          (first .outcome uses told (omega (arith, fits, length-append (uses ++ us) vs)))
+          (λ then. second .outcome (uses ++ us) then fits));
+    }
+
+module _ (f : Format) (archive : List ℕ) (last : State) (few : last .count ≤ 8) (bytes : AllBytes archive) (provider : Option ℕ) (context : ℕ)
+    (here : contextIn last provider ≡ context) (low : context ≤ 8) (tables : List ℕ) (limit : ℕ) where
+  -- one reference
+  lookup-counts : (slots : List ℕ) (l : Lookup) → LookupStands archive l
+      → Counts f archive last slots (lookupUses f archive tables provider context limit l) (unresolvedIn (lookedUp f archive tables context limit l))
+      (lookupGood f archive tables slots context limit l) (lookupSlots f archive tables slots context limit l)
+  lookup-counts slots =
+      on-lookup f archive bytes provider context tables limit slots (Counts f archive last slots) (record {
+        missing = record {
+          kept = kept-same f slots;
+          counted = λ uses told short. told;
+          outcome = λ uses told short. outcome-unresolved f archive last slots (uses ++ []);
+        };
+        empty = counts-none f archive last slots;
+        used = λ key place label most k. record {
+          kept = added-kept f archive slots place label most (k .behind) (key-mark k low);
+          counted = λ uses told short. use-counted f archive last few slots uses told provider context here low key place label most k short;
+          outcome = λ uses told short. outcome-use f archive last few slots uses told provider context here low key place label most k short;
+        };
+      })
+
+  -- references one after the other
+  pub lookups-count : (ls : List Lookup) → LookupsStand archive ls → (slots : List ℕ)
+      → Counts f archive last slots (lookupsUses f archive tables provider context limit ls) (anyUnresolved f archive tables context limit ls)
+      (lookupsGood f archive tables slots context limit ls) (lookupsSlots f archive tables slots context limit ls)
+  unfolding anyUnresolved lookupsGood lookupsSlots
+  lookups-count [] stands slots = counts-none f archive last slots
+  lookups-count (l ∷ more) stands slots =
+      counts-both f archive last slots (lookupUses f archive tables provider context limit l) (lookupsUses f archive tables provider context limit more)
+      (unresolvedIn (lookedUp f archive tables context limit l)) (lookupGood f archive tables slots context limit l)
+      (anyUnresolved f archive tables context limit more)
+      (lookupsGood f archive tables (lookupSlots f archive tables slots context limit l) context limit more)
+      (lookupSlots f archive tables slots context limit l)
+      (lookupsSlots f archive tables (lookupSlots f archive tables slots context limit l) context limit more) (lookup-counts slots l (stands .0))
+      (lookups-count more (stands .1) (lookupSlots f archive tables slots context limit l))

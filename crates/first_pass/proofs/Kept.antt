@@ -1,0 +1,121 @@
+-- Counting a use changes only the words of the tally: the slots keep their number, free ones all their words, and so does what stands
+-- behind the three stretches.
+-- Assumes nothing.
+use Prim.Native.Nat.{ℕ, zero, suc, _+_, _-_, _*_, _/_, _≤_, _<_}
+use mathlib.Core.Path.{_≡_, refl, sym, ap, _∙_}
+use mathlib.Core.List.{List}
+use mathlib.Core.Bool.{true≢false}
+use native.Mathlib.Omega.{arith}
+use borrow.Author.Tests.{eq-eqb, eqb-false}
+use lib.Dec.{eqb, ltb}
+use lib.ListN.{length, take, drop, getD}
+use lib.Seq.{getD-set-other}
+use Rattle.tally.specs.Models.Tally.{Wide}
+use Rattle.tally.specs.Models.Slots.{labelOf, keyOf, placeAt, labelAt, usesAt, counterAt, findOf, raised, added, filled}
+use Rattle.words.proofs.Tests.{cases}
+use Rattle.tally.proofs.Laws.{label-mark}
+use Rattle.format.specs.declared.Format.{Format}
+use Rattle.format.specs.declared.Reference.{Reference}
+use Rattle.arguments.specs.declared.Argument.{Argument}
+use Rattle.arguments.specs.declared.Argued.{Argued}
+use Rattle.arguments.specs.declared.Argued.the-variants.{Refused as ArgumentRefused, Argument as ArgumentRead}
+use Rattle.arguments.specs.Argument.{argumentOf, onArgued, textIn}
+use Rattle.records.specs.declared.Event.{Event}
+use Rattle.contexts.specs.declared.State.{State}
+use Rattle.tables.specs.declared.Resolved.{Resolved}
+use Rattle.tables.specs.declared.Resolved.the-variants.{Bad, Known, Unresolved}
+use Rattle.tables.specs.Table.{tableWords, highestOf, resolved}
+use Rattle.tally.specs.declared.Slot.{Slot}
+use Rattle.tally.specs.declared.Slot.the-variants.{Here, Free, Full}
+use Rattle.tally.proofs.Frames.{filled-other, filled-place, added-length, added-behind}
+use Rattle.tally.proofs.Probing.{found-low, here-key}
+use Rattle.passes.proofs.Places.{KnownStands, ReferenceStands, known-stands}
+use Rattle.first_pass.specs.Models.Count.{countSlots}
+use Rattle.first_pass.specs.Models.Left.{FreeClear}
+
+-- a slot that has no place had none before, and its label and its uses are as they were
+abbrev FreeSame : ℕ → List ℕ → List ℕ → ℕ → Type 0
+FreeSame stretch before after s =
+    (placeAt before s ≡ 0)
+    × (labelAt stretch after s ≡ labelAt stretch before s)
+    × (s < stretch - 18 → usesAt stretch after s ≡ usesAt stretch before s)
+
+-- as many slots, the same words behind the tally, and free slots as they were
+pub record SlotsKept (f : Format) (before after : List ℕ) : Type 0 where
+  pub long : length after ≡ length before
+  pub behind : drop (3 * tableWords f) after ≡ drop (3 * tableWords f) before
+  pub free : Wide (tableWords f) before → (s : ℕ) → s < tableWords f → placeAt after s ≡ 0 → FreeSame (tableWords f) before after s
+
+-- slots that are not changed are kept
+pub kept-same : (f : Format) (slots : List ℕ) → SlotsKept f slots slots
+kept-same f slots = record { long = refl; behind = refl; free = λ wide s low e. (e, refl, λ l. refl) }
+
+-- a tally that keeps its length stays wide
+pub kept-wide : {stretch : ℕ} {before after : List ℕ} → length after ≡ length before → Wide stretch before → Wide stretch after
+kept-wide long wide = record { some = wide .some; low = wide .low; long = rw long (wide .long) }
+
+-- and so they are by two changes that keep them
+pub kept-then : (f : Format) (a b c : List ℕ) → SlotsKept f a b → SlotsKept f b c → SlotsKept f a c
+kept-then f a b c h k = record {
+  long = k .long ∙ h .long;
+  behind = k .behind ∙ h .behind;
+  free = λ wide s low e.
+      let second = k .free (kept-wide (h .long) wide) s low e in
+      let first = h .free wide s low (second .0) in
+      (first .0, second .1 ∙ first .1, λ l. second .2 l ∙ first .2 l);
+}
+
+-- slots that were clear where they were free are so still
+pub kept-clear : {f : Format} {before after : List ℕ} → SlotsKept f before after → Wide (tableWords f) before → FreeClear (tableWords f) before
+    → FreeClear (tableWords f) after
+kept-clear h wide clear s low e =
+    let same = h .free wide s low e in
+    let first = clear s low (same .0) in
+    (same .1 ∙ first .0, λ l. same .2 l ∙ first .1 l)
+
+module _ (archive : List ℕ) (stretch : ℕ) (table key : List ℕ) (place label most : ℕ) (some-place : 0 < place) (mark : label / 65536 < 18)
+    (wide : Wide stretch table) where
+  -- taking a slot writes no word of one that stays free
+  filled-free : (x : ℕ) → x < stretch - 18 → (s : ℕ) → s < stretch → placeAt (filled stretch table place label x) s ≡ 0
+      → FreeSame stretch table (filled stretch table place label x) s
+  filled-free x x-low s low e =
+      let other : s ≡ x → ⊥ = λ same.
+      let none : placeAt (filled stretch table place label x) x ≡ 0 = ap (placeAt (filled stretch table place label x)) (sym same) ∙ e in
+      omega (arith, none, filled-place stretch table place label x x-low mark wide) in
+      let keep = filled-other stretch table place label x x-low mark in (
+        sym (keep s other (λ z. omega arith) (λ z. omega arith) (λ z. omega (arith, wide .some))) ∙ e,
+        keep (stretch + s) (λ z. omega arith) (λ z. other (omega arith)) (λ z. omega arith) (λ z. omega (arith, wide .some)),
+        λ l. keep (2 * stretch + s) (λ z. omega arith) (λ z. omega arith) (λ z. other (omega arith)) (λ z. omega (arith, wide .some)),
+      )
+
+  -- neither does counting a use
+  added-free : (slot : Slot) → findOf archive stretch table key ≡ slot → (s : ℕ) → s < stretch
+      → placeAt (added stretch table place label most slot) s ≡ 0 → FreeSame stretch table (added stretch table place label most slot) s
+  added-free (Here x) is s low e =
+      let v = raised (usesAt stretch table x) in
+      let i = 2 * stretch + x in
+      let was : placeAt table s ≡ 0 = sym (getD-set-other table i s v 0 (λ q. omega arith)) ∙ e in
+      let taken = here-key archive stretch table key (wide .some) x is .0 in
+      let other : s ≡ x → ⊥ = λ q. true≢false (sym (eq-eqb (placeAt table x) 0 (ap (placeAt table) (sym q) ∙ was)) ∙ taken) in (
+        was,
+        getD-set-other table i (stretch + s) v 0 (λ q. omega arith),
+        λ l. getD-set-other table i (2 * stretch + s) v 0 (λ q. other (omega arith)),
+      )
+  added-free (Free x) is s low e =
+      cases (ltb (getD table (counterAt stretch (label / 65536)) 0) most)
+      (λ q. rw q (filled-free x (found-low archive stretch table key (wide .some) (Free x) is) s low (rw q at e)))
+      (λ q. rw q (rw q at e, refl, λ l. refl))
+  added-free Full is s low e = (e, refl, λ l. refl)
+
+-- one use more keeps them
+pub added-kept : (f : Format) (archive slots : List ℕ) (place label most : ℕ) → 0 < place → label / 65536 < 18
+    → SlotsKept f slots (added (tableWords f) slots place label most (findOf archive (tableWords f) slots (keyOf archive place label)))
+added-kept f archive slots place label most behind mark =
+    let stretch = tableWords f in
+    let key = keyOf archive place label in
+    let slot = findOf archive stretch slots key in
+    record {
+      long = added-length stretch slots place label most slot;
+      behind = added-behind stretch slots place label most slot mark (found-low archive stretch slots key (omega arith) slot refl);
+      free = λ wide. added-free archive stretch slots key place label most behind mark wide slot refl;
+    }

@@ -1,0 +1,293 @@
+-- Laws of the first pass that the code's proofs go by: the room taken apart, references counted one after the other, the walks over arguments,
+-- and records that refer to nothing. Assumes nothing.
+use Prim.Native.Nat.{ℕ, zero, suc, _+_, _-_, _*_, _/_, _^_, _≤_, _<_}
+use mathlib.Core.Path.{_≡_, refl, sym, ap, subst, _∙_}
+use mathlib.Core.List.{List, [], _∷_, _++_}
+use mathlib.Core.Bool.{Bool, true, false, _&&_, _||_, and-true, and-assoc}
+use mathlib.Core.Logic.{inl, inr}
+use native.Mathlib.Omega.{arith}
+use lib.ListN.{length, take, drop, length-append, length-drop, take-append-drop}
+use lib.Seq.{length-take-le, take-at, drop-at}
+use Rattle.passes.specs.Models.Known.{ReferenceFits}
+use Rattle.records.specs.Models.Bounds.{ContentInside, ReportInside}
+use Rattle.arguments.specs.Models.Reading.{textsOf}
+use Rattle.format.specs.Models.Bounds.{Inside}
+use Rattle.format.specs.declared.Format.{Format}
+use Rattle.format.specs.Part.{inlineBytes}
+use Rattle.format.specs.declared.Reference.{Reference}
+use Rattle.format.specs.declared.Reference.the-variants.{Inline, Index}
+use Rattle.arguments.specs.declared.Scalar.{Scalar}
+use Rattle.arguments.specs.declared.Scalar.the-variants.{Null, Signed32, Unsigned32, Signed64, Unsigned64, Double, Pointer, KernelObject, Boolean, Unknown}
+use Rattle.arguments.specs.declared.Value.{Value}
+use Rattle.arguments.specs.declared.Value.the-variants.{Scalar as ScalarValue, Text}
+use Rattle.arguments.specs.declared.Argument.{Argument}
+use Rattle.arguments.specs.declared.Argued.{Argued}
+use Rattle.arguments.specs.declared.Argued.the-variants.{Refused, Argument as Read}
+use Rattle.arguments.specs.declared.Texts.{Texts}
+use Rattle.arguments.specs.declared.Texts.the-variants.{Refused as TextsRefused, Texts as TextsRead}
+use Rattle.arguments.specs.Argument.{scalarWords, argumentOf, onArgued, textIn, argumentsRead}
+use Rattle.arguments.proofs.Arguments.{argument-read}
+use Rattle.records.specs.declared.Lookup.{Lookup}
+use Rattle.records.specs.declared.Report.{Report}
+use Rattle.records.specs.declared.Content.{Content}
+use Rattle.records.specs.declared.Content.the-variants.{Report as ReportRead}
+use Rattle.records.specs.Record.{recordAt}
+use Rattle.records.specs.Lookups.{textLookup, argumentLookups, reportLookups}
+use Rattle.records.proofs.Lookups.{onTexts, lookups-turn}
+use Rattle.tables.specs.Table.{tableWords, resolved, lookedUp}
+use Rattle.records.proofs.Bounds.{lengthOf, ContentShort, record-short}
+use Rattle.reader.proofs.Lookups.{record-whole, report-fits, LookupFits}
+use Rattle.reader.proofs.Changes.{Kind}
+use Rattle.passes.proofs.Known.{thread-short}
+use Rattle.passes.proofs.Places.{report-bounds}
+use Rattle.first_pass.specs.Models.Count.{tablesIn, slotsIn, wordsIn, wordsRead, unresolvedIn, anyUnresolved, lookupGood, lookupSlots, lookupsGood, lookupsSlots}
+
+-- ---- the room
+
+-- a room whose first n words, the tables, stayed, and behind which these slots stand
+pub record RoomAfter (n : ℕ) (room slots after : List ℕ) : Type 0 where
+  pub tables : take n after ≡ take n room
+  pub stand : drop n after ≡ slots
+  pub wide : n ≤ length after
+
+-- so is what a call that changes the slots leaves
+pub room-after : (n : ℕ) (room slots after : List ℕ) → n ≤ length room → after ≡ take n room ++ slots → RoomAfter n room slots after
+room-after n room slots after h e =
+    let l = length-take-le n room h in
+    record {
+      tables = rw e (take-at (take n room) slots n l);
+      stand = rw e (drop-at (take n room) slots n l);
+      wide = rw (e, length-append (take n room) slots, l) (omega arith);
+    }
+
+-- the part of an archive between two places ends at the second
+pub part-ends : (archive : List ℕ) (from to : ℕ) → from ≤ to → to ≤ length archive → from + length (take (to - from) (drop from archive)) ≡ to
+part-ends archive from to l h = rw (length-take-le (to - from) (drop from archive) (omega (arith, length-drop from archive))) (omega arith)
+
+-- ---- references that are counted
+
+-- what is counted of references in a room: whether all is well, and the room after it
+abbrev pub Counted : Format → List ℕ → List ℕ → ℕ → ℕ → List Lookup → Bool → List ℕ → Type 0
+Counted f archive room context limit ls good after =
+    (good ≡ lookupsGood f archive (tablesIn f room) (slotsIn f room) context limit ls)
+    × (after ≡ tablesIn f room ++ lookupsSlots f archive (tablesIn f room) (slotsIn f room) context limit ls)
+
+-- no references
+pub counted-none : (f : Format) (archive room : List ℕ) (context limit : ℕ) → Counted f archive room context limit [] true room
+unfolding lookupsGood lookupsSlots
+counted-none f archive room context limit = (refl, sym (take-append-drop (tableWords f) room))
+
+-- one, and then others
+pub counted-then : (f : Format) (archive room : List ℕ) (context limit : ℕ) (l : Lookup) (more : List Lookup) → tableWords f ≤ length room
+    → (good others : Bool) (after last : List ℕ)
+    → (good ≡ lookupGood f archive (tablesIn f room) (slotsIn f room) context limit l)
+    × (after ≡ tablesIn f room ++ lookupSlots f archive (tablesIn f room) (slotsIn f room) context limit l)
+    → Counted f archive after context limit more others last → Counted f archive room context limit (l ∷ more) (good && others) last
+unfolding lookupsGood lookupsSlots
+counted-then f archive room context limit l more wide good others after last x y =
+    let r = room-after (tableWords f) room _ after wide (x .1) in
+    let y′ = rw (r .tables, r .stand) at y in
+    (rw (x .0, y′ .0), y′ .1)
+
+module _ (f : Format) (archive tables : List ℕ) (context limit : ℕ) where
+  -- references in two parts are counted one part after the other
+  goods-both : (slots : List ℕ) (a b : List Lookup)
+      → lookupsGood f archive tables slots context limit (a ++ b)
+      ≡ (lookupsGood f archive tables slots context limit a
+      && lookupsGood f archive tables (lookupsSlots f archive tables slots context limit a) context limit b)
+  unfolding lookupsGood lookupsSlots
+  goods-both slots [] b = refl
+  goods-both slots (l ∷ a) b =
+      rw (goods-both (lookupSlots f archive tables slots context limit l) a b)
+      (sym (and-assoc (lookupGood f archive tables slots context limit l) _ _))
+
+  slots-both : (slots : List ℕ) (a b : List Lookup)
+      → lookupsSlots f archive tables slots context limit (a ++ b)
+      ≡ lookupsSlots f archive tables (lookupsSlots f archive tables slots context limit a) context limit b
+  unfolding lookupsSlots
+  slots-both slots [] b = refl
+  slots-both slots (l ∷ a) b = slots-both (lookupSlots f archive tables slots context limit l) a b
+
+  -- one turn of the walk over arguments that asks for unresolved references
+  pub unresolved-turn : (n : ℕ) (rest : List ℕ) (place : ℕ) → 0 < n
+      → anyUnresolved f archive tables context limit (argumentLookups (argumentsRead f n rest place))
+      ≡ onTexts (textsOf f rest place) false
+      (λ name value size. unresolvedIn (resolved f archive tables context 2 limit name)
+      || (unresolvedIn (resolved f archive tables context 2 limit value)
+      || anyUnresolved f archive tables context limit (argumentLookups (argumentsRead f (n - 1) (drop size rest) (place + size)))))
+  unfolding anyUnresolved
+  unresolved-turn n rest place h = ap (anyUnresolved f archive tables context limit) (lookups-turn f n rest place h) ∙ go (textsOf f rest place)
+    where
+      go : (x : Texts)
+          → anyUnresolved f archive tables context limit
+          (onTexts x [] (λ name value size.
+          textLookup name ∷ textLookup value ∷ argumentLookups (argumentsRead f (n - 1) (drop size rest) (place + size))))
+          ≡ onTexts x false
+          (λ name value size. unresolvedIn (resolved f archive tables context 2 limit name)
+          || (unresolvedIn (resolved f archive tables context 2 limit value)
+          || anyUnresolved f archive tables context limit (argumentLookups (argumentsRead f (n - 1) (drop size rest) (place + size)))))
+      go (TextsRefused number) = refl
+      go (TextsRead name value size) = refl
+
+-- ---- the words of arguments
+
+-- a scalar takes one word at most
+scalar-words-few : (s : Scalar) → scalarWords s ≤ 1
+scalar-words-few Null = omega arith
+scalar-words-few (Signed32 n) = omega arith
+scalar-words-few (Unsigned32 n) = omega arith
+scalar-words-few (Signed64 n) = omega arith
+scalar-words-few (Unsigned64 n) = omega arith
+scalar-words-few (Double n) = omega arith
+scalar-words-few (Pointer n) = omega arith
+scalar-words-few (KernelObject n) = omega arith
+scalar-words-few (Boolean b) = omega arith
+scalar-words-few (Unknown type) = omega arith
+
+-- and so does the value of an argument
+words-in-few : (v : Value) → wordsIn v ≤ 1
+unfolding wordsIn
+words-in-few (ScalarValue s) = scalar-words-few s
+words-in-few (Text reference) = omega arith
+
+-- so many arguments take two words each at most
+pub words-few : (f : Format) (n : ℕ) (rest : List ℕ) (place : ℕ) → wordsRead (argumentsRead f n rest place) ≤ 2 * n
+unfolding argumentsRead wordsRead
+words-few f zero rest place = omega arith
+words-few f (suc n) rest place = go (λ more at. words-few f n more at) (argumentOf f rest place)
+  where
+    go : ((more : List ℕ) (at : ℕ) → wordsRead (argumentsRead f n more at) ≤ 2 * n) → (x : Argued)
+        → wordsRead (onArgued x (λ number. []) (λ a size. a ∷ argumentsRead f n (drop size rest) (place + size))) ≤ 2 * suc n
+    go few (Refused number) = omega arith
+    go few (Read a size) = omega (arith, words-in-few (a .value), few (drop size rest) (place + size))
+
+-- ---- the walk that counts so many arguments
+
+-- one turn of it: the first argument, then the rest
+read-turn : (f : Format) (n : ℕ) (rest : List ℕ) (place : ℕ) → 0 < n
+    → argumentsRead f n rest place
+    ≡ onArgued (argumentOf f rest place) (λ number. []) (λ a size. a ∷ argumentsRead f (n - 1) (drop size rest) (place + size))
+unfolding argumentsRead
+read-turn f zero rest place h = absurd (omega arith)
+read-turn f (suc n) rest place h = let e : suc n - 1 ≡ n = omega arith in rw e
+
+-- where the walk stands: what is to be counted in all is what was counted and what is left
+pub record Walk (f : Format) (archive start : List ℕ) (context limit : ℕ) (all : List Argument) (end : ℕ) (room : List ℕ) (left : ℕ) (rest : List ℕ)
+    (at : ℕ) (good : Bool) (words most : ℕ)
+    : Type 0 where
+  pub tables : tablesIn f room ≡ tablesIn f start
+  pub long : length room ≡ length start
+  pub goods : lookupsGood f archive (tablesIn f start) (slotsIn f start) context limit (argumentLookups all)
+      ≡ (good && lookupsGood f archive (tablesIn f start) (slotsIn f room) context limit (argumentLookups (argumentsRead f left rest at)))
+  pub slots : lookupsSlots f archive (tablesIn f start) (slotsIn f start) context limit (argumentLookups all)
+      ≡ lookupsSlots f archive (tablesIn f start) (slotsIn f room) context limit (argumentLookups (argumentsRead f left rest at))
+  pub sum : wordsRead all ≡ words + wordsRead (argumentsRead f left rest at)
+  pub inside : at + length rest ≡ end
+  pub few : words + 2 * left ≤ 2 * most
+
+module _ (f : Format) (archive start : List ℕ) (context limit : ℕ) (all : List Argument) (end : ℕ) (room : List ℕ) (left : ℕ) (rest : List ℕ) (at : ℕ)
+    (good : Bool) (words most : ℕ) (w : Walk f archive start context limit all end room left rest at good words most) where
+  -- where nothing is left to read, all was counted
+  pub walk-ends : argumentsRead f left rest at ≡ []
+      → (good ≡ lookupsGood f archive (tablesIn f start) (slotsIn f start) context limit (argumentLookups all))
+      × ((words ≡ wordsRead all)
+      × (room ≡ tablesIn f start ++ lookupsSlots f archive (tablesIn f start) (slotsIn f start) context limit (argumentLookups all)))
+  unfolding lookupsGood lookupsSlots wordsRead
+  walk-ends none = (
+    sym (w .goods ∙ rw none (and-true good)),
+    (sym (w .sum ∙ rw none (omega arith)), rw (w .slots, none, ← w .tables) (sym (take-append-drop (tableWords f) room))),
+  )
+
+  -- that is so behind the last argument
+  pub none-left : left ≡ 0 → argumentsRead f left rest at ≡ []
+  unfolding argumentsRead
+  none-left z = rw z
+
+  -- and at one that is refused
+  pub none-read : (number : ℕ) → 0 < left → argumentOf f rest at ≡ Refused number → argumentsRead f left rest at ≡ []
+  none-read number h e = read-turn f left rest at h ∙ rw e
+
+  -- an argument is counted, and the walk goes on behind it
+  pub walk-turns : (a : Argument) (size : ℕ) (counted : Bool) (after : List ℕ) → 0 < left → argumentOf f rest at ≡ Read a size
+      → tableWords f ≤ length room → length after ≡ length room → Counted f archive room context limit (argumentLookups (a ∷ [])) counted after
+      → Walk f archive start context limit all end after (left - 1) (drop size rest) (at + size) (good && counted) (words + (1 + wordsIn (a .value))) most
+  unfolding wordsRead
+  walk-turns a size counted after h e wide long x =
+      let own = argumentLookups (a ∷ []) in
+      let more = argumentsRead f (left - 1) (drop size rest) (at + size) in
+      let turn : argumentsRead f left rest at ≡ a ∷ more = read-turn f left rest at h ∙ rw e in
+      let r = room-after (tableWords f) room _ after wide (x .1) in
+      let x′ = rw (w .tables) at x in
+      let stand = rw (w .tables) at (r .stand) in
+      record {
+        tables = r .tables ∙ w .tables;
+        long = long ∙ w .long;
+        goods = w .goods
+            ∙ (rw (turn, goods-both f archive (tablesIn f start) context limit (slotsIn f room) own (argumentLookups more), ← x′ .0, ← stand)
+            (sym (and-assoc good counted _)));
+        slots = w .slots ∙ rw (turn, slots-both f archive (tablesIn f start) context limit (slotsIn f room) own (argumentLookups more), ← stand);
+        sum = let s = rw turn at (w .sum) in omega (arith, s);
+        inside = omega (arith, w .inside, argument-read f rest at a size e .inside, length-drop size rest);
+        few = omega (arith, w .few, words-in-few (a .value));
+      }
+
+-- ---- records
+
+-- a record that was read shows places of its own alone
+pub record-inside : (f : Format) (archive : List ℕ) (place : ℕ) (content : Content) (next : ℕ) → place ≤ next → next ≤ length archive
+    → recordAt f archive place ≡ record { content = content; next = next }
+    → ContentInside place (place + length (take (next - place) (drop place archive))) content
+record-inside f archive place content next l h k =
+    let e = part-ends archive place next l h in
+    let i = record-whole f archive place .inside in
+    rw e (rw k at i)
+
+-- the stream of a record that was read stands in the archive
+pub stream-inside : (f : Format) (archive : List ℕ) (place : ℕ) (r : Report) (next : ℕ)
+    → recordAt f archive place ≡ record { content = ReportRead r; next = next } → Inside place next (r .stream)
+stream-inside f archive place r next k =
+    let i : ContentInside place next (ReportRead r) = rw k at (record-whole f archive place .inside) in i .stream
+
+-- so it has fewer bytes than the archive
+pub stream-few : (from to : ℕ) (r : Reference) → Inside from to r → inlineBytes r ≤ to
+stream-few from to (Inline place long) i = omega (arith, i .1)
+stream-few from to (Index index) i = omega arith
+
+-- a reference that can be counted: its table is one of the two, and its place and its length fit
+pub record Countable (l : Lookup) : Type 0 where
+  pub least : 2 ≤ l .table
+  pub most : l .table ≤ 3
+  pub fits : ReferenceFits (l .reference)
+
+-- a reference that stands inside a record before such an end is one
+lookup-countable : (from to : ℕ) (l : Lookup) → LookupFits l → (l .table ≡ 2 → lengthOf (l .reference) < 65536) → Inside from to (l .reference)
+    → to < 2 ^ 31 → Countable l
+lookup-countable from to l fit short i low = go (fit .kinds)
+  where
+    of-reference : (r : Reference) → lengthOf r < 65536 → Inside from to r → ReferenceFits r
+    of-reference (Inline place long) s i = (omega (arith, i .1), s)
+    of-reference (Index index) s i = tt
+
+    go : Kind (l .table) → Countable l
+    go (inl k) = record { least = omega (arith, k); most = omega (arith, k); fits = of-reference (l .reference) (short k) i }
+    go (inr k) =
+        record {
+          least = omega (arith, k);
+          most = omega (arith, k);
+          fits = of-reference (l .reference) (thread-short (l .reference) (fit .thread k)) i;
+        }
+
+-- those of every record that was read are
+pub report-countable : (f : Format) (archive : List ℕ) (place : ℕ) (r : Report) (next : ℕ) → place ≤ length archive → length archive < 2 ^ 31
+    → recordAt f archive place ≡ record { content = ReportRead r; next = next }
+    → Countable (r .first) × Countable (r .second) × Countable (r .third)
+report-countable f archive place r next h low k =
+    let content = ap (λ x. x .content) k in
+    let i : ContentInside place next (ReportRead r) = rw k at (record-whole f archive place .inside) in
+    let fit = report-fits f archive place r content in
+    let s : ContentShort (ReportRead r) = rw k at (record-short f archive place) in
+    let ends = report-bounds f archive place r next h k .last in (
+      lookup-countable place next (r .first) (fit .first) (s .first) (i .first) (omega (arith, ends, low)),
+      lookup-countable place next (r .second) (fit .second) (s .second) (i .second) (omega (arith, ends, low)),
+      lookup-countable place next (r .third) (fit .third) (s .third) (i .third) (omega (arith, ends, low)),
+    )

@@ -1,0 +1,11 @@
+pub mod Limits
+pub mod References
+pub mod Told
+pub mod Kept
+pub mod Counts
+pub mod Findings
+pub mod Checked
+pub mod Counting
+pub mod Plain
+pub mod Laws
+pub mod Rooms

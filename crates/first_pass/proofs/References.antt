@@ -1,0 +1,309 @@
+-- What the references of a record come to where they stand in the archive: no use, or one use of a plain key whose bytes stand at a place.
+-- A record's uses, its unresolved references and its words, by the list of its references. Assumes nothing.
+use Prim.Native.Nat.{ℕ, zero, suc, _+_, _-_, _*_, _/_, _≤_, _<_}
+use mathlib.Core.Path.{_≡_, refl, sym, ap, _∙_}
+use mathlib.Core.List.{List, [], _∷_, _++_}
+use mathlib.Core.Bool.{Bool, true, false, _||_}
+use mathlib.Core.Option.{Option, some}
+use mathlib.Core.Logic.{_⊎_, inl, inr}
+use native.Mathlib.Omega.{arith}
+use borrow.Author.Tests.{eqb-true, eqb-false}
+use lib.Dec.{eqb}
+use lib.ListN.{length, take, drop, length-append}
+use Rattle.passes.specs.Models.Codes.{codeOf}
+use Rattle.passes.specs.Models.Item.{referentAt, textAt, argumentsAt, reportAt}
+use Rattle.tally.specs.Models.Slots.{labelOf, keyOf, findOf, isAdded, added}
+use Rattle.records.specs.Models.Fixed.{valueWords, argumentsWords}
+use Rattle.format.specs.Models.Bounds.{Inside}
+use Rattle.words.specs.Word.{wordAt}
+use Rattle.words.specs.Stream.{streamWords, partOf}
+use Rattle.words.proofs.Words.{wordAt-lt, AllBytes}
+use Rattle.words.proofs.Tests.{cases}
+use Rattle.format.specs.declared.Format.{Format}
+use Rattle.format.specs.declared.Reference.{Reference}
+use Rattle.format.specs.declared.Reference.the-variants.{Inline, Index}
+use Rattle.format.specs.Part.{inlineBytes}
+use Rattle.arguments.specs.declared.Value.{Value as ReadValue}
+use Rattle.arguments.specs.declared.Value.the-variants.{Scalar as ScalarValue, Text as TextValue}
+use Rattle.arguments.specs.declared.Argument.{Argument as ReadArgument}
+use Rattle.arguments.specs.declared.Argued.{Argued}
+use Rattle.arguments.specs.declared.Argued.the-variants.{Refused as ArgumentRefused, Argument as ArgumentRead}
+use Rattle.arguments.specs.Argument.{argumentOf, onArgued, textIn, argumentsRead}
+use Rattle.records.specs.declared.Lookup.{Lookup}
+use Rattle.records.specs.declared.Report.{Report as ReadReport}
+use Rattle.records.specs.Lookups.{argumentLookups, argumentsTo, reportLookups}
+use Rattle.records.specs.Item.{known, thread, Key, textKey, threadKey, Use, textUses, referentUses, valueUses, argumentsUses, report, usesOf, isUnresolved, referentUnresolved, valueUnresolved, argumentsUnresolved, ownWords, ownBehind}
+use Rattle.encoding.proofs.EncodedReports.{length-last, behind-few}
+use Rattle.contexts.specs.declared.State.{State}
+use Rattle.contexts.specs.Context.{providerOf}
+use Rattle.tables.specs.declared.Resolved.{Resolved}
+use Rattle.tables.specs.declared.Resolved.the-variants.{Bad, Known, Unresolved}
+use Rattle.tables.specs.Table.{tableWords, highestOf, resolved, lookedUp}
+use Rattle.reader.specs.Shown.{shownText, shownThread, shownReferent, shownStream, shownValue}
+use Rattle.reader.specs.Reads.{textItem, referentItem, streamItem, providerItem, valueItem}
+use Rattle.reader.proofs.Changes.{Kind}
+use Rattle.rule.specs.Refusal.{itemUnresolved, limitOf}
+use Rattle.passes.proofs.Places.{KnownStands, LookupStands, LookupsStand, lookup-known, part-inside}
+use Rattle.passes.proofs.Codes.{KeyPlain, UsesPlain, plain-both, text-code, thread-code}
+use Rattle.first_pass.specs.Models.Count.{unresolvedIn, countGood, countSlots, lookupGood, lookupSlots, anyUnresolved, wordsIn, wordsRead, reportUnresolved, reportWords}
+
+-- ---- the uses of references
+
+-- the uses of what a reference stands for
+abbrev pub lookupUses : Format → List ℕ → List ℕ → Option ℕ → ℕ → ℕ → Lookup → List Use
+lookupUses f archive tables provider context limit l = referentUses provider (referentAt f archive tables context limit l)
+
+-- and of references one after the other
+abbrev pub lookupsUses : Format → List ℕ → List ℕ → Option ℕ → ℕ → ℕ → List Lookup → List Use
+lookupsUses f archive tables provider context limit [] = []
+lookupsUses f archive tables provider context limit (l ∷ more) =
+    lookupUses f archive tables provider context limit l ++ lookupsUses f archive tables provider context limit more
+
+-- a text that is not empty is one use
+text-use : (provider : Option ℕ) (bytes : List ℕ) → 0 < length bytes
+    → textUses provider (known bytes) ≡ record { provider = provider; key = textKey bytes } ∷ []
+text-use provider [] h = absurd (omega arith)
+text-use provider (b ∷ bs) h = refl
+
+-- an empty text is none
+no-use : (provider : Option ℕ) (bytes : List ℕ) → length bytes ≡ 0 → textUses provider (known bytes) ≡ []
+no-use provider [] h = refl
+no-use provider (b ∷ bs) h = absurd (omega arith)
+
+-- a key whose bytes stand at a place under this label of a context: it is plain, and `most` is its limit
+pub record KeyStands (f : Format) (archive : List ℕ) (context : ℕ) (key : Key) (place label most : ℕ) : Type 0 where
+  pub plain : KeyPlain key
+  pub own : keyOf archive place label ≡ codeOf context key
+  pub limited : most ≡ limitOf f key
+  pub behind : 0 < place
+
+-- what holds of a reference that comes to nothing, unresolved or empty, and of one that is one use of such a key, by uses, whether it is
+-- unresolved, whether it is counted, and the slots after it
+pub record OfLookup (f : Format) (archive slots : List ℕ) (provider : Option ℕ) (context : ℕ) (P : List Use → Bool → Bool → List ℕ → Type 0)
+    : Type 0 where
+  pub missing : P [] true false slots
+  pub empty : P [] false true slots
+  pub used : (key : Key) (place label most : ℕ) → KeyStands f archive context key place label most
+      → P (record { provider = provider; key = key } ∷ []) false
+      (isAdded (tableWords f) slots label most (findOf archive (tableWords f) slots (keyOf archive place label)))
+      (added (tableWords f) slots place label most (findOf archive (tableWords f) slots (keyOf archive place label)))
+
+-- what holds of what a reference was looked up as
+abbrev Holds : Format → List ℕ → List ℕ → Option ℕ → ℕ → ℕ → Resolved → (List Use → Bool → Bool → List ℕ → Type 0) → Type 0
+Holds f archive slots provider context table r P =
+    P (referentUses provider (referentItem archive (shownReferent archive table r))) (unresolvedIn r) (countGood f archive slots context table r)
+    (countSlots f archive slots context table r)
+
+module _ (f : Format) (archive : List ℕ) (bytes : AllBytes archive) (provider : Option ℕ) (context : ℕ) where
+  -- a text
+  on-text : (slots : List ℕ) (P : List Use → Bool → Bool → List ℕ → Type 0) → OfLookup f archive slots provider context P → (r : Resolved)
+      → ((place long : ℕ) → r ≡ Known place long → KnownStands archive place long) → Holds f archive slots provider context 2 r P
+  unfolding shownReferent shownText unresolvedIn countGood countSlots highestOf
+  on-text slots P of Bad stands = of .missing
+  on-text slots P of (Unresolved index) stands = of .missing
+  on-text slots P of (Known place long) stands =
+      let k = stands place long refl in
+      let part = partOf archive place long in
+      let whole = part-inside archive place long (k .inside) .1 in
+      cases (eqb long 0)
+      (λ e. let none = eqb-true long 0 e in rw (e, no-use provider part (omega arith)) (of .empty))
+      (λ e. let n = eqb-false long 0 e in
+      rw (e, text-use provider part (omega arith))
+      (of .used (textKey part) place (labelOf context 2 long) (f .highest) (record {
+        plain = omega (arith, k .short);
+        own = text-code archive place long context (k .short) whole;
+        limited = refl;
+        behind = k .behind (omega arith);
+      })))
+
+  -- a thread
+  on-thread : (slots : List ℕ) (P : List Use → Bool → Bool → List ℕ → Type 0) → OfLookup f archive slots provider context P → (r : Resolved)
+      → ((place long : ℕ) → r ≡ Known place long → KnownStands archive place long × (long ≡ 16)) → Holds f archive slots provider context 3 r P
+  unfolding shownReferent shownThread unresolvedIn countGood countSlots highestOf
+  on-thread slots P of Bad stands = of .missing
+  on-thread slots P of (Unresolved index) stands = of .missing
+  on-thread slots P of (Known place long) stands =
+      let k = stands place long refl in
+      let t = thread (wordAt archive place) (wordAt archive (place + 8)) in
+      let sixteen = k .1 in
+      let inside = k .0 .inside in
+      rw sixteen
+      (of .used (threadKey t) place (labelOf context 3 16) 255 (record {
+        plain = (wordAt-lt archive place bytes, wordAt-lt archive (place + 8) bytes);
+        own = thread-code archive place context bytes (omega arith);
+        limited = refl;
+        behind = k .0 .behind (omega arith);
+      }))
+
+  module _ (tables : List ℕ) (limit : ℕ) where
+    -- any reference
+    pub on-lookup : (slots : List ℕ) (P : List Use → Bool → Bool → List ℕ → Type 0) → OfLookup f archive slots provider context P → (l : Lookup)
+        → LookupStands archive l
+        → P (lookupUses f archive tables provider context limit l) (unresolvedIn (lookedUp f archive tables context limit l))
+        (lookupGood f archive tables slots context limit l) (lookupSlots f archive tables slots context limit l)
+    on-lookup slots P of l stands = go (stands .table)
+      where
+        go : Kind (l .table) → Holds f archive slots provider context (l .table) (lookedUp f archive tables context limit l) P
+        go (inl k) =
+            rw k (on-text slots P of (resolved f archive tables context 2 limit (l .reference))
+            (λ place long e. lookup-known f archive tables context limit l place long stands (rw k e) .0))
+        go (inr k) =
+            rw k (on-thread slots P of (resolved f archive tables context 3 limit (l .reference))
+            (λ place long e. let q = lookup-known f archive tables context limit l place long stands (rw k e) in (q .0, q .1 k)))
+
+    -- references that stand in the archive have plain uses
+    pub lookups-plain : (ls : List Lookup) → LookupsStand archive ls → UsesPlain (lookupsUses f archive tables provider context limit ls)
+    lookups-plain [] stands = tt
+    lookups-plain (l ∷ more) stands =
+        plain-both (lookupUses f archive tables provider context limit l) (lookupsUses f archive tables provider context limit more)
+        (on-lookup [] (λ us bad good slots. UsesPlain us)
+        (record { missing = tt; empty = tt; used = λ key place label most k. (k .plain, tt) }) l (stands .0))
+        (lookups-plain more (stands .1))
+
+    -- and one each at most
+    pub lookups-few : (ls : List Lookup) → LookupsStand archive ls → length (lookupsUses f archive tables provider context limit ls) ≤ length ls
+    lookups-few [] stands = omega arith
+    lookups-few (l ∷ more) stands =
+        let one : length (lookupUses f archive tables provider context limit l) ≤ 1 =
+        on-lookup [] (λ us bad good slots. length us ≤ 1)
+        (record { missing = omega arith; empty = omega arith; used = λ key place label most k. omega arith }) l (stands .0) in
+        omega (
+          arith,
+          one,
+          lookups-few more (stands .1),
+          length-append (lookupUses f archive tables provider context limit l) (lookupsUses f archive tables provider context limit more),
+        )
+
+-- ---- arguments as they are read
+
+-- no more are read than there are, with two references each
+arguments-few : (f : Format) (n : ℕ) (rest : List ℕ) (place : ℕ) → length (argumentLookups (argumentsRead f n rest place)) ≤ 2 * n
+unfolding argumentsRead
+arguments-few f zero rest place = omega arith
+arguments-few f (suc n) rest place = go (λ more at. arguments-few f n more at) (argumentOf f rest place)
+  where
+    go : ((more : List ℕ) (at : ℕ) → length (argumentLookups (argumentsRead f n more at)) ≤ 2 * n) → (x : Argued)
+        → length (argumentLookups (onArgued x (λ number. []) (λ a size. a ∷ argumentsRead f n (drop size rest) (place + size)))) ≤ 2 * suc n
+    go few (ArgumentRefused number) = omega arith
+    go few (ArgumentRead a size) = omega (arith, few (drop size rest) (place + size))
+
+-- a record of 15 arguments at most has 33 references at most
+pub report-few : (f : Format) (archive : List ℕ) (r : ReadReport) (next : ℕ) → r .count ≤ 15 → length (reportLookups f archive r next) ≤ 33
+report-few f archive r next low =
+    omega (arith, low, arguments-few f (r .count) (take (next - r .arguments) (drop (r .arguments) archive)) (r .arguments))
+
+module _ (f : Format) (archive tables : List ℕ) (context limit : ℕ) where
+  -- a value's text is what its text reference stands for; a scalar has none
+  value-uses : (provider : Option ℕ) (v : ReadValue)
+      → valueUses provider (valueItem archive (shownValue f archive tables context limit v))
+      ≡ textUses provider (textAt f archive tables context limit (textIn v))
+  unfolding shownValue shownText resolved
+  value-uses provider (ScalarValue s) = sym (no-use provider (partOf archive 0 0) (part-inside archive 0 0 (omega arith) .1))
+  value-uses provider (TextValue r) = refl
+
+  -- arguments use what their references do
+  arguments-uses : (provider : Option ℕ) (l : List ReadArgument)
+      → argumentsUses provider (argumentsAt f archive tables context limit l)
+      ≡ lookupsUses f archive tables provider context limit (argumentLookups l)
+  unfolding shownReferent
+  arguments-uses provider [] = refl
+  arguments-uses provider (a ∷ l) = rw (value-uses provider (a .value), arguments-uses provider l)
+
+  -- a text is shown as unresolved where what was looked up for it is not known
+  text-unresolved : (r : Resolved) → isUnresolved (textItem archive (shownText r)) ≡ unresolvedIn r
+  unfolding shownText unresolvedIn
+  text-unresolved Bad = refl
+  text-unresolved (Known place long) = refl
+  text-unresolved (Unresolved index) = refl
+
+  -- and so is whatever a record refers to
+  referent-unresolved : (l : Lookup) → referentUnresolved (referentAt f archive tables context limit l) ≡ unresolvedIn (lookedUp f archive tables context limit l)
+  unfolding shownReferent shownThread shownText unresolvedIn
+  referent-unresolved l = cases (eqb (l .table) 3) (λ e. rw e (of-thread (lookedUp f archive tables context limit l)))
+      (λ e. rw e (of-text (lookedUp f archive tables context limit l)))
+    where
+      of-thread : (r : Resolved) → referentUnresolved (referentItem archive (shownReferent archive 3 r)) ≡ unresolvedIn r
+      of-thread Bad = refl
+      of-thread (Known place long) = refl
+      of-thread (Unresolved index) = refl
+
+      of-text : (r : Resolved) → referentUnresolved (referentItem archive (shownReferent archive 2 r)) ≡ unresolvedIn r
+      of-text Bad = refl
+      of-text (Known place long) = refl
+      of-text (Unresolved index) = refl
+
+  -- a value is unresolved where its text is; the empty text that stands for none is known
+  value-unresolved : (v : ReadValue)
+      → valueUnresolved (valueItem archive (shownValue f archive tables context limit v))
+      ≡ unresolvedIn (resolved f archive tables context 2 limit (textIn v))
+  unfolding shownValue resolved unresolvedIn
+  value-unresolved (ScalarValue s) = refl
+  value-unresolved (TextValue reference) = text-unresolved (resolved f archive tables context 2 limit reference)
+
+  -- arguments are unresolved where one of their references is
+  arguments-unresolved : (l : List ReadArgument)
+      → argumentsUnresolved (argumentsAt f archive tables context limit l) ≡ anyUnresolved f archive tables context limit (argumentLookups l)
+  unfolding anyUnresolved
+  arguments-unresolved [] = refl
+  arguments-unresolved (a ∷ l) =
+      rw (
+        text-unresolved (resolved f archive tables context 2 limit (a .name)),
+        value-unresolved (a .value),
+        arguments-unresolved l,
+      )
+
+  -- the words of a value are those of what was read
+  value-words-at : (v : ReadValue) → valueWords (valueItem archive (shownValue f archive tables context limit v)) ≡ wordsIn v
+  unfolding shownValue wordsIn
+  value-words-at (ScalarValue s) = refl
+  value-words-at (TextValue reference) = refl
+
+  -- and so are those of arguments
+  words-at : (l : List ReadArgument) → argumentsWords (argumentsAt f archive tables context limit l) ≡ wordsRead l
+  unfolding wordsRead
+  words-at [] = refl
+  words-at (a ∷ l) = rw (value-words-at (a .value), words-at l)
+
+-- ---- a record by the list of its references
+
+-- it uses what they do
+pub report-uses : (f : Format) (archive tables : List ℕ) (s : State) (r : ReadReport) (next : ℕ)
+    → usesOf (report (reportAt f archive tables s r next))
+    ≡ lookupsUses f archive tables (providerItem (providerOf s)) (s .current) (s .place) (reportLookups f archive r next)
+unfolding reportAt
+report-uses f archive tables s r next =
+    rw (arguments-uses f archive tables (s .current) (s .place) (providerItem (providerOf s)) (argumentsTo f archive r next))
+
+-- it is unresolved where one of them is
+pub report-unresolved : (f : Format) (archive tables : List ℕ) (s : State) (r : ReadReport) (next : ℕ)
+    → itemUnresolved (some (report (reportAt f archive tables s r next))) ≡ reportUnresolved f archive tables s r next
+unfolding reportAt anyUnresolved
+report-unresolved f archive tables s r next =
+    let one = referent-unresolved f archive tables (s .current) (s .place) in
+    rw (
+      one (r .first),
+      one (r .second),
+      one (r .third),
+      arguments-unresolved f archive tables (s .current) (s .place) (argumentsTo f archive r next),
+    )
+
+-- the words of a stream that stands in the archive
+stream-words : (archive : List ℕ) (from to : ℕ) (r : Reference) → Inside from to r → to ≤ length archive
+    → inlineBytes r / 8 ≡ streamWords (length (streamItem archive (shownStream r)))
+unfolding shownStream
+stream-words archive from to (Inline place long) i h = rw (part-inside archive place long (omega (arith, i .1)) .1) (omega arith)
+stream-words archive from to (Index index) i h = rw (part-inside archive 0 0 (omega arith) .1)
+
+-- its words are those of its kind, of its stream and of its arguments
+pub report-words : (f : Format) (archive tables : List ℕ) (s : State) (r : ReadReport) (next from to : ℕ) → Inside from to (r .stream)
+    → to ≤ length archive
+    → 1 + length (ownWords (r .own)) + inlineBytes (r .stream) / 8 + wordsRead (argumentsTo f archive r next) + ownBehind (r .own)
+    ≡ reportWords f archive tables s r next
+unfolding reportAt
+report-words f archive tables s r next from to i h =
+    omega (
+      arith,
+      stream-words archive from to (r .stream) i h,
+      words-at f archive tables (s .current) (s .place) (argumentsTo f archive r next),
+      length-last (ownBehind (r .own)) (r .last) (behind-few (r .own)),
+    )

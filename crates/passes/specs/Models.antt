@@ -1,0 +1,5 @@
+pub mod Codes
+pub mod Follow
+pub mod Item
+pub mod Known
+pub mod Last

@@ -1,0 +1,331 @@
+-- What is read of a record of bytes fits the fields that it is read from, and has the size that its layout says: ids, rates, lengths of texts, numbers
+-- of arguments. What is asked of a kind of record, read or written, is `OwnSuits`. Assumes nothing.
+use Prim.Native.Nat.{ℕ, _+_, _-_, _*_, _^_, _≤_, _<_}
+use mathlib.Core.Path.{_≡_, refl, sym, subst}
+use mathlib.Core.List.{[], List, _∷_}
+use mathlib.Core.Bool.{true, true≢false}
+use native.Mathlib.Omega.{arith}
+use borrow.Author.Tests.{ltb-false, eqb-false, leb-true}
+use lib.Dec.{eqb, ltb}
+use lib.ListN.{length, take, drop}
+use lib.Seq.{length-take-le}
+use Rattle.words.proofs.Tests.{on-pick, cases}
+use Rattle.words.specs.Word.{wordAt, field}
+use Rattle.words.specs.Stream.{streamWords}
+use Rattle.words.proofs.Words.{AllBytes, bytes-left, bytes-before, wordAt-lt}
+use Rattle.format.specs.declared.Format.{Format}
+use Rattle.format.specs.declared.Reference.{Reference}
+use Rattle.format.specs.declared.Reference.the-variants.{Inline, Index}
+use Rattle.format.specs.declared.Taken.{Taken}
+use Rattle.format.specs.declared.Taken.the-variants.{Refused as PartRefused, Part as PartRead}
+use Rattle.format.specs.declared.Extent.{Extent}
+use Rattle.format.specs.declared.Extent.the-variants.{Refused as ExtentRefused, Bytes}
+use Rattle.format.specs.Header.{recordWords, extentOf}
+use Rattle.format.specs.declared.Part.{Part}
+use Rattle.format.specs.declared.Part.the-variants.{Words as words, Stream as stream, Text as text, Thread as thread}
+use Rattle.format.specs.Part.{takeWords, takeStream, takeText, takeThread, takePart, Body, refused as bodyRefused, body, prepend, onTaken, takeParts, tableOf}
+use Rattle.format.proofs.Headers.{extent-read}
+use Rattle.arguments.specs.declared.Argument.{Argument}
+use Rattle.arguments.proofs.Bounds.{TextShort, TakenShort, text-short}
+use Rattle.records.specs.declared.Event.{Event}
+use Rattle.records.specs.declared.Report.{Report}
+use Rattle.records.specs.declared.Layout.{Layout}
+use Rattle.records.specs.declared.Fields.{Fields}
+use Rattle.records.specs.declared.Fields.the-variants.{Refused as FieldsRefused, Fields as FieldsRead}
+use Rattle.records.specs.declared.Last.{Last}
+use Rattle.records.specs.declared.Last.the-variants.{Refused as LastRefused, Word}
+use Rattle.records.specs.declared.Content.{Content}
+use Rattle.records.specs.declared.Content.the-variants.{Refused, Magic, ProviderInfo, Section, ProviderEvent, Initialization, String, Thread, Report as ReportRead, Ignored, Skipped}
+use Rattle.records.specs.Layout.{isReport, layoutOf, layoutParts, ownOf, fieldsOf, takeFields, lastWord, reportRead}
+use Rattle.records.specs.Record.{contentOf, onExtent, recordOf, recordAt}
+use Rattle.records.specs.Item.{ownWords, ownBehind}
+use Rattle.records.proofs.Contents.{ReportIs, ContentIs, refused as isRefused, magic as isMagic, providerInfo as isProviderInfo, section as isSection, providerEvent as isProviderEvent}
+use Rattle.records.proofs.Contents.{initialization as isInitialization, string as isString, thread as isThread, report as isReportRead, ignored as isIgnored, skipped as isSkipped, content-is}
+
+-- the bytes of a reference that stand inline
+abbrev pub lengthOf : Reference → ℕ
+lengthOf (Inline place n) = n
+lengthOf (Index i) = 0
+
+-- an inline text is no longer than its reference says
+abbrev pub TakenLow : ℕ → Taken → Type 0
+TakenLow r (PartRefused number) = Unit {0}
+TakenLow r (PartRead x next) = lengthOf x ≤ r
+
+pub text-low : (f : Format) (r place end : ℕ) → TakenLow r (takeText f r place end)
+unfolding takeText takeStream
+text-low f r place end =
+    on-pick (TakenLow r) (eqb r 0) _ _ (λ e. omega arith)
+    (λ e. on-pick (TakenLow r) (ltb r 0x8000) _ _ (λ e. omega arith)
+    (λ e. on-pick (TakenLow r) (ltb (f .longest) (r - 0x8000)) _ _ (λ e. tt)
+    (λ e. on-pick (TakenLow r) (ltb end _) _ _ (λ e. tt) (λ e. omega arith))))
+
+-- a text and a stream are short enough, and a stream has the length that its header says
+abbrev PartShort : Format → Part → Reference → Type 0
+PartShort f (words n) x = Unit {0}
+PartShort f (stream n) x = (lengthOf x ≡ n) × (n ≤ f .longest)
+PartShort f (text r) x = TextShort f x × (lengthOf x ≤ r)
+PartShort f (thread r) x = Unit {0}
+
+abbrev TakenPart : Format → Part → Taken → Type 0
+TakenPart f p (PartRefused number) = Unit {0}
+TakenPart f p (PartRead x next) = PartShort f p x
+
+part-short : (f : Format) (p : Part) (place end : ℕ) → TakenPart f p (takePart f p place end)
+unfolding takePart takeStream
+part-short f (words n) place end = go (takeWords n place end)
+  where
+    go : (x : Taken) → TakenPart f (words n) x
+    go (PartRefused number) = tt
+    go (PartRead x next) = tt
+part-short f (stream n) place end =
+    on-pick (TakenPart f (stream n)) (ltb (f .longest) n) _ _ (λ e. tt)
+    (λ e. on-pick (TakenPart f (stream n)) (ltb end (place + 8 * streamWords n)) _ _ (λ q. tt) (λ q. (refl, ltb-false (f .longest) n e)))
+part-short f (text r) place end = go (takeText f r place end) (text-short f r place end) (text-low f r place end)
+  where
+    go : (x : Taken) → TakenShort f x → TakenLow r x → TakenPart f (text r) x
+    go (PartRefused number) h l = tt
+    go (PartRead x next) h l = (h, l)
+part-short f (thread r) place end = go (takeThread r place end)
+  where
+    go : (x : Taken) → TakenPart f (thread r) x
+    go (PartRefused number) = tt
+    go (PartRead x next) = tt
+
+abbrev AllShort : Format → List Part → List Reference → Type 0
+AllShort f [] [] = Unit {0}
+AllShort f [] (x ∷ xs) = ⊥
+AllShort f (p ∷ ps) [] = ⊥
+AllShort f (p ∷ ps) (x ∷ xs) = PartShort f p x × AllShort f ps xs
+
+abbrev BodyShort : Format → List Part → Body → Type 0
+BodyShort f ps (bodyRefused number) = Unit {0}
+BodyShort f ps (body xs next) = AllShort f ps xs
+
+parts-short : (f : Format) (ps : List Part) (place end : ℕ) → BodyShort f ps (takeParts f ps place end)
+unfolding takeParts
+parts-short f [] place end = tt
+parts-short f (p ∷ ps) place end = go (takePart f p place end) (part-short f p place end) (λ next. parts-short f ps next end)
+  where
+    with-first : (x : Reference) (b : Body) → PartShort f p x → BodyShort f ps b → BodyShort f (p ∷ ps) (prepend x b)
+    with-first x (bodyRefused number) h k = tt
+    with-first x (body xs next) h k = (h, k)
+
+    go : (t : Taken) → TakenPart f p t → ((next : ℕ) → BodyShort f ps (takeParts f ps next end))
+        → BodyShort f (p ∷ ps) (onTaken t (λ x next. prepend x (takeParts f ps next end)))
+    go (PartRefused number) h k = tt
+    go (PartRead x next) h k = with-first x (takeParts f ps next end) h (k next)
+
+abbrev FieldsBound : Format → Layout → Fields → Type 0
+FieldsBound f l (FieldsRefused number) = Unit {0}
+FieldsBound f l (FieldsRead a b c s next) = PartShort f (l .first) a × PartShort f (l .second) b × PartShort f (l .third) c × PartShort f (l .stream) s
+
+fields-bound : (f : Format) (l : Layout) (place end : ℕ) → FieldsBound f l (takeFields f l place end)
+unfolding takeFields
+fields-bound f l place end = go (takeParts f (layoutParts l) place end) (parts-short f (layoutParts l) place end)
+  where
+    go : (b : Body) → BodyShort f (layoutParts l) b → FieldsBound f l (fieldsOf b)
+    go (bodyRefused number) k = tt
+    go (body [] next) k = absurd k
+    go (body (w ∷ []) next) k = absurd (k .1)
+    go (body (w ∷ a ∷ []) next) k = absurd (k .1 .1)
+    go (body (w ∷ a ∷ b ∷ []) next) k = absurd (k .1 .1 .1)
+    go (body (w ∷ a ∷ b ∷ c ∷ []) next) k = absurd (k .1 .1 .1 .1)
+    go (body (w ∷ a ∷ b ∷ c ∷ s ∷ xs) next) k = (k .1 .0, k .1 .1 .0, k .1 .1 .1 .0, k .1 .1 .1 .1 .0)
+
+-- the last word fits, and is 0 where there is none
+abbrev LastBound : ℕ → Last → Type 0
+LastBound behind (LastRefused number) = Unit {0}
+LastBound behind (Word last) = (last < 2 ^ 64) × (behind ≡ 0 → last ≡ 0)
+
+last-bound : (source : List ℕ) (place at behind : ℕ) → AllBytes source → LastBound behind (lastWord source place at behind)
+unfolding lastWord
+last-bound source place at behind bytes =
+    on-pick (LastBound behind) (ltb (place + length source) (at + 8 * behind)) _ _ (λ e. tt)
+    (λ e. on-pick (LastBound behind) (eqb behind 0) _ _ (λ q. (omega arith, λ z. refl))
+    (λ q. (wordAt-lt source (at - place) bytes, λ z. absurd (eqb-false behind 0 q z))))
+
+-- what is asked of a kind, whatever the indexes are: of its own values, the tables of its three referents, the length of its stream and its number of
+-- arguments. An event has a type up to 10, a thread and two texts, no stream, at most 15 arguments.
+pub record OwnSuits (own : Event) (a b c long count : ℕ) : Type 0 where
+  pub type : own .variant ≤ 10
+  pub timestamp : own .timestamp < 2 ^ 64
+  pub first : a ≡ 3
+  pub second : b ≡ 2
+  pub third : c ≡ 2
+  pub stream : long ≡ 0
+  pub few : count ≤ 15
+
+-- what is known of a record that refers to texts and threads
+pub record ReportBound (f : Format) (r : Report) : Type 0 where
+  pub suits : OwnSuits (r .own) (r .first .table) (r .second .table) (r .third .table) (lengthOf (r .stream)) (r .count)
+  pub first : r .first .table ≡ 2 → TextShort f (r .first .reference)
+  pub second : r .second .table ≡ 2 → TextShort f (r .second .reference)
+  pub third : r .third .table ≡ 2 → TextShort f (r .third .reference)
+  pub stream : lengthOf (r .stream) ≤ f .longest
+  pub last : r .last < 2 ^ 64
+  pub no-last : ownBehind (r .own) ≡ 0 → r .last ≡ 0
+
+-- what a record holds fits the fields that it is read from
+abbrev pub ContentBound : Format → Content → Type 0
+ContentBound f (Refused number) = Unit {0}
+ContentBound f Magic = Unit {0}
+ContentBound f (ProviderInfo id at long) = (id < 2 ^ 32) × (long < 2 ^ 8) × (long ≤ f .longest)
+ContentBound f (Section id) = id < 2 ^ 32
+ContentBound f (ProviderEvent id e) = (id < 2 ^ 32) × (e < 2 ^ 4)
+ContentBound f (Initialization rate) = rate < 2 ^ 64
+ContentBound f (String index at long) = long ≤ f .longest
+ContentBound f (Thread index at) = Unit {0}
+ContentBound f (ReportRead r) = ReportBound f r
+ContentBound f Ignored = Unit {0}
+ContentBound f (Skipped type size) = Unit {0}
+
+-- an event
+low-type : (header : ℕ) → isReport header ≡ true → field 16 19 header ≤ 10
+unfolding isReport
+low-type header e = cases (eqb (field 0 3 header) 4) (λ q. leb-true (field 16 19 header) 10 (rw q at e)) (λ q. absurd (true≢false (sym (rw q at e))))
+
+-- the lengths of the texts that a record refers to inline, and of a string record's text, have 16 bits; a record has 15 arguments at most
+pub record ReportShort (r : Report) : Type 0 where
+  pub first : r .first .table ≡ 2 → lengthOf (r .first .reference) < 65536
+  pub second : r .second .table ≡ 2 → lengthOf (r .second .reference) < 65536
+  pub third : r .third .table ≡ 2 → lengthOf (r .third .reference) < 65536
+  pub few : r .count ≤ 15
+
+abbrev pub ContentShort : Content → Type 0
+ContentShort (Refused number) = Unit {0}
+ContentShort Magic = Unit {0}
+ContentShort (ProviderInfo id at long) = Unit {0}
+ContentShort (Section id) = Unit {0}
+ContentShort (ProviderEvent id e) = Unit {0}
+ContentShort (Initialization rate) = Unit {0}
+ContentShort (String index at long) = long < 65536
+ContentShort (Thread index at) = Unit {0}
+ContentShort (ReportRead r) = ReportShort r
+ContentShort Ignored = Unit {0}
+ContentShort (Skipped type size) = Unit {0}
+
+is-short : (f : Format) (source : List ℕ) (place : ℕ) (c : Content) → ContentIs f source place c → ContentShort c
+unfolding layoutOf tableOf
+is-short f source place _ (isRefused number n) = tt
+is-short f source place _ (isMagic e) = tt
+is-short f source place _ (isProviderInfo t k short room) = tt
+is-short f source place _ (isSection t k) = tt
+is-short f source place _ (isProviderEvent t k) = tt
+is-short f source place _ (isInitialization t room) = tt
+is-short f source place _ (isString t one low short room) = omega arith
+is-short f source place _ (isThread t one room) = tt
+is-short f source place _ (isReportRead a b c s first at last list is) =
+    let h = wordAt source 0 in
+    let k = subst (FieldsBound f (layoutOf h)) (is .fields) (fields-bound f (layoutOf h) (place + 8) (place + length source)) in
+    record { first = λ e. absurd (omega (arith, e)); second = λ e. omega (arith, k .1 .1); third = λ e. omega (arith, k .2 .1); few = omega arith }
+is-short f source place _ isIgnored = tt
+is-short f source place _ (isSkipped type small) = tt
+
+-- so is the record at every place of an archive
+pub record-short : (f : Format) (archive : List ℕ) (place : ℕ) → ContentShort (recordAt f archive place .content)
+unfolding recordOf
+record-short f archive place = go (extentOf (drop place archive)) refl
+  where
+    go : (x : Extent) → extentOf (drop place archive) ≡ x
+        → ContentShort
+        (onExtent x (λ number. record { content = Refused number; next = place })
+        (λ size. record { content = contentOf f (take size (drop place archive)) place; next = place + size }) .content)
+    go (ExtentRefused number) e = tt
+    go (Bytes size) e =
+        let source = take size (drop place archive) in
+        let w = extent-read (drop place archive) size e in
+        is-short f source place (contentOf f source place)
+        (content-is f source place (omega (arith, w .some, length-take-le size (drop place archive) (w .inside))))
+
+report-bound : (f : Format) (source : List ℕ) (place : ℕ) → AllBytes source → (a b c s : Reference) (first at last : ℕ) (list : List Argument)
+    → ReportIs f source place a b c s first at last list → ReportBound f (reportRead (layoutOf (wordAt source 0)) source a b c s first last)
+unfolding layoutOf ownOf tableOf
+report-bound f source place bytes a b c s first at last list is =
+    let h = wordAt source 0 in
+    let k = subst (FieldsBound f (layoutOf h)) (is .fields) (fields-bound f (layoutOf h) (place + 8) (place + length source)) in
+    let z = subst (LastBound (layoutOf h .behind)) (is .last-is) (last-bound source place at (layoutOf h .behind) bytes) in
+    record {
+      suits = record {
+        type = low-type h (is .kind);
+        timestamp = wordAt-lt source 8 bytes;
+        first = refl;
+        second = refl;
+        third = refl;
+        stream = k .3 .0;
+        few = omega arith;
+      };
+      first = λ e. absurd (omega (arith, e));
+      second = λ e. k .1 .0;
+      third = λ e. k .2 .0;
+      stream = omega (arith, k .3);
+      last = z .0;
+      no-last = z .1;
+    }
+
+-- every content of a record of bytes is so
+is-bound : (f : Format) (source : List ℕ) (place : ℕ) → AllBytes source → (c : Content) → ContentIs f source place c → ContentBound f c
+is-bound f source place bytes _ (isRefused number n) = tt
+is-bound f source place bytes _ (isMagic e) = tt
+is-bound f source place bytes _ (isProviderInfo t k short room) = (omega arith, omega arith, short)
+is-bound f source place bytes _ (isSection t k) = omega arith
+is-bound f source place bytes _ (isProviderEvent t k) = (omega arith, omega arith)
+is-bound f source place bytes _ (isInitialization t room) = wordAt-lt source 8 bytes
+is-bound f source place bytes _ (isString t one low short room) = short
+is-bound f source place bytes _ (isThread t one room) = tt
+is-bound f source place bytes _ (isReportRead a b c s first at last list is) = report-bound f source place bytes a b c s first at last list is
+is-bound f source place bytes _ isIgnored = tt
+is-bound f source place bytes _ (isSkipped type small) = tt
+
+pub content-bound : (f : Format) (source : List ℕ) (place : ℕ) → AllBytes source → 8 ≤ length source → ContentBound f (contentOf f source place)
+content-bound f source place bytes h = is-bound f source place bytes (contentOf f source place) (content-is f source place h)
+
+-- and so is the record at every place of an archive of bytes
+pub record-bound : (f : Format) (archive : List ℕ) (place : ℕ) → AllBytes archive → ContentBound f (recordAt f archive place .content)
+unfolding recordOf
+record-bound f archive place bytes = go (extentOf (drop place archive)) refl
+  where
+    go : (x : Extent) → extentOf (drop place archive) ≡ x
+        → ContentBound f
+        (onExtent x (λ number. record { content = Refused number; next = place })
+        (λ size. record { content = contentOf f (take size (drop place archive)) place; next = place + size }) .content)
+    go (ExtentRefused number) e = tt
+    go (Bytes size) e =
+        let w = extent-read (drop place archive) size e in
+        content-bound f (take size (drop place archive)) place (bytes-before size (drop place archive) (bytes-left place archive bytes))
+        (omega (arith, w .some, length-take-le size (drop place archive) (w .inside)))
+
+-- ---- a skipped record has the size that is shown of it
+
+-- where a content is a skipped record's, its size is that of its header; the words of a kind are those of its layout
+abbrev pub SizeShown : List ℕ → Content → Type 0
+SizeShown source (Refused number) = Unit {0}
+SizeShown source Magic = Unit {0}
+SizeShown source (ProviderInfo id at long) = Unit {0}
+SizeShown source (Section id) = Unit {0}
+SizeShown source (ProviderEvent id event) = Unit {0}
+SizeShown source (Initialization rate) = Unit {0}
+SizeShown source (String index at long) = Unit {0}
+SizeShown source (Thread index at) = Unit {0}
+SizeShown source (ReportRead r) =
+    (length (ownWords (r .own)) ≡ layoutOf (wordAt source 0) .words) × (ownBehind (r .own) ≡ layoutOf (wordAt source 0) .behind)
+SizeShown source Ignored = Unit {0}
+SizeShown source (Skipped type size) = size ≡ recordWords (wordAt source 0)
+
+is-size : (f : Format) (source : List ℕ) (place : ℕ) (c : Content) → ContentIs f source place c → SizeShown source c
+unfolding layoutOf ownOf
+is-size f source place _ (isRefused number n) = tt
+is-size f source place _ (isMagic e) = tt
+is-size f source place _ (isProviderInfo t k short room) = tt
+is-size f source place _ (isSection t k) = tt
+is-size f source place _ (isProviderEvent t k) = tt
+is-size f source place _ (isInitialization t room) = tt
+is-size f source place _ (isString t one low short room) = tt
+is-size f source place _ (isThread t one room) = tt
+is-size f source place _ (isReportRead a b c s first at last list is) = (refl, refl)
+is-size f source place _ isIgnored = tt
+is-size f source place _ (isSkipped type small) = refl
+
+-- every content of a record is so
+pub size-shown : (f : Format) (source : List ℕ) (place : ℕ) → 8 ≤ length source → SizeShown source (contentOf f source place)
+size-shown f source place h = is-size f source place (contentOf f source place) (content-is f source place h)

@@ -1,0 +1,17 @@
+-- `records::layout_of` meets its contract: each answer is what the definition gives under the tests that led there. Assumes nothing.
+use Rattle.records.specs.Layout.{layoutOf}
+use borrow.Author.Needs.{needs}
+use Rattle.records.proofs.layout_of.Statement.{statement}
+use Rattle.records.proofs.layout_of.Tie as tie
+
+returns : tie.Need-returns
+unfolding layoutOf
+returns c =
+    let field2 = c .before .before .before .before .field2 in
+    let field = c .before .before .before .before .before .field in
+    simp (← c .extra-words .ensures, ← c .before .field5 .ensures, ← c .before .before .field4 .ensures, ← c .before .before .before .field3 .ensures, ← field2 .ensures, ← field .ensures)
+
+pub layout-of-spec : {M : Type 1} → statement M
+layout-of-spec =
+    tie.close (tie.spec (λ c κs. search needs) (λ c κs. search needs) (λ c κs. search needs) (λ c κs. search needs) (λ c κs. search needs)
+    (λ c κs. search needs) returns)

@@ -1,0 +1,266 @@
+-- Registrations as the second pass writes them before a record: that of one key, of what a reference stands for, and those of the references of a
+-- record one behind the other. Assumes nothing.
+use Prim.Native.Nat.{ℕ, _+_, _-_, _^_, _<_, _≤_}
+use mathlib.Core.Path.{_≡_, refl, sym, ap, subst, _∙_}
+use mathlib.Core.List.{List, [], _∷_, _++_, append-nil}
+use native.Mathlib.Omega.{arith}
+use borrow.Author.Tests.{eq-eqb, ne-eqb}
+use lib.ListN.{length, take, drop, length-append, take-append-drop}
+use Rattle.tally.specs.Models.Slots.{labelOf, keyOf, findOf}
+use Rattle.indexing.specs.Models.Indexes.{newIndex, indexed}
+use Rattle.encoding.specs.Encoded.{stringRecord, threadRecord}
+use Rattle.words.specs.Word.{wordAt}
+use Rattle.words.specs.Stream.{written, partOf}
+use Rattle.words.proofs.Streams.{written-written, length-written}
+use Rattle.format.specs.declared.Format.{Format}
+use Rattle.records.specs.declared.Lookup.{Lookup}
+use Rattle.records.specs.declared.Report.{Report}
+use Rattle.records.specs.Item.{thread}
+use Rattle.records.specs.Lookups.{reportLookups}
+use Rattle.contexts.specs.declared.State.{State}
+use Rattle.tables.specs.declared.Resolved.{Resolved}
+use Rattle.tables.specs.declared.Resolved.the-variants.{Bad, Known, Unresolved}
+use Rattle.tables.specs.Table.{tableWords, lookedUp}
+use Rattle.encoding.proofs.Parts.{nothing-written}
+use Rattle.passes.proofs.Rooms.{tables-stay, slots-stand}
+use Rattle.second_pass.specs.Models.Write.{tablesIn, slotsIn, registrationBytes, givenIndex, givenSlots, knownBytes, givenBytes, lookupsGivenSlots, lookupsGivenBytes, registeredRoom, registeredBytes, reportGivenSlots, reportGivenBytes, reportBytes, reportIn}
+use Rattle.second_pass.specs.Models.Fits.{RegistrationFits, GivenFits, CanLookUp, LookupsFitIn, ReportFits, ReportFitsIn}
+
+-- ---- the registration of a key
+
+-- without an index there is none
+pub registration-none : (table index : ℕ) (bytes : List ℕ) → index ≡ 0 → registrationBytes table index bytes ≡ []
+unfolding registrationBytes
+registration-none table index bytes z = rw (eq-eqb index 0 z)
+
+-- that of a thread, from its two words
+pub registration-thread : (table index : ℕ) (bytes : List ℕ) (first second : ℕ) → (index ≡ 0 → ⊥) → table ≡ 3 → first ≡ wordAt bytes 0
+    → second ≡ wordAt bytes 8 → registrationBytes table index bytes ≡ threadRecord index (thread first second)
+unfolding registrationBytes
+registration-thread table index bytes first second some k a b = rw (ne-eqb index 0 some, eq-eqb table 3 k, a, b)
+
+-- that of a text
+pub registration-text : (table index : ℕ) (bytes : List ℕ) → (index ≡ 0 → ⊥) → (table ≡ 3 → ⊥)
+    → registrationBytes table index bytes ≡ stringRecord index bytes
+unfolding registrationBytes
+registration-text table index bytes some k = rw (ne-eqb index 0 some, ne-eqb table 3 k)
+
+-- ---- what a reference stands for
+
+-- the room, the output and the place right behind it, where what a reference stands for is registered if it is to be
+abbrev pub Given : Format → (archive room out : List ℕ) → (at context table : ℕ) → Resolved → (after now : List ℕ) → ℕ → Type 0
+Given f archive room out at context table r after now next =
+    (after ≡ take (tableWords f) room ++ givenSlots f archive (drop (tableWords f) room) context table r)
+    × ((now ≡ written out at (givenBytes f archive (drop (tableWords f) room) context table r))
+    × (next ≡ at + length (givenBytes f archive (drop (tableWords f) room) context table r)))
+
+module _ (f : Format) (archive room out : List ℕ) (at context table : ℕ) (r : Resolved) where
+  -- nothing is registered without an index
+  given-none : givenSlots f archive (drop (tableWords f) room) context table r ≡ drop (tableWords f) room
+      → givenIndex f archive (drop (tableWords f) room) context table r ≡ 0 → Given f archive room out at context table r room out at
+  given-none same z =
+      let index = givenIndex f archive (drop (tableWords f) room) context table r in
+      let none : givenBytes f archive (drop (tableWords f) room) context table r ≡ [] = registration-none table index (knownBytes archive r) z in (
+        rw same (sym (take-append-drop (tableWords f) room)),
+        (rw none (nothing-written out at), omega (arith, ap length none)),
+      )
+
+  -- nothing is registered for a bad reference
+  pub given-bad : r ≡ Bad → Given f archive room out at context table r room out at
+  unfolding givenSlots givenIndex
+  given-bad e = given-none (rw e) (rw e)
+
+  -- nor for one that is not resolved
+  pub given-unresolved : (index : ℕ) → r ≡ Unresolved index → Given f archive room out at context table r room out at
+  unfolding givenSlots givenIndex
+  given-unresolved index e = given-none (rw e) (rw e)
+
+  -- nor for an empty text
+  pub given-empty : (place long : ℕ) → r ≡ Known place long → long ≡ 0 → Given f archive room out at context table r room out at
+  unfolding givenSlots givenIndex
+  given-empty place long e z = given-none (rw (e, eq-eqb long 0 z)) (rw (e, eq-eqb long 0 z))
+
+-- what is known, with its label, the index that it gets now and its bytes
+pub record Indexed (f : Format) (archive slots : List ℕ) (context table : ℕ) (r : Resolved) (place long label index : ℕ) (bytes : List ℕ) : Type 0 where
+  pub known : r ≡ Known place long
+  pub some : long ≡ 0 → ⊥
+  pub labelled : label ≡ labelOf context table long
+  pub given : index ≡ newIndex (tableWords f) slots label (findOf archive (tableWords f) slots (keyOf archive place label))
+  pub is : bytes ≡ partOf archive place long
+
+module _ (f : Format) (archive slots : List ℕ) (context table : ℕ) (r : Resolved) (place long label index : ℕ) (bytes : List ℕ)
+    (i : Indexed f archive slots context table r place long label index bytes)
+  where
+    -- it is registered under that index
+    index-is : givenIndex f archive slots context table r ≡ index
+    unfolding givenIndex
+    index-is = rw (i .known, ne-eqb long 0 (i .some), ← i .labelled) (sym (i .given))
+
+    -- with these bytes
+    bytes-are : knownBytes archive r ≡ bytes
+    bytes-are = rw (i .known) (sym (i .is))
+
+    -- and the slots are changed
+    slots-are : (after : List ℕ) → after ≡ indexed (tableWords f) slots label (findOf archive (tableWords f) slots (keyOf archive place label))
+        → givenSlots f archive slots context table r ≡ after
+    unfolding givenSlots
+    slots-are after e = rw (i .known, ne-eqb long 0 (i .some), ← i .labelled) (sym e)
+
+    -- its registration fits where what is given fits
+    pub registration-fits : (at size : ℕ) → GivenFits f archive slots context table r → at + length (givenBytes f archive slots context table r) ≤ size
+        → RegistrationFits table index bytes × (at + length (registrationBytes table index bytes) ≤ size)
+    registration-fits at size g h = rw (← index-is, ← bytes-are) (g, h)
+
+-- where it is written under its index, it is registered
+pub given-known : (f : Format) (archive room out : List ℕ) (at context table : ℕ) (r : Resolved) (place long label index : ℕ) (bytes slots after now : List ℕ)
+    (next : ℕ)
+    → Indexed f archive (drop (tableWords f) room) context table r place long label index bytes
+    → slots
+    ≡ indexed (tableWords f) (drop (tableWords f) room) label
+    (findOf archive (tableWords f) (drop (tableWords f) room) (keyOf archive place label))
+    → after ≡ take (tableWords f) room ++ slots → now ≡ written out at (registrationBytes table index bytes)
+    → next ≡ at + length (registrationBytes table index bytes) → Given f archive room out at context table r after now next
+given-known f archive room out at context table r place long label index bytes slots after now next i s a w n =
+    let old = drop (tableWords f) room in
+    rw (
+      slots-are f archive old context table r place long label index bytes i slots s,
+      index-is f archive old context table r place long label index bytes i,
+      bytes-are f archive old context table r place long label index bytes i,
+    ) (a, (w, n))
+
+-- ---- references one behind the other
+
+-- the room, the output and the place right behind, where what references stand for is registered
+abbrev pub Registered : Format → List ℕ → (context limit : ℕ) → List Lookup → (room out : List ℕ) → ℕ → (after now : List ℕ) → ℕ → Type 0
+Registered f archive context limit ls room out at after now next =
+    (after ≡ registeredRoom f archive room context limit ls)
+    × ((now ≡ written out at (registeredBytes f archive room context limit ls)) × (next ≡ at + length (registeredBytes f archive room context limit ls)))
+
+-- one reference
+pub one-registered : (f : Format) (archive room out : List ℕ) (at context limit : ℕ) (l : Lookup) (after now : List ℕ) (next : ℕ)
+    → Given f archive room out at context (l .table) (lookedUp f archive (tablesIn f room) context limit l) after now next
+    → Registered f archive context limit (l ∷ []) room out at after now next
+one-registered f archive room out at context limit l after now next g =
+    rw (append-nil (givenBytes f archive (slotsIn f room) context (l .table) (lookedUp f archive (tablesIn f room) context limit l))) g
+
+module _ (f : Format) (archive : List ℕ) (context limit : ℕ) (whole : List Lookup) (room₀ out₀ : List ℕ) (start : ℕ) where
+  -- where references are registered one behind the other: with those that are left registered too, from here, all are
+  pub record Registering (left : List Lookup) (room out : List ℕ) (at : ℕ) : Type 0 where
+    pub tables : tablesIn f room ≡ tablesIn f room₀
+    pub long : length room ≡ length room₀
+    pub out-long : length out ≡ length out₀
+    pub slots : lookupsGivenSlots f archive (tablesIn f room₀) context limit (slotsIn f room₀) whole
+        ≡ lookupsGivenSlots f archive (tablesIn f room) context limit (slotsIn f room) left
+    pub bytes : written out₀ start (registeredBytes f archive room₀ context limit whole) ≡ written out at (registeredBytes f archive room context limit left)
+    pub behind : start + length (registeredBytes f archive room₀ context limit whole) ≡ at + length (registeredBytes f archive room context limit left)
+    pub fits : LookupsFitIn f archive room context limit left
+    pub space : at + length (registeredBytes f archive room context limit left) ≤ length out
+
+  -- at the start all are left
+  pub registering-starts : LookupsFitIn f archive room₀ context limit whole → start + length (registeredBytes f archive room₀ context limit whole) ≤ length out₀
+      → Registering whole room₀ out₀ start
+  registering-starts fits space =
+      record { tables = refl; long = refl; out-long = refl; slots = refl; bytes = refl; behind = refl; fits = fits; space = space }
+
+  -- the same list of those that are left
+  pub registering-as : {left left′ : List Lookup} {room out : List ℕ} {at : ℕ} → left ≡ left′ → Registering left room out at → Registering left′ room out at
+  registering-as {room = room} {out} {at} e g = subst (λ (ls : List Lookup). Registering ls room out at) e g
+
+  -- once those that are left are registered, all are
+  pub registering-ends : {left : List Lookup} {room out : List ℕ} {at : ℕ} {after now : List ℕ} {next : ℕ} → Registering left room out at
+      → Registered f archive context limit left room out at after now next → Registered f archive context limit whole room₀ out₀ start after now next
+  registering-ends {left} {room} g r =
+      (r .0 ∙ rw (g .slots, g .tables), (r .1 .0 ∙ sym (g .bytes), r .1 .1 ∙ sym (g .behind)))
+
+  -- where none is left, all are
+  pub registering-done : {room out : List ℕ} {at : ℕ} → Registering [] room out at → Registered f archive context limit whole room₀ out₀ start room out at
+  registering-done {room} {out} {at} g =
+      registering-ends g (sym (take-append-drop (tableWords f) room), (nothing-written out at, omega arith))
+
+  module _ {l : Lookup} {more : List Lookup} {room out : List ℕ} {at : ℕ} (g : Registering (l ∷ more) room out at) where
+    -- the bytes of the next
+    abbrev next-bytes : List ℕ
+    next-bytes = givenBytes f archive (slotsIn f room) context (l .table) (lookedUp f archive (tablesIn f room) context limit l)
+
+    -- the slots after it
+    abbrev next-slots : List ℕ
+    next-slots = givenSlots f archive (slotsIn f room) context (l .table) (lookedUp f archive (tablesIn f room) context limit l)
+
+    -- and the bytes of the others
+    abbrev others : List ℕ
+    others = lookupsGivenBytes f archive (tablesIn f room) context limit next-slots more
+
+    -- the next fits
+    pub next-fits : LookupsFitIn f archive room context limit (l ∷ [])
+        × (at + length (registeredBytes f archive room context limit (l ∷ [])) ≤ length out)
+    next-fits =
+        ((g .fits .0, tt), rw (append-nil next-bytes) (omega (arith, g .space, length-append next-bytes others)))
+
+    -- once it is registered the others are left
+    pub registering-next : {after now : List ℕ} {next : ℕ} → Registered f archive context limit (l ∷ []) room out at after now next
+        → tableWords f ≤ length room₀ → length after ≡ length room → Registering more after now next
+    registering-next {after} {now} {next} r wide same =
+        let tables-are : tablesIn f after ≡ tablesIn f room = tables-stay (tableWords f) room next-slots after (omega (arith, g .long)) (r .0) in
+        let slots-are : slotsIn f after ≡ next-slots = slots-stand (tableWords f) room next-slots after (omega (arith, g .long)) (r .0) in
+        let bytes-are : now ≡ written out at next-bytes = r .1 .0 ∙ rw (append-nil next-bytes) in
+        let place-is : next ≡ at + length next-bytes = r .1 .1 ∙ rw (append-nil next-bytes) in
+        let sum = length-append next-bytes others in
+        let now-long : length now ≡ length out = ap length bytes-are ∙ length-written out at next-bytes (omega (arith, g .space, sum)) in
+        record {
+          tables = tables-are ∙ g .tables;
+          long = same ∙ g .long;
+          out-long = now-long ∙ g .out-long;
+          slots = g .slots ∙ rw (tables-are, slots-are);
+          bytes = g .bytes ∙ rw (tables-are, slots-are, bytes-are, place-is) (sym (written-written out at next-bytes others (omega (arith, g .space, sum))));
+          behind = rw (tables-are, slots-are) (omega (arith, g .behind, place-is, sum));
+          fits = rw (tables-are, slots-are) (g .fits .1);
+          space = rw (tables-are, slots-are) (omega (arith, g .space, place-is, sum, now-long));
+        }
+
+-- ---- a record behind its registrations
+
+module _ (f : Format) (archive room out : List ℕ) (at : ℕ) (s : State) (r : Report) (next : ℕ) (after now : List ℕ) (end : ℕ) (wide : tableWords f ≤ length room)
+    (space : at
+    + length
+    (reportGivenBytes f archive (tablesIn f room) (slotsIn f room) s r next
+    ++ reportBytes f archive (tablesIn f room) (reportGivenSlots f archive (tablesIn f room) (slotsIn f room) s r next) s r next)
+    ≤ length out)
+    (g : Registered f archive (s .current) (s .place) (reportLookups f archive r next) room out at after now end)
+  where
+    -- the slots after the registrations, and their bytes
+    abbrev slots : List ℕ
+    slots = reportGivenSlots f archive (tablesIn f room) (slotsIn f room) s r next
+
+    abbrev given : List ℕ
+    given = reportGivenBytes f archive (tablesIn f room) (slotsIn f room) s r next
+
+    -- the record's bytes
+    abbrev body : List ℕ
+    body = reportBytes f archive (tablesIn f room) slots s r next
+
+    -- the tables are as they were
+    kept : tablesIn f after ≡ tablesIn f room
+    kept = tables-stay (tableWords f) room slots after wide (g .0)
+
+    -- and the slots are those after the registrations
+    changed : slotsIn f after ≡ slots
+    changed = slots-stand (tableWords f) room slots after wide (g .0)
+
+    -- it fits
+    pub record-fits : length now ≡ length out → ReportFits f archive (tablesIn f room) slots s r next
+        → ReportFitsIn f archive after s r next × (end + length (reportIn f archive after s r next) ≤ length now)
+    record-fits same fit = rw (kept, changed) (fit, omega (arith, length-append given body, g .1 .1))
+
+    -- and once it is written, both are
+    pub record-written : (then : List ℕ) (last : ℕ) → then ≡ written now end (reportIn f archive after s r next)
+        → last ≡ end + length (reportIn f archive after s r next)
+        → (after ≡ tablesIn f room ++ slots) × ((then ≡ written out at (given ++ body)) × (last ≡ at + length (given ++ body)))
+    record-written then last w n =
+        let w′ : then ≡ written now end body = rw (kept, changed) at w in
+        let n′ : last ≡ end + length body = rw (kept, changed) at n in (
+          g .0,
+          (
+            w′ ∙ rw (g .1 .0, g .1 .1) (written-written out at given body (omega (arith, length-append given body))),
+            omega (arith, length-append given body, g .1 .1),
+          ),
+        )

@@ -1,0 +1,143 @@
+-- `put_argument` meets its contract: what is written for the name and the value as they are spelled is the argument (scalar-argument, text-argument).
+use native.Mathlib.Omega.{arith}
+use mathlib.Core.Path.{refl, sym, ap, subst}
+use lib.ListN.{length}
+use Rattle.records.specs.Lookups.{textLookup}
+use Rattle.second_pass.specs.Models.Write.{tablesIn, slotsIn}
+use Rattle.second_pass.specs.Models.Fits.{ValueLow, TextShort}
+use Rattle.second_pass.proofs.Spelling.{scalar-argument, text-argument}
+use borrow.Author.Needs.{needs}
+use Rattle.second_pass.proofs.put_argument.Statement.{statement}
+use Rattle.second_pass.proofs.put_argument.Tie as tie
+use Rattle.second_pass.proofs.put_argument.Reads as reads
+use Rattle.second_pass.proofs.put_argument.Lts as lts
+use Rattle.encoding.proofs.put_scalar_argument.Reads as put-scalar-argument-reads
+use Rattle.encoding.proofs.put_text_argument.Reads as put-text-argument-reads
+use Rattle.reader.proofs.text.Reads as text-reads
+use Rattle.second_pass.proofs.spell.Reads as spell-reads
+
+-- src/lib.rt:296:9
+spell-requires : tie.Need-spell-requires
+spell-requires c κs = search needs
+
+-- src/lib.rt:297:9
+text-requires : tie.Need-text-requires
+text-requires c κs = search needs
+
+-- src/lib.rt:299:23
+enum-known-value : tie.Need-enum-known-value
+enum-known-value c = search needs
+
+-- src/lib.rt:299:34
+put-scalar-argument-requires : tie.Need-put-scalar-argument-requires
+put-scalar-argument-requires c κs =
+    let a = c .before .before .before .before .before .before .before .before .before .args in
+    let spell′ = c .before .before .before .before .before .spell in
+    let text′ = c .before .before .before .before .text in
+    let value′ = c .before .before .value in
+    let p = c .before .before .before .before .before .before .before .before .before .pre in
+    let tables = tablesIn (a .f) (a .room .now) in
+    let slots = slotsIn (a .f) (a .room .now) in
+    let whole = scalar-argument (a .f) (a .archive .now) tables slots (a .context) (a .limit) (a .argument) (spell′ .result)
+    (text′ .result .now) (value′ .given .0 .0) (spell′ .ensures) (text′ .ensures) (value′ .given .1) in
+    let fit = p .0 .1 in
+    let name = subst (TextShort (a .archive .now)) (sym (spell′ .ensures)) (fit .name .text refl) in (
+      (subst ValueLow (value′ .given .1) (fit .type), name .0, omega (arith, ap length (text′ .ensures), name .1)),
+      (omega (arith, ap length whole, fit .size), omega (arith, ap length whole, p .1)),
+    )
+
+-- src/lib.rt:300:21
+enum-known-value-2 : tie.Need-enum-known-value-2
+enum-known-value-2 c = search needs
+
+-- src/lib.rt:305:17
+spell-requires-2 : tie.Need-spell-requires-2
+spell-requires-2 c κs =
+    let p = c .before .before .before .before .before .before .before .before .pre in
+    let value2′ = c .before .value2 in
+    (p .0 .0, (rw (value2′ .given .1) at (p .0 .1 .text)) .can)
+
+-- src/lib.rt:306:17
+text-requires-2 : tie.Need-text-requires-2
+text-requires-2 c κs = search needs
+
+-- src/lib.rt:307:13
+put-text-argument-requires : tie.Need-put-text-argument-requires
+put-text-argument-requires c κs =
+    let deep = c .before .before .before .before .before .before .before .before .before .before in
+    let a = deep .before .args in
+    let spell′ = c .before .before .before .before .before .before .before .spell in
+    let spell2′ = c .before .before .spell2 in
+    let text′ = c .before .before .before .before .before .before .text in
+    let text2′ = c .before .text2 in
+    let value2′ = c .before .before .before .before .value2 in
+    let p = deep .before .pre in
+    let tables = tablesIn (a .f) (a .room .now) in
+    let slots = slotsIn (a .f) (a .room .now) in
+    let whole = text-argument (a .f) (a .archive .now) tables slots (a .context) (a .limit) (a .argument) (spell′ .result) (spell2′ .result)
+    (text′ .result .now) (text2′ .result .now) (value2′ .given .0 .0) (spell′ .ensures) (text′ .ensures) (spell2′ .ensures) (text2′ .ensures)
+    (value2′ .given .1) in
+    let fit = p .0 .1 in
+    let name = subst (TextShort (a .archive .now)) (sym (spell′ .ensures)) (fit .name .text refl) in
+    let text = subst (TextShort (a .archive .now)) (sym (spell2′ .ensures)) ((rw (value2′ .given .1) at (fit .text)) .text refl) in (
+      (name .0, omega (arith, ap length (text′ .ensures), name .1), text .0, omega (arith, ap length (text2′ .ensures), text .1)),
+      (omega (arith, ap length whole, fit .size), omega (arith, ap length whole, p .1)),
+    )
+
+-- src/lib.rt:278:1
+same-length : tie.Need-same-length
+same-length c = search needs
+
+-- src/lib.rt:278:1
+returns : tie.Need-returns
+returns c =
+    let deep = c .before .before .before .before .before .before .before .before .before .before in
+    let a = deep .before .before .args in
+    let spell′ = c .before .before .before .before .before .before .before .before .spell in
+    let text′ = c .before .before .before .before .before .before .before .text in
+    let value′ = c .before .before .before .before .before .value in
+    let put-scalar-argument′ = c .before .before .put-scalar-argument in
+    let tables = tablesIn (a .f) (a .room .now) in
+    let slots = slotsIn (a .f) (a .room .now) in
+    rw (scalar-argument (a .f) (a .archive .now) tables slots (a .context) (a .limit) (a .argument) (spell′ .result)
+    (text′ .result .now) (value′ .given .0 .0) (spell′ .ensures) (text′ .ensures) (value′ .given .1))
+    (put-scalar-argument′ .ensures)
+
+-- src/lib.rt:278:1
+same-length-2 : tie.Need-same-length-2
+same-length-2 c = search needs
+
+-- src/lib.rt:278:1
+returns-2 : tie.Need-returns-2
+returns-2 c =
+    let deep = c .before .before .before .before .before .before .before .before .before .before in
+    let a = deep .before .before .before .before .args in
+    let spell′ = deep .spell in
+    let spell2′ = c .before .before .before .before .before .spell2 in
+    let text′ = c .before .before .before .before .before .before .before .before .before .text in
+    let text2′ = c .before .before .before .before .text2 in
+    let value2′ = c .before .before .before .before .before .before .before .value2 in
+    let put-text-argument′ = c .before .before .put-text-argument in
+    let tables = tablesIn (a .f) (a .room .now) in
+    let slots = slotsIn (a .f) (a .room .now) in
+    rw (text-argument (a .f) (a .archive .now) tables slots (a .context) (a .limit) (a .argument) (spell′ .result) (spell2′ .result)
+    (text′ .result .now) (text2′ .result .now) (value2′ .given .0 .0) (spell′ .ensures) (text′ .ensures) (spell2′ .ensures) (text2′ .ensures)
+    (value2′ .given .1))
+    (put-text-argument′ .ensures)
+
+pub put-argument-spec : {M : Type 1} → statement M
+put-argument-spec =
+    tie.close
+    (tie.spec
+    spell-requires
+    text-requires
+    enum-known-value
+    put-scalar-argument-requires
+    enum-known-value-2
+    spell-requires-2
+    text-requires-2
+    put-text-argument-requires
+    same-length
+    returns
+    same-length-2
+    returns-2)

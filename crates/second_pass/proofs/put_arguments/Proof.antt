@@ -1,0 +1,187 @@
+-- `put_arguments` meets its contract: the loop keeps what is written and what is left together the whole (Walk).
+use Prim.Native.Nat.{_+_}
+use mathlib.Core.Path.{_≡_, refl, sym, _∙_}
+use native.Mathlib.Omega.{arith}
+use lib.ListN.{length, length-drop}
+use Rattle.format.proofs.Headers.{part-from}
+use Rattle.arguments.specs.Argument.{argumentsRead}
+use Rattle.arguments.proofs.Arguments.{argument-read}
+use Rattle.second_pass.specs.Models.Write.{tablesIn, slotsIn}
+use Rattle.second_pass.proofs.Walks.{argument-first, argument-refused, arguments-none}
+use Rattle.second_pass.proofs.Spelling.{Walk, walk-starts, walk-as, walk-fits, walk-goes-on, walk-ends}
+use borrow.Author.Needs.{needs}
+use Rattle.second_pass.proofs.put_arguments.Statement.{statement}
+use Rattle.second_pass.proofs.put_arguments.Tie as tie
+use Rattle.second_pass.proofs.put_arguments.Reads as reads
+use Rattle.second_pass.proofs.put_arguments.Lts as lts
+use Rattle.arguments.proofs.argument_of.Reads as argument-of-reads
+use Rattle.second_pass.proofs.put_argument.Reads as put-argument-reads
+
+abbrev Inv-loop : tie.InvT-loop
+Inv-loop f archive room out₀ start context limit part place count rest₀ from₀ left₀ at₀ out rest from left at =
+    Walk f archive (tablesIn f room) (slotsIn f room) context limit (argumentsRead f count part place) out₀ start (argumentsRead f left rest from) out at
+    × (from + length rest ≡ place + length part)
+
+abbrev μ-loop : tie.MeasureT-loop
+μ-loop f archive room out₀ start context limit part place count rest₀ from₀ left₀ at₀ out rest from left at = left
+
+-- src/lib.rt:334:5
+loop-holds : tie.Need-loop-holds Inv-loop μ-loop
+loop-holds c =
+    let a = c .before .before .before .before .args in
+    let p = c .before .before .before .before .pre in (
+      walk-starts (a .f) (a .archive .now) (tablesIn (a .f) (a .room .now)) (slotsIn (a .f) (a .room .now)) (a .context) (a .limit)
+          (argumentsRead (a .f) (a .count) (a .part .now) (a .place)) (a .out .now) (a .start) (p .0 .1) (p .1 .1),
+      refl,
+    )
+
+-- src/lib.rt:335:13
+argument-of-requires : tie.Need-argument-of-requires Inv-loop μ-loop
+argument-of-requires c κs =
+    let loop′ = c .before .loop in
+    let p = c .before .before .before .before .before .before .pre in
+    omega (arith, loop′ .inv .1, p .1 .0)
+
+-- src/lib.rt:338:17
+enum-told : tie.Need-enum-told Inv-loop μ-loop
+enum-told c = search needs
+
+-- src/lib.rt:338:17
+same-length : tie.Need-same-length Inv-loop μ-loop
+same-length c =
+    let loop′ = c .before .before .before .before .loop in
+    loop′ .inv .0 .long
+
+-- src/lib.rt:338:17
+returns : tie.Need-returns Inv-loop μ-loop
+returns c =
+    let a = c .before .before .before .before .before .before .before .before .before .args in
+    let loop′ = c .before .before .before .before .loop in
+    let loop-test′ = c .before .before .before .loop-test in
+    let argument-of′ = c .before .before .argument-of in
+    let enum-told′ = c .enum-told in
+    let none = argument-refused (a .f) (loop′ .left) (loop′ .rest .now) (loop′ .from) _ (loop-test′ .taken) (sym (argument-of′ .ensures) ∙ enum-told′ .given .1) in
+    walk-ends _ _ _ _ _ _ (walk-as _ _ _ _ _ _ none (loop′ .inv .0))
+
+-- src/lib.rt:340:32
+enum-known-argued : tie.Need-enum-known-argued Inv-loop μ-loop
+enum-known-argued c = search needs
+
+-- src/lib.rt:341:17
+put-argument-requires : tie.Need-put-argument-requires Inv-loop μ-loop
+put-argument-requires c κs =
+    let deep = c .before .before .before .before .before .before .before .before .before .before in
+    let argued′ = c .before .before .argued in
+    let argument-of′ = c .before .before .before .before .argument-of in
+    let a = deep .before .args in
+    let loop′ = c .before .before .before .before .before .before .loop in
+    let loop-test′ = c .before .before .before .before .before .loop-test in
+    let p = deep .before .pre in
+    let argument = argued′ .given .0 .0 in
+    let size = argued′ .given .0 .1 .0 in
+    let read = sym (argument-of′ .ensures) ∙ argued′ .given .1 in
+    let turn = argument-first (a .f) (loop′ .left) (loop′ .rest .now) (loop′ .from) argument size (loop-test′ .taken) read in
+    let w = walk-as _ _ _ _ _ _ turn (loop′ .inv .0) in
+    ((p .0 .0, w .fit .0), walk-fits _ _ _ _ _ _ w)
+
+-- src/lib.rt:342:24
+sub-rest : tie.Need-sub-rest Inv-loop μ-loop
+sub-rest c =
+    let deep = c .before .before .before .before .before .before .before .before .before .before in
+    let a = deep .before .before .before .before .args in
+    let loop′ = c .before .before .before .before .before .before .before .before .before .loop in
+    let argued′ = c .before .before .before .before .before .argued in
+    let argument-of′ = c .before .before .before .before .before .before .before .argument-of in
+    argument-read (a .f) (loop′ .rest .now) (loop′ .from) (argued′ .given .0 .0) (argued′ .given .0 .1 .0) (sym (argument-of′ .ensures) ∙ argued′ .given .1) .inside
+
+-- src/lib.rt:342:24
+part-rest-start : tie.Need-part-rest-start Inv-loop μ-loop
+part-rest-start c =
+    let deep = c .before .before .before .before .before .before .before .before .before .before in
+    let a = deep .before .before .before .before .args in
+    let loop′ = c .before .before .before .before .before .before .before .before .before .loop in
+    let argued′ = c .before .before .before .before .before .argued in
+    let argument-of′ = c .before .before .before .before .before .before .before .argument-of in
+    argument-read (a .f) (loop′ .rest .now) (loop′ .from) (argued′ .given .0 .0) (argued′ .given .0 .1 .0) (sym (argument-of′ .ensures) ∙ argued′ .given .1) .inside
+
+-- src/lib.rt:342:24
+part-rest-end : tie.Need-part-rest-end Inv-loop μ-loop
+part-rest-end c = search needs
+
+-- src/lib.rt:343:17
+add-from : tie.Need-add-from Inv-loop μ-loop
+add-from c =
+    let deep = c .before .before .before .before .before .before .before .before .before .before in
+    let a = deep .before .before .before .before .before .args in
+    let loop′ = deep .loop in
+    let argued′ = c .before .before .before .before .before .before .argued in
+    let argument-of′ = c .before .before .before .before .before .before .before .before .argument-of in
+    let p = deep .before .before .before .before .before .pre in
+    let read = argument-read (a .f) (loop′ .rest .now) (loop′ .from) (argued′ .given .0 .0) (argued′ .given .0 .1 .0) (sym (argument-of′ .ensures) ∙ argued′ .given .1) in
+    omega (arith, read .inside, loop′ .inv .1, p .1 .0)
+
+-- src/lib.rt:344:17
+sub-left : tie.Need-sub-left Inv-loop μ-loop
+sub-left c = search needs
+
+-- src/lib.rt:334:5
+loop-less : tie.Need-loop-less Inv-loop μ-loop
+loop-less c = search needs
+
+-- src/lib.rt:334:5
+loop-again : tie.Need-loop-again Inv-loop μ-loop
+loop-again c =
+    let deep = c .before .before .before .before .before .before .before .before .before .before in
+    let argued′ = c .before .before .before .before .before .before .argued in
+    let argument-of′ = c .before .before .before .before .before .before .before .before .argument-of in
+    let a = deep .before .before .before .before .before .args in
+    let loop′ = deep .loop in
+    let loop-test′ = c .before .before .before .before .before .before .before .before .before .loop-test in
+    let put-argument′ = c .before .before .before .put-argument in
+    let argument = argued′ .given .0 .0 in
+    let size = argued′ .given .0 .1 .0 in
+    let read = sym (argument-of′ .ensures) ∙ argued′ .given .1 in
+    let turn = argument-first (a .f) (loop′ .left) (loop′ .rest .now) (loop′ .from) argument size (loop-test′ .taken) read in
+    let w = walk-as _ _ _ _ _ _ turn (loop′ .inv .0) in
+    let inside = argument-read (a .f) (loop′ .rest .now) (loop′ .from) argument size read .inside in
+    rw (part-from size (loop′ .rest .now)) (
+      walk-goes-on _ _ _ _ _ _ w (put-argument′ .ensures .0) (put-argument′ .ensures .1),
+      omega (arith, inside, loop′ .inv .1, length-drop size (loop′ .rest .now)),
+    )
+
+-- src/lib.rt:313:1
+same-length-2 : tie.Need-same-length-2 Inv-loop μ-loop
+same-length-2 c =
+    let loop′ = c .before .loop in
+    loop′ .inv .0 .long
+
+-- src/lib.rt:313:1
+returns-2 : tie.Need-returns-2 Inv-loop μ-loop
+returns-2 c =
+    let a = c .before .before .before .before .before .before .args in
+    let loop′ = c .before .loop in
+    let none = arguments-none (a .f) (loop′ .left) (loop′ .rest .now) (loop′ .from) (omega arith) in
+    walk-ends _ _ _ _ _ _ (walk-as _ _ _ _ _ _ none (loop′ .inv .0))
+
+pub put-arguments-spec : {M : Type 1} → statement M
+put-arguments-spec =
+    tie.close
+    (tie.spec
+    Inv-loop
+    μ-loop
+    loop-holds
+    argument-of-requires
+    enum-told
+    same-length
+    returns
+    enum-known-argued
+    put-argument-requires
+    sub-rest
+    part-rest-start
+    part-rest-end
+    add-from
+    sub-left
+    loop-less
+    loop-again
+    same-length-2
+    returns-2)

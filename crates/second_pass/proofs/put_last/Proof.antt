@@ -1,0 +1,61 @@
+-- `put_last` meets its contract: one word where the kind has one (last-word), nothing where it has none (last-none).
+use native.Mathlib.Omega.{arith}
+use mathlib.Core.Path.{sym, ap, _∙_}
+use lib.ListN.{length}
+use Rattle.records.specs.Item.{ownBehind}
+use Rattle.words.proofs.Words.{length-bytesOf}
+use Rattle.encoding.proofs.Parts.{nothing-written}
+use Rattle.second_pass.proofs.Spelling.{last-none, last-word}
+use borrow.Author.Needs.{needs}
+use Rattle.second_pass.proofs.put_last.Statement.{statement}
+use Rattle.second_pass.proofs.put_last.Tie as tie
+use Rattle.second_pass.proofs.put_last.Reads as reads
+use Rattle.second_pass.proofs.put_last.Lts as lts
+use Rattle.records.proofs.own_behind.Reads as own-behind-reads
+use Rattle.words.proofs.put_word.Reads as put-word-reads
+
+-- src/lib.rt:359:8
+own-behind-requires : tie.Need-own-behind-requires
+own-behind-requires c κs = search needs
+
+-- src/lib.rt:360:9
+returns : tie.Need-returns
+returns c =
+    let a = c .before .before .before .args in
+    let own-behind′ = c .before .own-behind in
+    let if1′ = c .if1 in
+    rw (last-none (ownBehind (a .own)) (a .last) (sym (own-behind′ .ensures) ∙ if1′ .taken))
+    (nothing-written (a .out .now) (a .at), omega arith)
+
+-- src/lib.rt:362:5
+put-word-requires : tie.Need-put-word-requires
+put-word-requires c κs =
+    let a = c .before .before .before .before .args in
+    let if1′ = c .before .if1 in
+    let own-behind′ = c .before .before .own-behind in
+    let p = c .before .before .before .before .pre in
+    let one = last-word (ownBehind (a .own)) (a .last) (λ z. if1′ .left (own-behind′ .ensures ∙ z)) in
+    omega (arith, ap length one, length-bytesOf 8 (a .last), p)
+
+-- src/lib.rt:363:5
+add-result : tie.Need-add-result
+add-result c = search needs
+
+-- src/lib.rt:354:1
+same-length : tie.Need-same-length
+same-length c = search needs
+
+-- src/lib.rt:354:1
+returns-2 : tie.Need-returns-2
+returns-2 c =
+    let a = c .before .before .before .before .before .before .before .args in
+    let if1′ = c .before .before .before .before .if1 in
+    let own-behind′ = c .before .before .before .before .before .own-behind in
+    let put-word′ = c .before .before .put-word in
+    rw (last-word (ownBehind (a .own)) (a .last) (λ z. if1′ .left (own-behind′ .ensures ∙ z)))
+    (put-word′ .ensures, omega (arith, length-bytesOf 8 (a .last)))
+
+pub put-last-spec : {M : Type 1} → statement M
+put-last-spec =
+    tie.close
+    (tie.spec own-behind-requires returns put-word-requires add-result same-length returns-2)

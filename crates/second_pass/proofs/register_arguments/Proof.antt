@@ -1,0 +1,242 @@
+-- `register_arguments` meets its contract: the loop keeps what is still to be registered and written (Registering), a name and a text at a time.
+use Prim.Native.Nat.{_+_, _≤_}
+use mathlib.Core.Path.{_≡_, refl, sym, _∙_}
+use native.Mathlib.Omega.{arith}
+use lib.ListN.{length, length-drop}
+use Rattle.format.proofs.Headers.{part-from}
+use Rattle.arguments.proofs.Arguments.{texts-inside}
+use Rattle.arguments.specs.Argument.{argumentsRead}
+use Rattle.tables.specs.Table.{tableWords}
+use Rattle.records.specs.Lookups.{argumentLookups}
+use Rattle.second_pass.proofs.Walks.{texts-first, texts-refused, lookups-none}
+use Rattle.second_pass.proofs.Registering.{Registering, registering-starts, registering-done, registering-as, next-fits, registering-next}
+use borrow.Author.Needs.{needs}
+use Rattle.second_pass.proofs.register_arguments.Statement.{statement}
+use Rattle.second_pass.proofs.register_arguments.Tie as tie
+use Rattle.second_pass.proofs.register_arguments.Reads as reads
+use Rattle.second_pass.proofs.register_arguments.Lts as lts
+use Rattle.arguments.proofs.texts_of.Reads as texts-of-reads
+use Rattle.second_pass.proofs.register_lookup.Reads as register-lookup-reads
+
+abbrev Inv-loop : tie.InvT-loop
+Inv-loop f archive room₀ out₀ start context limit part place count rest₀ from₀ left₀ at₀ room out rest from left at =
+    Registering f archive context limit (argumentLookups (argumentsRead f count part place)) room₀ out₀ start
+    (argumentLookups (argumentsRead f left rest from)) room out at
+    × (from + length rest ≡ place + length part)
+
+abbrev μ-loop : tie.MeasureT-loop
+μ-loop f archive room₀ out₀ start context limit part place count rest₀ from₀ left₀ at₀ room out rest from left at = left
+
+-- src/lib.rt:127:5
+loop-holds : tie.Need-loop-holds Inv-loop μ-loop
+loop-holds c =
+    let a = c .before .before .before .before .args in
+    let p = c .before .before .before .before .pre in (
+      registering-starts (a .f) (a .archive .now) (a .context) (a .limit) (argumentLookups (argumentsRead (a .f) (a .count) (a .part .now) (a .place)))
+          (a .room .now) (a .out .now) (a .start) (p .0 .1) (p .1 .1),
+      refl,
+    )
+
+-- src/lib.rt:128:13
+texts-of-requires : tie.Need-texts-of-requires Inv-loop μ-loop
+texts-of-requires c κs =
+    let loop′ = c .before .loop in
+    let p = c .before .before .before .before .before .before .pre in
+    omega (arith, loop′ .inv .1, p .1 .0)
+
+-- src/lib.rt:131:17
+enum-told : tie.Need-enum-told Inv-loop μ-loop
+enum-told c = search needs
+
+-- src/lib.rt:131:17
+same-length : tie.Need-same-length Inv-loop μ-loop
+same-length c =
+    let loop′ = c .before .before .before .before .loop in
+    loop′ .inv .0 .long
+
+-- src/lib.rt:131:17
+same-length-2 : tie.Need-same-length-2 Inv-loop μ-loop
+same-length-2 c =
+    let loop′ = c .before .before .before .before .loop in
+    loop′ .inv .0 .out-long
+
+-- src/lib.rt:131:17
+returns : tie.Need-returns Inv-loop μ-loop
+returns c =
+    let a = c .before .before .before .before .before .before .before .before .before .args in
+    let loop′ = c .before .before .before .before .loop in
+    let loop-test′ = c .before .before .before .loop-test in
+    let texts-of′ = c .before .before .texts-of in
+    let enum-told′ = c .enum-told in
+    let stop = texts-refused (a .f) (loop′ .left) (loop′ .rest .now) (loop′ .from) _ (loop-test′ .taken) (sym (texts-of′ .ensures) ∙ enum-told′ .given .1) in
+    registering-done _ _ _ _ _ _ _ _ (registering-as _ _ _ _ _ _ _ _ stop (loop′ .inv .0))
+
+-- src/lib.rt:133:28
+enum-known-texts : tie.Need-enum-known-texts Inv-loop μ-loop
+enum-known-texts c = search needs
+
+-- src/lib.rt:142:17
+register-lookup-requires : tie.Need-register-lookup-requires Inv-loop μ-loop
+register-lookup-requires c κs =
+    let deep = c .before .before .before .before .before .before .before .before .before .before in
+    let texts′ = c .before .before .before .texts in
+    let a = deep .before .before .args in
+    let loop′ = c .before .before .before .before .before .before .before .loop in
+    let loop-test′ = c .before .before .before .before .before .before .loop-test in
+    let texts-of′ = c .before .before .before .before .before .texts-of in
+    let p = deep .before .before .pre in
+    let name = texts′ .given .0 .0 in
+    let value = texts′ .given .0 .1 .0 in
+    let size = texts′ .given .0 .1 .1 .0 in
+    let turn = texts-first (a .f) (loop′ .left) (loop′ .rest .now) (loop′ .from) name value size (loop-test′ .taken)
+    (sym (texts-of′ .ensures) ∙ texts′ .given .1) in
+    let fits = p .0 .0 in
+    let fit = next-fits _ _ _ _ _ _ _ _ (registering-as _ _ _ _ _ _ _ _ turn (loop′ .inv .0)) in
+    ((record { limits = fits .limits; short = fits .short; wide = omega (arith, fits .wide, loop′ .inv .0 .long); low = fits .low }, fit .0), fit .1)
+
+-- src/lib.rt:143:17
+register-lookup-requires-2 : tie.Need-register-lookup-requires-2 Inv-loop μ-loop
+register-lookup-requires-2 c κs =
+    let deep = c .before .before .before .before .before .before .before .before .before .before in
+    let texts′ = deep .texts in
+    let a = deep .before .before .before .before .before .before .before .before .before .args in
+    let loop′ = deep .before .before .before .before .loop in
+    let loop-test′ = deep .before .before .before .loop-test in
+    let texts-of′ = deep .before .before .texts-of in
+    let p = deep .before .before .before .before .before .before .before .before .before .pre in
+    let register-lookup′ = c .before .before .before .before .before .before .register-lookup in
+    let name = texts′ .given .0 .0 in
+    let value = texts′ .given .0 .1 .0 in
+    let size = texts′ .given .0 .1 .1 .0 in
+    let turn = texts-first (a .f) (loop′ .left) (loop′ .rest .now) (loop′ .from) name value size (loop-test′ .taken)
+    (sym (texts-of′ .ensures) ∙ texts′ .given .1) in
+    let fits = p .0 .0 in
+    let long : length (register-lookup′ .last .1 .1 .0) ≡ length (loop′ .room) = search needs in
+    let wide : tableWords (a .f) ≤ length (a .room .now) = omega (arith, fits .wide) in
+    let named = registering-next _ _ _ _ _ _ _ _ (registering-as _ _ _ _ _ _ _ _ turn (loop′ .inv .0)) (register-lookup′ .ensures) wide long in
+    let fit = next-fits _ _ _ _ _ _ _ _ named in
+    ((record { limits = fits .limits; short = fits .short; wide = omega (arith, fits .wide, named .long); low = fits .low }, fit .0), fit .1)
+
+-- src/lib.rt:144:24
+sub-rest : tie.Need-sub-rest Inv-loop μ-loop
+sub-rest c =
+    let deep = c .before .before .before .before .before .before .before .before .before .before in
+    let deeper = deep .before .before .before .before .before .before .before .before .before .before in
+    let a = deeper .before .before .before .before .args in
+    let loop′ = deep .before .before .before .before .before .before .before .before .before .loop in
+    let texts′ = deep .before .before .before .before .before .texts in
+    let texts-of′ = deep .before .before .before .before .before .before .before .texts-of in
+    texts-inside (a .f) (loop′ .rest .now) (loop′ .from) (texts′ .given .0 .0) (texts′ .given .0 .1 .0) (texts′ .given .0 .1 .1 .0)
+    (sym (texts-of′ .ensures) ∙ texts′ .given .1)
+
+-- src/lib.rt:144:24
+part-rest-start : tie.Need-part-rest-start Inv-loop μ-loop
+part-rest-start c =
+    let deep = c .before .before .before .before .before .before .before .before .before .before in
+    let deeper = deep .before .before .before .before .before .before .before .before .before .before in
+    let a = deeper .before .before .before .before .args in
+    let loop′ = deep .before .before .before .before .before .before .before .before .before .loop in
+    let texts′ = deep .before .before .before .before .before .texts in
+    let texts-of′ = deep .before .before .before .before .before .before .before .texts-of in
+    texts-inside (a .f) (loop′ .rest .now) (loop′ .from) (texts′ .given .0 .0) (texts′ .given .0 .1 .0) (texts′ .given .0 .1 .1 .0)
+    (sym (texts-of′ .ensures) ∙ texts′ .given .1)
+
+-- src/lib.rt:144:24
+part-rest-end : tie.Need-part-rest-end Inv-loop μ-loop
+part-rest-end c = search needs
+
+-- src/lib.rt:145:17
+add-from : tie.Need-add-from Inv-loop μ-loop
+add-from c =
+    let deep = c .before .before .before .before .before .before .before .before .before .before in
+    let deeper = deep .before .before .before .before .before .before .before .before .before .before in
+    let a = deeper .before .before .before .before .before .args in
+    let loop′ = deeper .loop in
+    let texts′ = deep .before .before .before .before .before .before .texts in
+    let texts-of′ = deep .before .before .before .before .before .before .before .before .texts-of in
+    let p = deeper .before .before .before .before .before .pre in
+    let inside = texts-inside (a .f) (loop′ .rest .now) (loop′ .from) (texts′ .given .0 .0) (texts′ .given .0 .1 .0) (texts′ .given .0 .1 .1 .0)
+    (sym (texts-of′ .ensures) ∙ texts′ .given .1) in
+    omega (arith, inside, loop′ .inv .1, p .1 .0)
+
+-- src/lib.rt:146:17
+sub-left : tie.Need-sub-left Inv-loop μ-loop
+sub-left c = search needs
+
+-- src/lib.rt:127:5
+loop-less : tie.Need-loop-less Inv-loop μ-loop
+loop-less c = search needs
+
+-- src/lib.rt:127:5
+loop-again : tie.Need-loop-again Inv-loop μ-loop
+loop-again c =
+    let deep = c .before .before .before .before .before .before .before .before .before .before in
+    let deeper = deep .before .before .before .before .before .before .before .before .before .before in
+    let texts′ = deep .before .before .before .before .before .before .texts in
+    let texts-of′ = deep .before .before .before .before .before .before .before .before .texts-of in
+    let a = deeper .before .before .before .before .before .args in
+    let loop′ = deeper .loop in
+    let loop-test′ = deep .before .before .before .before .before .before .before .before .before .loop-test in
+    let register-lookup′ = deep .before .before .register-lookup in
+    let register-lookup2′ = c .before .before .before .before .before .register-lookup2 in
+    let p = deeper .before .before .before .before .before .pre in
+    let name = texts′ .given .0 .0 in
+    let value = texts′ .given .0 .1 .0 in
+    let size = texts′ .given .0 .1 .1 .0 in
+    let read = sym (texts-of′ .ensures) ∙ texts′ .given .1 in
+    let turn = texts-first (a .f) (loop′ .left) (loop′ .rest .now) (loop′ .from) name value size (loop-test′ .taken) read in
+    let inside = texts-inside (a .f) (loop′ .rest .now) (loop′ .from) name value size read in
+    let long : length (register-lookup′ .last .1 .1 .0) ≡ length (loop′ .room) = search needs in
+    let long2 : length (register-lookup2′ .last .1 .1 .0) ≡ length (register-lookup′ .last .1 .1 .0) = search needs in
+    let wide : tableWords (a .f) ≤ length (a .room .now) = omega (arith, p .0 .0 .wide) in
+    let named = registering-next _ _ _ _ _ _ _ _ (registering-as _ _ _ _ _ _ _ _ turn (loop′ .inv .0)) (register-lookup′ .ensures) wide long in
+    rw (part-from size (loop′ .rest .now)) (
+      registering-next _ _ _ _ _ _ _ _ named (register-lookup2′ .ensures) wide long2,
+      omega (arith, inside, loop′ .inv .1, length-drop size (loop′ .rest .now)),
+    )
+
+-- src/lib.rt:105:1
+same-length-3 : tie.Need-same-length-3 Inv-loop μ-loop
+same-length-3 c =
+    let loop′ = c .before .loop in
+    loop′ .inv .0 .long
+
+-- src/lib.rt:105:1
+same-length-4 : tie.Need-same-length-4 Inv-loop μ-loop
+same-length-4 c =
+    let loop′ = c .before .loop in
+    loop′ .inv .0 .out-long
+
+-- src/lib.rt:105:1
+returns-2 : tie.Need-returns-2 Inv-loop μ-loop
+returns-2 c =
+    let a = c .before .before .before .before .before .before .args in
+    let loop′ = c .before .loop in
+    let none = lookups-none (a .f) (loop′ .left) (loop′ .rest .now) (loop′ .from) (omega arith) in
+    registering-done _ _ _ _ _ _ _ _ (registering-as _ _ _ _ _ _ _ _ none (loop′ .inv .0))
+
+pub register-arguments-spec : {M : Type 1} → statement M
+register-arguments-spec =
+    tie.close
+    (tie.spec
+    Inv-loop
+    μ-loop
+    loop-holds
+    texts-of-requires
+    enum-told
+    same-length
+    same-length-2
+    returns
+    enum-known-texts
+    register-lookup-requires
+    register-lookup-requires-2
+    sub-rest
+    part-rest-start
+    part-rest-end
+    add-from
+    sub-left
+    loop-less
+    loop-again
+    same-length-3
+    same-length-4
+    returns-2)

@@ -1,0 +1,45 @@
+-- What the second pass leaves in the words of the tally: the keys of an archive's uses with the indexes that the rule gives them.
+use Prim.Native.Nat.{ℕ, _+_, _-_, _*_, _<_}
+use mathlib.Core.Path.{_≡_}
+use mathlib.Core.List.{List, [], _∷_}
+use mathlib.Core.Bool.{cond}
+use lib.Dec.{eqb}
+use lib.ListN.{take}
+use Rattle.passes.specs.Models.Codes.{codeIn, codes, lastOf}
+use Rattle.tally.specs.Models.Slots.{keyMark, usesAt}
+use Rattle.indexing.specs.Models.Indexes.{Indexes, chosenKey}
+use Rattle.words.specs.Stream.{sameBytes}
+use Rattle.registering.specs.Counting.{count}
+use Rattle.format.specs.declared.Format.{Format}
+use Rattle.contexts.specs.declared.State.{State}
+use Rattle.tables.specs.Table.{tableWords}
+use Rattle.rule.specs.Rule.{usesAll, Entry, tableAfter, chosenIn}
+use Rattle.rule.specs.Refusal.{runOf, itemsOf}
+
+-- the index of the first registration whose use has this code, 0 where none has
+abbrev pub indexCode : State → List Entry → List ℕ → ℕ
+indexCode last [] key = 0
+indexCode last (e ∷ table) key = let rest = indexCode last table key in cond (sameBytes key (codeIn last (e .use-of))) (e .index) rest
+
+-- how many registrations have a code of this mark
+abbrev pub givenCode : State → List Entry → ℕ → ℕ
+givenCode last [] mark = 0
+givenCode last (e ∷ table) mark = cond (eqb mark (keyMark (codeIn last (e .use-of)))) 1 0 + givenCode last table mark
+
+-- the uses of an archive's items as keys of the tally
+abbrev pub keysOf : Format → List ℕ → List (List ℕ)
+keysOf f archive = codes (lastOf f archive) (usesAll (itemsOf (runOf f archive)))
+
+-- the registrations that the rule makes for an archive's items
+abbrev pub registeredOf : Format → List ℕ → List Entry
+registeredOf f archive = let uses = usesAll (itemsOf (runOf f archive)) in tableAfter (chosenIn uses) [] uses
+
+-- the words of the tally before and after the pass: places and labels stay; each key that was used has its index where the rule registers it, and
+-- each counter the number of its mark's registrations; a slot that is no such key's keeps its third word
+pub record SlotsIndexed (f : Format) (archive before after : List ℕ) : Type 0 where
+  pub keys : take (2 * tableWords f) after ≡ take (2 * tableWords f) before
+  pub indexes : Indexes archive (tableWords f) after (keysOf f archive) (chosenKey (keysOf f archive))
+      (indexCode (lastOf f archive) (registeredOf f archive)) (givenCode (lastOf f archive) (registeredOf f archive))
+  pub others : (s : ℕ) → s < tableWords f - 18
+      → ((key : List ℕ) (used : 0 < count sameBytes key (keysOf f archive)) → indexes .found key used .0 ≡ s → ⊥)
+      → usesAt (tableWords f) after s ≡ usesAt (tableWords f) before s

@@ -1,0 +1,572 @@
+// The second pass of a repack: it writes each item's record again, and before it the registrations that are new.
+// The room is four stretches of words: the reading tables, and the three of the tally, in which choices stand for uses.
+ghost use mathlib.Core.Path.{_≡_};
+ghost use mathlib.Core.List.{[], _∷_};
+ghost use mathlib.Core.Bool.{false};
+ghost use Prim.Native.Nat.{_+_, _*_, _^_, _<_, _≤_};
+ghost use lib.ListN.{length, drop};
+ghost use Rattle.passes.specs.Models.Codes.{Chosen};
+ghost use Rattle.passes.specs.Models.Last.{tablesOf};
+ghost use Rattle.passes.specs.Models.Item.{plainItem};
+ghost use Rattle.indexing.specs.Models.Indexes.{Settled};
+ghost use Rattle.encoding.specs.Encoded.{referenceOf, wordsBytes, partBytes, partsBytes};
+ghost use Rattle.encoding.specs.Part.{reportHeader};
+ghost use Rattle.words.specs.Stream.{written};
+ghost use Rattle.arguments.specs.Argument.{argumentsRead};
+ghost use Rattle.records.specs.Record.{recordAt};
+ghost use Rattle.records.specs.Item.{ownBehind, lastWords};
+ghost use Rattle.records.specs.Lookups.{argumentLookups, reportLookups};
+ghost use Rattle.tables.specs.Table.{tableWords};
+ghost use Rattle.reader.specs.Shown.{shownStream};
+ghost use Rattle.reader.specs.Reads.{streamItem};
+ghost use Rattle.rule.specs.Rule.{rule as ruleOf};
+ghost use Rattle.rule.specs.Refusal.{runOf, itemsOf};
+ghost use Rattle.second_pass.specs.Models.Write.{tablesIn, slotsIn, registrationBytes, registeredRoom, registeredBytes, spelledIn, spelledPart, argumentIn, argumentsIn, spelledPieces, spelledHeader, reportIn, plainBytes, contentIn, contentRoom};
+ghost use Rattle.second_pass.specs.Models.Fits.{RoomFits, RegistrationFits, LookupsFitIn, CanLookUp, SpelledThread, ArgumentFitsIn, ArgumentsFitIn, ReportAt, SpelledHeaderFits, ReportFitsIn, PlainFits, ContentFitsIn, Asks};
+ghost use Rattle.second_pass.specs.Models.Indexed.{SlotsIndexed};
+use arguments::Argued;
+use arguments::Argument;
+use arguments::Texts;
+use arguments::Value;
+use contexts::State;
+use format::Format;
+use format::Reference;
+use records::Content;
+use records::Event;
+use records::Lookup;
+use records::Report;
+use tables::Resolved;
+
+// A text or a thread as it is written: by its index, or inline, where that is 0, from its place and length in the archive.
+pub struct Spelled {
+    pub index: usize,
+    pub place: usize,
+    pub long: usize,
+}
+
+// The registration of a key under an index; none where that is 0.
+fn put_registration(out: &mut [u8], at: usize, table: u64, index: usize, bytes: &[u8]) -> usize
+    requires { ⌜ RegistrationFits table index (now bytes) ⌝ }
+    requires { ⌜ at + length (registrationBytes table index (now bytes)) ≤ length (now out) ⌝ }
+    ensures { λ _. ⌜ now (out .exit) ≡ written (now (out .entry)) at (registrationBytes table index (now (bytes .entry))) ⌝ }
+    ensures { λ r. ⌜ r ≡ at + length (registrationBytes table index (now (bytes .entry))) ⌝ }
+{
+    if index == 0 {
+        return at;
+    }
+    if table == 3 {
+        return encoding::put_thread_record(
+            out,
+            at,
+            index,
+            words::word(bytes, 0),
+            words::word(bytes, 8),
+        );
+    }
+    encoding::put_string_record(out, at, index, bytes)
+}
+
+// Where what a reference stands for is to be registered and is not yet, it is, at the place `at`.
+fn register_lookup(
+    f: Format,
+    archive: &[u8],
+    room: &mut [u32],
+    out: &mut [u8],
+    at: usize,
+    context: usize,
+    limit: usize,
+    lookup: Lookup,
+) -> usize
+    requires { ⌜ RoomFits f (now archive) (now room) context × LookupsFitIn f (now archive) (now room) context limit (lookup ∷ []) ⌝ }
+    requires { ⌜ at + length (registeredBytes f (now archive) (now room) context limit (lookup ∷ [])) ≤ length (now out) ⌝ }
+    ensures { λ _. ⌜ now (room .exit) ≡ registeredRoom f (now (archive .entry)) (now (room .entry)) context limit (lookup ∷ []) ⌝ }
+    ensures { λ _. ⌜ now (out .exit) ≡ written (now (out .entry)) at (registeredBytes f (now (archive .entry)) (now (room .entry)) context limit (lookup ∷ [])) ⌝ }
+    ensures { λ r. ⌜ r ≡ at + length (registeredBytes f (now (archive .entry)) (now (room .entry)) context limit (lookup ∷ [])) ⌝ }
+{
+    let words = tables::table_words(f);
+    let table = lookup.table;
+    let reference = lookup.reference;
+    let resolved = tables::resolve(f, archive, &room[..words], context, table, reference, limit);
+    match resolved {
+        Resolved::Bad => at,
+        Resolved::Unresolved { index: _ } => at,
+        Resolved::Known { place, length } => {
+            if length == 0 {
+                return at;
+            }
+            let label = tally::label_of(context, table, length);
+            let index = indexing::give_index(archive, &mut room[words..], words, place, label);
+            put_registration(out, at, table, index, reader::text(archive, place, length))
+        }
+    }
+}
+
+// The registrations that so many arguments want.
+fn register_arguments(
+    f: Format,
+    archive: &[u8],
+    room: &mut [u32],
+    out: &mut [u8],
+    start: usize,
+    context: usize,
+    limit: usize,
+    part: &[u8],
+    place: usize,
+    count: usize,
+) -> usize
+    requires { ⌜ RoomFits f (now archive) (now room) context × LookupsFitIn f (now archive) (now room) context limit (argumentLookups (argumentsRead f count (now part) place)) ⌝ }
+    requires { ⌜ (place + length (now part) < 2 ^ 31) × (start + length (registeredBytes f (now archive) (now room) context limit (argumentLookups (argumentsRead f count (now part) place))) ≤ length (now out)) ⌝ }
+    ensures { λ _. ⌜ now (room .exit) ≡ registeredRoom f (now (archive .entry)) (now (room .entry)) context limit (argumentLookups (argumentsRead f count (now (part .entry)) place)) ⌝ }
+    ensures { λ _. ⌜ now (out .exit) ≡ written (now (out .entry)) start (registeredBytes f (now (archive .entry)) (now (room .entry)) context limit (argumentLookups (argumentsRead f count (now (part .entry)) place))) ⌝ }
+    ensures { λ r. ⌜ r ≡ start + length (registeredBytes f (now (archive .entry)) (now (room .entry)) context limit (argumentLookups (argumentsRead f count (now (part .entry)) place))) ⌝ }
+{
+    let mut rest = part;
+    let mut from = place;
+    let mut left = count;
+    let mut at = start;
+    while 0 < left {
+        let texts = arguments::texts_of(f, rest, from);
+        match texts {
+            Texts::Refused(_) => {
+                return at;
+            }
+            Texts::Texts { name, value, size } => {
+                let named = Lookup {
+                    table: 2,
+                    reference: name,
+                };
+                let held = Lookup {
+                    table: 2,
+                    reference: value,
+                };
+                at = register_lookup(f, archive, room, out, at, context, limit, named);
+                at = register_lookup(f, archive, room, out, at, context, limit, held);
+                rest = &rest[size..];
+                from += size;
+                left -= 1;
+            }
+        }
+    }
+    at
+}
+
+// The registrations that a record which refers to texts and threads wants.
+fn register_report(
+    f: Format,
+    archive: &[u8],
+    room: &mut [u32],
+    out: &mut [u8],
+    at: usize,
+    s: State,
+    report: Report,
+    next: usize,
+) -> usize
+    requires { ⌜ RoomFits f (now archive) (now room) (s .current) × ReportAt f (now archive) s report next ⌝ }
+    requires { ⌜ LookupsFitIn f (now archive) (now room) (s .current) (s .place) (reportLookups f (now archive) report next) ⌝ }
+    requires { ⌜ at + length (registeredBytes f (now archive) (now room) (s .current) (s .place) (reportLookups f (now archive) report next)) ≤ length (now out) ⌝ }
+    ensures { λ _. ⌜ now (room .exit) ≡ registeredRoom f (now (archive .entry)) (now (room .entry)) (s .current) (s .place) (reportLookups f (now (archive .entry)) report next) ⌝ }
+    ensures { λ _. ⌜ now (out .exit) ≡ written (now (out .entry)) at (registeredBytes f (now (archive .entry)) (now (room .entry)) (s .current) (s .place) (reportLookups f (now (archive .entry)) report next)) ⌝ }
+    ensures { λ r. ⌜ r ≡ at + length (registeredBytes f (now (archive .entry)) (now (room .entry)) (s .current) (s .place) (reportLookups f (now (archive .entry)) report next)) ⌝ }
+{
+    let limit = s.place;
+    let context = s.current;
+    let start = report.arguments;
+    let one = report.first;
+    let two = report.second;
+    let three = report.third;
+    let first = register_lookup(f, archive, room, out, at, context, limit, one);
+    let second = register_lookup(f, archive, room, out, first, context, limit, two);
+    let third = register_lookup(f, archive, room, out, second, context, limit, three);
+    register_arguments(
+        f,
+        archive,
+        room,
+        out,
+        third,
+        context,
+        limit,
+        &archive[start..next],
+        start,
+        report.count,
+    )
+}
+
+// The registrations that such a record wants; it is not walked where no key waits for its index.
+fn register_waiting(
+    f: Format,
+    archive: &[u8],
+    room: &mut [u32],
+    out: &mut [u8],
+    at: usize,
+    s: State,
+    report: Report,
+    next: usize,
+    waits: bool,
+) -> usize
+    requires { ⌜ RoomFits f (now archive) (now room) (s .current) × ReportAt f (now archive) s report next ⌝ }
+    requires { ⌜ LookupsFitIn f (now archive) (now room) (s .current) (s .place) (reportLookups f (now archive) report next) ⌝ }
+    requires { ⌜ at + length (registeredBytes f (now archive) (now room) (s .current) (s .place) (reportLookups f (now archive) report next)) ≤ length (now out) ⌝ }
+    requires { ⌜ (waits ≡ false → Settled (tableWords f) (slotsIn f (now room))) ⌝ }
+    ensures { λ _. ⌜ now (room .exit) ≡ registeredRoom f (now (archive .entry)) (now (room .entry)) (s .current) (s .place) (reportLookups f (now (archive .entry)) report next) ⌝ }
+    ensures { λ _. ⌜ now (out .exit) ≡ written (now (out .entry)) at (registeredBytes f (now (archive .entry)) (now (room .entry)) (s .current) (s .place) (reportLookups f (now (archive .entry)) report next)) ⌝ }
+    ensures { λ r. ⌜ r ≡ at + length (registeredBytes f (now (archive .entry)) (now (room .entry)) (s .current) (s .place) (reportLookups f (now (archive .entry)) report next)) ⌝ }
+{
+    if waits {
+        return register_report(f, archive, room, out, at, s, report, next);
+    }
+    at
+}
+
+// How a reference is written.
+fn spell(
+    f: Format,
+    archive: &[u8],
+    room: &[u32],
+    context: usize,
+    limit: usize,
+    lookup: Lookup,
+) -> Spelled
+    requires { ⌜ RoomFits f (now archive) (now room) context × CanLookUp lookup ⌝ }
+    ensures { λ r. ⌜ r ≡ spelledIn f (now (archive .entry)) (now (room .entry)) context limit lookup ⌝ }
+{
+    let words = tables::table_words(f);
+    let table = lookup.table;
+    let reference = lookup.reference;
+    let resolved = tables::resolve(f, archive, &room[..words], context, table, reference, limit);
+    match resolved {
+        Resolved::Bad => Spelled {
+            index: 0,
+            place: 0,
+            long: 0,
+        },
+        Resolved::Unresolved { index } => Spelled {
+            index,
+            place: 0,
+            long: 0,
+        },
+        Resolved::Known { place, length } => {
+            let label = tally::label_of(context, table, length);
+            let index = indexing::index_of(archive, &room[words..], words, place, label);
+            Spelled {
+                index,
+                place,
+                long: length,
+            }
+        }
+    }
+}
+
+// A text or a thread that is spelled so, in a body.
+fn put_spelled(archive: &[u8], out: &mut [u8], at: usize, table: u64, spelled: Spelled) -> usize
+    requires { ⌜ SpelledThread table (now archive) spelled × (at + length (partBytes (spelledPart (now archive) table spelled)) ≤ length (now out)) ⌝ }
+    ensures { λ _. ⌜ now (out .exit) ≡ written (now (out .entry)) at (partBytes (spelledPart (now (archive .entry)) table spelled)) ⌝ }
+    ensures { λ r. ⌜ r ≡ at + length (partBytes (spelledPart (now (archive .entry)) table spelled)) ⌝ }
+{
+    let bytes = reader::text(archive, spelled.place, spelled.long);
+    encoding::put_referent(out, at, table, spelled.index, bytes)
+}
+
+// Its reference.
+fn spelled_reference(archive: &[u8], table: u64, spelled: Spelled) -> u64
+    ensures { λ r. ⌜ r ≡ referenceOf (spelledPart (now (archive .entry)) table spelled) ⌝ }
+{
+    let bytes = reader::text(archive, spelled.place, spelled.long);
+    encoding::referent_reference(table, spelled.index, bytes)
+}
+
+// An argument.
+fn put_argument(
+    f: Format,
+    archive: &[u8],
+    room: &[u32],
+    out: &mut [u8],
+    at: usize,
+    context: usize,
+    limit: usize,
+    argument: Argument,
+) -> usize
+    requires { ⌜ RoomFits f (now archive) (now room) context × ArgumentFitsIn f (now archive) (now room) context limit argument ⌝ }
+    requires { ⌜ at + length (argumentIn f (now archive) (now room) context limit argument) ≤ length (now out) ⌝ }
+    ensures { λ _. ⌜ now (out .exit) ≡ written (now (out .entry)) at (argumentIn f (now (archive .entry)) (now (room .entry)) context limit argument) ⌝ }
+    ensures { λ r. ⌜ r ≡ at + length (argumentIn f (now (archive .entry)) (now (room .entry)) context limit argument) ⌝ }
+{
+    let reference = argument.name;
+    let value = argument.value;
+    let name = Lookup {
+        table: 2,
+        reference,
+    };
+    let named = spell(f, archive, room, context, limit, name);
+    let bytes = reader::text(archive, named.place, named.long);
+    match value {
+        Value::Scalar(scalar) => encoding::put_scalar_argument(out, at, scalar, named.index, bytes),
+        Value::Text(inside) => {
+            let text = Lookup {
+                table: 2,
+                reference: inside,
+            };
+            let held = spell(f, archive, room, context, limit, text);
+            let content = reader::text(archive, held.place, held.long);
+            encoding::put_text_argument(out, at, named.index, bytes, held.index, content)
+        }
+    }
+}
+
+// So many arguments.
+fn put_arguments(
+    f: Format,
+    archive: &[u8],
+    room: &[u32],
+    out: &mut [u8],
+    start: usize,
+    context: usize,
+    limit: usize,
+    part: &[u8],
+    place: usize,
+    count: usize,
+) -> usize
+    requires { ⌜ RoomFits f (now archive) (now room) context × ArgumentsFitIn f (now archive) (now room) context limit (argumentsRead f count (now part) place) ⌝ }
+    requires { ⌜ (place + length (now part) < 2 ^ 31) × (start + length (argumentsIn f (now archive) (now room) context limit (argumentsRead f count (now part) place)) ≤ length (now out)) ⌝ }
+    ensures { λ _. ⌜ now (out .exit) ≡ written (now (out .entry)) start (argumentsIn f (now (archive .entry)) (now (room .entry)) context limit (argumentsRead f count (now (part .entry)) place)) ⌝ }
+    ensures { λ r. ⌜ r ≡ start + length (argumentsIn f (now (archive .entry)) (now (room .entry)) context limit (argumentsRead f count (now (part .entry)) place)) ⌝ }
+{
+    let mut rest = part;
+    let mut from = place;
+    let mut left = count;
+    let mut at = start;
+    while 0 < left {
+        let argued = arguments::argument_of(f, rest, from);
+        match argued {
+            Argued::Refused(_) => {
+                return at;
+            }
+            Argued::Argument { argument, size } => {
+                at = put_argument(f, archive, room, out, at, context, limit, argument);
+                rest = &rest[size..];
+                from += size;
+                left -= 1;
+            }
+        }
+    }
+    at
+}
+
+// The last word of a record, where its kind has one.
+fn put_last(out: &mut [u8], at: usize, own: Event, last: u64) -> usize
+    requires { ⌜ at + length (wordsBytes (lastWords (ownBehind own) last)) ≤ length (now out) ⌝ }
+    ensures { λ _. ⌜ now (out .exit) ≡ written (now (out .entry)) at (wordsBytes (lastWords (ownBehind own) last)) ⌝ }
+    ensures { λ r. ⌜ r ≡ at + length (wordsBytes (lastWords (ownBehind own) last)) ⌝ }
+{
+    if records::own_behind(own) == 0 {
+        return at;
+    }
+    words::put_word(out, at, last);
+    at + 8
+}
+
+// The bytes of a stream that is no reference.
+fn stream_bytes(archive: &[u8], stream: Reference) -> &[u8]
+    ensures { λ r. ⌜ now r ≡ streamItem (now (archive .entry)) (shownStream stream) ⌝ }
+{
+    match stream {
+        Reference::Inline { place, length } => reader::text(archive, place, length),
+        Reference::Index(_) => reader::text(archive, 0, 0),
+    }
+}
+
+// The pieces of a record before its arguments: its own words, its three references and its stream.
+fn put_pieces(
+    archive: &[u8],
+    out: &mut [u8],
+    at: usize,
+    report: Report,
+    first: Spelled,
+    second: Spelled,
+    third: Spelled,
+) -> usize
+    requires { ⌜ SpelledThread (report .first .table) (now archive) first × SpelledThread (report .second .table) (now archive) second × SpelledThread (report .third .table) (now archive) third ⌝ }
+    requires { ⌜ at + length (partsBytes (spelledPieces (now archive) report first second third)) ≤ length (now out) ⌝ }
+    ensures { λ _. ⌜ now (out .exit) ≡ written (now (out .entry)) at (partsBytes (spelledPieces (now (archive .entry)) report first second third)) ⌝ }
+    ensures { λ r. ⌜ r ≡ at + length (partsBytes (spelledPieces (now (archive .entry)) report first second third)) ⌝ }
+{
+    let one = report.first;
+    let two = report.second;
+    let three = report.third;
+    let stream = report.stream;
+    let owned = encoding::put_own_words(out, at, report.own);
+    let behind_first = put_spelled(archive, out, owned, one.table, first);
+    let behind_second = put_spelled(archive, out, behind_first, two.table, second);
+    let behind_third = put_spelled(archive, out, behind_second, three.table, third);
+    encoding::put_stream(out, behind_third, stream_bytes(archive, stream))
+}
+
+// The header of a record of this size in words.
+fn put_header(
+    archive: &[u8],
+    out: &mut [u8],
+    at: usize,
+    size: usize,
+    report: Report,
+    first: Spelled,
+    second: Spelled,
+    third: Spelled,
+) -> usize
+    requires { ⌜ (size < 2 ^ 12) × SpelledHeaderFits (now archive) report first second third × (at + 8 ≤ length (now out)) ⌝ }
+    ensures { λ _. ⌜ now (out .exit) ≡ written (now (out .entry)) at (spelledHeader (now (archive .entry)) size report first second third) ⌝ }
+    ensures { λ r. ⌜ r ≡ at + 8 ⌝ }
+{
+    let one = report.first;
+    let two = report.second;
+    let three = report.third;
+    let stream = report.stream;
+    encoding::put_report_header(
+        out,
+        at,
+        report.own,
+        size,
+        report.count,
+        spelled_reference(archive, one.table, first),
+        spelled_reference(archive, two.table, second),
+        spelled_reference(archive, three.table, third),
+        stream_bytes(archive, stream).len(),
+    )
+}
+
+// A record that refers to texts and threads. Its header, which holds the size, is written last.
+fn put_report(
+    f: Format,
+    archive: &[u8],
+    room: &[u32],
+    out: &mut [u8],
+    at: usize,
+    s: State,
+    report: Report,
+    next: usize,
+) -> usize
+    requires { ⌜ RoomFits f (now archive) (now room) (s .current) × ReportAt f (now archive) s report next × ReportFitsIn f (now archive) (now room) s report next ⌝ }
+    requires { ⌜ at + length (reportIn f (now archive) (now room) s report next) ≤ length (now out) ⌝ }
+    ensures { λ _. ⌜ now (out .exit) ≡ written (now (out .entry)) at (reportIn f (now (archive .entry)) (now (room .entry)) s report next) ⌝ }
+    ensures { λ r. ⌜ r ≡ at + length (reportIn f (now (archive .entry)) (now (room .entry)) s report next) ⌝ }
+{
+    let limit = s.place;
+    let context = s.current;
+    let start = report.arguments;
+    let one = report.first;
+    let two = report.second;
+    let three = report.third;
+    let own = report.own;
+    let first = spell(f, archive, room, context, limit, one);
+    let second = spell(f, archive, room, context, limit, two);
+    let third = spell(f, archive, room, context, limit, three);
+    let pieced = put_pieces(archive, out, at + 8, report, first, second, third);
+    let argued = put_arguments(
+        f,
+        archive,
+        room,
+        out,
+        pieced,
+        context,
+        limit,
+        &archive[start..next],
+        start,
+        report.count,
+    );
+    let end = put_last(out, argued, own, report.last);
+    put_header(
+        archive,
+        out,
+        at,
+        (end - at) / 8,
+        report,
+        first,
+        second,
+        third,
+    );
+    end
+}
+
+// The record of an item that refers to nothing; nothing for a record that shows none.
+fn put_plain(archive: &[u8], out: &mut [u8], at: usize, content: Content) -> usize
+    requires { ⌜ PlainFits (plainItem (now archive) content) × (at + length (plainBytes (plainItem (now archive) content)) ≤ length (now out)) ⌝ }
+    ensures { λ _. ⌜ now (out .exit) ≡ written (now (out .entry)) at (plainBytes (plainItem (now (archive .entry)) content)) ⌝ }
+    ensures { λ r. ⌜ r ≡ at + length (plainBytes (plainItem (now (archive .entry)) content)) ⌝ }
+{
+    match content {
+        Content::Magic => encoding::put_magic(out, at),
+        Content::ProviderInfo { id, place, length } => {
+            encoding::put_provider_info(out, at, id, reader::text(archive, place, length))
+        }
+        Content::Section { id } => encoding::put_section(out, at, id),
+        Content::ProviderEvent { id, event } => encoding::put_provider_event(out, at, id, event),
+        Content::Initialization { rate } => encoding::put_initialization(out, at, rate),
+        Content::Report(_) => at,
+        Content::Refused(_) => at,
+        Content::String {
+            index: _,
+            place: _,
+            length: _,
+        } => at,
+        Content::Thread { index: _, place: _ } => at,
+        Content::Ignored => at,
+        Content::Skipped {
+            record_type: _,
+            size: _,
+        } => at,
+    }
+}
+
+// The record of an item, with the registrations before it.
+fn put_record(
+    f: Format,
+    archive: &[u8],
+    room: &mut [u32],
+    out: &mut [u8],
+    at: usize,
+    s: State,
+    content: Content,
+    next: usize,
+    waits: bool,
+) -> usize
+    requires { ⌜ RoomFits f (now archive) (now room) (s .current) × (s .place ≤ length (now archive)) × (recordAt f (now archive) (s .place) ≡ record { content = content; next = next }) ⌝ }
+    requires { ⌜ ContentFitsIn f (now archive) (now room) s content next × (waits ≡ false → Settled (tableWords f) (slotsIn f (now room))) ⌝ }
+    requires { ⌜ at + length (contentIn f (now archive) (now room) s content next) ≤ length (now out) ⌝ }
+    ensures { λ _. ⌜ now (room .exit) ≡ contentRoom f (now (archive .entry)) (now (room .entry)) s content next ⌝ }
+    ensures { λ _. ⌜ now (out .exit) ≡ written (now (out .entry)) at (contentIn f (now (archive .entry)) (now (room .entry)) s content next) ⌝ }
+    ensures { λ r. ⌜ r ≡ at + length (contentIn f (now (archive .entry)) (now (room .entry)) s content next) ⌝ }
+{
+    match content {
+        Content::Report(report) => {
+            let registered = register_waiting(f, archive, room, out, at, s, report, next, waits);
+            put_report(f, archive, room, out, registered, s, report, next)
+        }
+        _ => put_plain(archive, out, at, content),
+    }
+}
+
+// Passes over the whole archive.
+pub fn write_all(f: Format, archive: &[u8], room: &mut [u32], out: &mut [u8])
+    requires { ⌜ Asks f (now archive) (now room) (now out) ⌝ }
+    requires { ⌜ Chosen f (now archive) (slotsIn f (now room)) ⌝ }
+    ensures { λ _. ⌜ now (out .exit) ≡ written (now (out .entry)) 0 (ruleOf (itemsOf (runOf f (now (archive .entry))))) ⌝ }
+    ensures { λ _. ⌜ tablesIn f (now (room .exit)) ≡ tablesOf f (now (archive .entry)) ⌝ }
+    ensures { λ _. ⌜ SlotsIndexed f (now (archive .entry)) (slotsIn f (now (room .entry))) (slotsIn f (now (room .exit))) ⌝ }
+    ensures { λ _. ⌜ (length (now (room .exit)) ≡ length (now (room .entry))) × (drop (4 * tableWords f) (now (room .exit)) ≡ drop (4 * tableWords f) (now (room .entry))) ⌝ }
+{
+    let stretch = tables::table_words(f);
+    let mut s = contexts::opening_state();
+    let mut at = 0;
+    let mut waiting = indexing::waiting_slot(&room[stretch..], stretch, 0);
+    while s.place < archive.len() {
+        let record = records::record_at(f, archive, s.place);
+        let content = record.content;
+        let next = record.next;
+        let followed = passes::follow(f, &mut room[..stretch], s, content, next);
+        if followed.number != 0 {
+            return;
+        }
+        let waits = waiting < stretch;
+        at = put_record(f, archive, room, out, at, s, content, next, waits);
+        waiting = indexing::waiting_slot(&room[stretch..], stretch, waiting);
+        s = followed.state;
+    }
+}

@@ -1,0 +1,121 @@
+-- One hashed table of keys for all contexts, in lent words: three stretches of one length. Of slot s, the byte place of its key, the key's label
+-- and its uses stand at word s of each; a place of 0 is a free slot. The last 18 words of a stretch are no slots: in the third they count the
+-- distinct keys of each mark.
+use Prim.Native.Nat.{ℕ, zero, suc, _+_, _-_, _*_, _/_, _%_, _^_}
+use mathlib.Core.List.{List, _∷_}
+use mathlib.Core.Bool.{Bool, true, false}
+use lib.ListN.{drop, getD, set}
+use lib.Dec.{eqb, ltb}
+use Rattle.words.specs.Word.{pick}
+use Rattle.words.specs.Stream.{streamWords, sameBytes, partOf}
+use Rattle.registering.specs.Registers.{registers}
+use Rattle.hashing.specs.Models.Hash.{hashOf, foldedOf}
+use Rattle.tally.specs.declared.Slot.{Slot}
+use Rattle.tally.specs.declared.Slot.the-variants.{Here, Free, Full}
+
+-- the mark of a context and a kind, 2 for texts and 3 for threads
+abbrev pub markOf : ℕ → ℕ → ℕ
+markOf context kind = 2 * context + (kind - 2)
+
+-- a label: the length of a key's bytes and, above 16 bits, its mark
+unfoldable pub labelOf : ℕ → ℕ → ℕ → ℕ
+labelOf context kind long = markOf context kind * 65536 + long
+
+-- the key at a place: its label and then its bytes
+abbrev pub keyOf : List ℕ → ℕ → ℕ → List ℕ
+keyOf archive place label = label ∷ partOf archive place (label % 65536)
+
+-- of a key: its label, its mark, and the words that it takes inline
+abbrev pub keyLabel : List ℕ → ℕ
+keyLabel key = getD key 0 0
+
+abbrev pub keyMark : List ℕ → ℕ
+keyMark key = keyLabel key / 65536
+
+abbrev pub keyWords : List ℕ → ℕ
+keyWords key = streamWords (keyLabel key % 65536)
+
+-- the words of a slot, and the counter of a mark
+abbrev pub placeAt : List ℕ → ℕ → ℕ
+placeAt table s = getD table s 0
+
+abbrev pub labelAt : ℕ → List ℕ → ℕ → ℕ
+labelAt stretch table s = getD table (stretch + s) 0
+
+abbrev pub usesAt : ℕ → List ℕ → ℕ → ℕ
+usesAt stretch table s = getD table (2 * stretch + s) 0
+
+abbrev pub counterAt : ℕ → ℕ → ℕ
+counterAt stretch mark = 3 * stretch - 18 + mark
+
+-- whether a slot is free, and the key that it holds
+abbrev pub isFree : List ℕ → ℕ → Bool
+isFree table s = eqb (placeAt table s) 0
+
+abbrev pub keyAt : List ℕ → ℕ → List ℕ → ℕ → List ℕ
+keyAt archive stretch table s = keyOf archive (placeAt table s) (labelAt stretch table s)
+
+-- the first slot of a key: its hash, scaled to the slots
+unfoldable pub startOf : ℕ → List ℕ → ℕ
+startOf capacity key = foldedOf (hashOf (keyLabel key * 0x7eaec5c3) (drop 1 key)) * capacity / 2 ^ 32
+
+-- the slot after s, around the end
+unfoldable pub nextOf : ℕ → ℕ → ℕ
+nextOf capacity s = pick (ltb (s + 1) capacity) (s + 1) 0
+
+-- the first of so many slots from s on, around the end, that is free or mine
+unfoldable pub probe : (ℕ → Bool) → (ℕ → Bool) → ℕ → ℕ → ℕ → Slot
+probe free mine capacity zero s = Full
+probe free mine capacity (suc left) s = pick (free s) (Free s) (pick (mine s) (Here s) (probe free mine capacity left (nextOf capacity s)))
+
+-- the same, for a key
+unfoldable pub seek : List ℕ → ℕ → List ℕ → List ℕ → ℕ → ℕ → Slot
+seek archive stretch table key left s =
+    probe (isFree table) (λ x. sameBytes (keyAt archive stretch table x) key) (stretch - 18) left s
+
+-- the slot of a key
+unfoldable pub findOf : List ℕ → ℕ → List ℕ → List ℕ → Slot
+findOf archive stretch table key = seek archive stretch table key (stretch - 18) (startOf (stretch - 18) key)
+
+-- one more, up to the highest number of a word
+unfoldable pub raised : ℕ → ℕ
+raised n = pick (ltb n (2 ^ 32 - 1)) (n + 1) n
+
+-- what the counter of a label's mark has
+abbrev pub countAt : ℕ → List ℕ → ℕ → ℕ
+countAt stretch table label = getD table (counterAt stretch (label / 65536)) 0
+
+-- the table after one use more of the key of a slot
+abbrev pub usedAgain : ℕ → List ℕ → ℕ → List ℕ
+usedAgain stretch table s = set table (2 * stretch + s) (raised (usesAt stretch table s))
+
+-- the table after the first use of a key, in a free slot: its place, its label, one use, and one key more of its mark
+abbrev pub filled : ℕ → List ℕ → ℕ → ℕ → ℕ → List ℕ
+filled stretch table place label s =
+    set (set (set (set table s place) (stretch + s) label) (2 * stretch + s) 1) (counterAt stretch (label / 65536)) (raised (countAt stretch table label))
+
+-- whether one use more is counted of the key whose slot is given: a new key only where fewer than `most` of its mark were
+abbrev pub isAdded : ℕ → List ℕ → ℕ → ℕ → Slot → Bool
+isAdded stretch table label most (Here s) = true
+isAdded stretch table label most (Free s) = ltb (countAt stretch table label) most
+isAdded stretch table label most Full = false
+
+-- the table after it
+abbrev pub added : ℕ → List ℕ → ℕ → ℕ → ℕ → Slot → List ℕ
+added stretch table place label most (Here s) = usedAgain stretch table s
+added stretch table place label most (Free s) = pick (ltb (countAt stretch table label) most) (filled stretch table place label s) table
+added stretch table place label most Full = table
+
+-- the words that a key takes in all its uses, registered or not
+unfoldable pub costOf : ℕ → ℕ → ℕ → ℕ
+costOf place label uses =
+    pick (eqb place 0) 0
+    (pick (registers (streamWords (label % 65536)) uses) (1 + streamWords (label % 65536)) (uses * streamWords (label % 65536)))
+
+abbrev pub sumTo : ℕ → (ℕ → ℕ) → ℕ
+sumTo zero f = 0
+sumTo (suc n) f = sumTo n f + f n
+
+-- the words that all keys take
+unfoldable pub measureOf : ℕ → List ℕ → ℕ
+measureOf stretch table = sumTo (stretch - 18) (λ s. costOf (placeAt table s) (labelAt stretch table s) (usesAt stretch table s))

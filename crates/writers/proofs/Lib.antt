@@ -1,3 +1,0 @@
-pub mod Headers
-pub mod Parts
-pub mod Signs
