@@ -21,11 +21,11 @@ returns-2 c = simp (ne-eqb _ _ (c .if2 .taken), ← c .before .reserved-bits .en
 returns-3 : tie.Need-returns-3
 unfolding argumentKeeps
 returns-3 c =
-    let reserved-bits′ = c .before .before .before .before .reserved-bits in
-    let if1′′ = c .before .before .before .before .before .if1 in
-    let field′ = c .before .before .before .before .before .before .field in
-    let word′ = c .before .before .before .before .before .before .before .word in
-    let reserved-bits = reserved-bits′ in let if1′ = if1′′ in let field = field′ in let word = word′ in simp (
+    let reserved-bits = c .before .before .before .before .reserved-bits in
+    let if1′ = c .before .before .before .before .before .if1 in
+    let field = c .before .before .before .before .before .before .field in
+    let word = c .before .before .before .before .before .before .before .word in
+    simp (
       ne-eqb _ _ (c .if3 .taken),
       ← c .before .value-bytes .ensures,
       ←
@@ -77,13 +77,13 @@ returns-4 c =
 returns-5 : tie.Need-returns-5
 unfolding argumentKeeps
 returns-5 c =
-    let inline-bytes′ = c .before .before .before .before .inline-bytes in
-    let if2′′ = c .before .before .before .before .before .if2 in
-    let reserved-bits′ = c .before .before .before .before .before .before .reserved-bits in
-    let if1′′ = c .before .before .before .before .before .before .before .if1 in
-    let field′ = c .before .before .before .before .before .before .before .before .field in
-    let word′ = c .before .before .before .before .before .before .before .before .before .word in
-    let inline-bytes = inline-bytes′ in let if2′ = if2′′ in let reserved-bits = reserved-bits′ in let if1′ = if1′′ in let field = field′ in let word = word′ in simp (
+    let inline-bytes = c .before .before .before .before .inline-bytes in
+    let if2′ = c .before .before .before .before .before .if2 in
+    let reserved-bits = c .before .before .before .before .before .before .reserved-bits in
+    let if1′ = c .before .before .before .before .before .before .before .if1 in
+    let field = c .before .before .before .before .before .before .before .before .field in
+    let word = c .before .before .before .before .before .before .before .before .before .word in
+    simp (
       c .if4 .left,
       ← c .before .padding-zero .ensures,
       eq-eqb _ _ (c .before .before .if3 .left),

@@ -44,15 +44,15 @@ returns-4 c =
 returns-5 : tie.Need-returns-5
 unfolding argumentOf
 returns-5 c =
-    let named2′ = c .before .before .before .before .before .named2 in
-    let take-text′ = c .before .before .before .before .before .before .before .take-text in
-    let field2′ = c .before .before .before .before .before .before .before .before .field2 in
-    let if3′′ = c .before .before .before .before .before .before .before .before .before .if3 in
-    let if2′′ = c .before .before .before .before .before .before .before .before .before .before .if2 in
-    let field′ = c .before .before .before .before .before .before .before .before .before .before .before .field in
-    let word′ = c .before .before .before .before .before .before .before .before .before .before .before .before .word in
-    let if1′′ = c .before .before .before .before .before .before .before .before .before .before .before .before .before .if1 in
-    let named2 = named2′ in let take-text = take-text′ in let field2 = field2′ in let if3′ = if3′′ in let if2′ = if2′′ in let field = field′ in let word = word′ in let if1′ = if1′′ in simp (
+    let named2 = c .before .before .before .before .before .named2 in
+    let take-text = c .before .before .before .before .before .before .before .take-text in
+    let field2 = c .before .before .before .before .before .before .before .before .field2 in
+    let if3′ = c .before .before .before .before .before .before .before .before .before .if3 in
+    let if2′ = c .before .before .before .before .before .before .before .before .before .before .if2 in
+    let field = c .before .before .before .before .before .before .before .before .before .before .before .field in
+    let word = c .before .before .before .before .before .before .before .before .before .before .before .before .word in
+    let if1′ = c .before .before .before .before .before .before .before .before .before .before .before .before .before .if1 in
+    simp (
       c .before .valued .given .1,
       ← c .before .before .before .take-value .ensures,
       named2 .given .1,
@@ -70,15 +70,15 @@ returns-5 c =
 returns-6 : tie.Need-returns-6
 unfolding argumentOf
 returns-6 c =
-    let named2′ = c .before .before .before .before .before .named2 in
-    let take-text′ = c .before .before .before .before .before .before .before .take-text in
-    let field2′ = c .before .before .before .before .before .before .before .before .field2 in
-    let if3′′ = c .before .before .before .before .before .before .before .before .before .if3 in
-    let if2′′ = c .before .before .before .before .before .before .before .before .before .before .if2 in
-    let field′ = c .before .before .before .before .before .before .before .before .before .before .before .field in
-    let word′ = c .before .before .before .before .before .before .before .before .before .before .before .before .word in
-    let if1′′ = c .before .before .before .before .before .before .before .before .before .before .before .before .before .if1 in
-    let named2 = named2′ in let take-text = take-text′ in let field2 = field2′ in let if3′ = if3′′ in let if2′ = if2′′ in let field = field′ in let word = word′ in let if1′ = if1′′ in simp (
+    let named2 = c .before .before .before .before .before .named2 in
+    let take-text = c .before .before .before .before .before .before .before .take-text in
+    let field2 = c .before .before .before .before .before .before .before .before .field2 in
+    let if3′ = c .before .before .before .before .before .before .before .before .before .if3 in
+    let if2′ = c .before .before .before .before .before .before .before .before .before .before .if2 in
+    let field = c .before .before .before .before .before .before .before .before .before .before .before .field in
+    let word = c .before .before .before .before .before .before .before .before .before .before .before .before .word in
+    let if1′ = c .before .before .before .before .before .before .before .before .before .before .before .before .before .if1 in
+    simp (
       c .before .valued2 .given .1,
       ← c .before .before .before .take-value .ensures,
       named2 .given .1,

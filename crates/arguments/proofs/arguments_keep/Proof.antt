@@ -27,9 +27,8 @@ returns c =
 
 argument-keeps-requires : tie.Need-argument-keeps-requires Inv-loop μ-loop
 argument-keeps-requires c κs =
-    let loop′′ = c .before .before .before .before .before .loop in
-    let given′′ = c .before .before .before .before .before .before .before .args in
-    let loop′ = loop′′ in let given′ = given′′ in (
+    let loop′ = c .before .before .before .before .before .loop in
+    let given′ = c .before .before .before .before .before .before .before .args in (
       omega (arith, loop′ .inv .1),
       argument-read (given′ .f) (loop′ .rest .now) (loop′ .at) (c .before .argued .given .0 .0)
           (c .before .argued .given .0 .1 .0) (sym (c .before .before .before .argument-of .ensures) ∙ c .before .argued .given .1),
@@ -76,11 +75,11 @@ loop-again c =
 
 returns-2 : tie.Need-returns-2 Inv-loop μ-loop
 returns-2 c =
-    let argument-of′ = c .before .before .before .before .before .argument-of in
-    let loop-test′ = c .before .before .before .before .before .before .loop-test in
-    let loop′′ = c .before .before .before .before .before .before .before .loop in
-    let given′′ = c .before .before .before .before .before .before .before .before .before .args in
-    let argument-of = argument-of′ in let loop-test = loop-test′ in let loop′ = loop′′ in let given′ = given′′ in sym (loop′ .inv .0 ∙ keep-turn
+    let argument-of = c .before .before .before .before .before .argument-of in
+    let loop-test = c .before .before .before .before .before .before .loop-test in
+    let loop′ = c .before .before .before .before .before .before .before .loop in
+    let given′ = c .before .before .before .before .before .before .before .before .before .args in
+    sym (loop′ .inv .0 ∙ keep-turn
     (given′ .f) (loop′ .left) (loop′ .rest .now) (loop′ .at) (given′ .extra) (loop-test .taken) ∙ simp (
       ← argument-of .ensures,
       c .before .before .before .argued .given .1,

@@ -21,25 +21,25 @@ loop-holds c = (refl, refl)
 
 returns : tie.Need-returns Inv-loop μ-loop
 returns c =
-    let loop-test′ = c .before .before .before .before .loop-test in
-    let loop′′ = c .before .before .before .before .before .loop in
-    let given′′ = c .before .before .before .before .before .before .before .args in
-    let loop-test = loop-test′ in let loop′ = loop′′ in let given′ = given′′ in sym (loop′ .inv .0 ∙ walk-turn (given′ .f) (loop′ .left) (loop′ .rest .now)
+    let loop-test = c .before .before .before .before .loop-test in
+    let loop′ = c .before .before .before .before .before .loop in
+    let given′ = c .before .before .before .before .before .before .before .args in
+    sym (loop′ .inv .0 ∙ walk-turn (given′ .f) (loop′ .left) (loop′ .rest .now)
     (loop′ .at) (loop-test .taken) ∙ simp (texts-refused (given′ .f) (loop′ .rest .now) (loop′ .at) (c .before .texts .given .0 .0) (sym (c .before .before .before .texts-of .ensures)
     ∙ c .before .texts .given .1)))
 
 sub-rest : tie.Need-sub-rest Inv-loop μ-loop
 sub-rest c =
-    let loop′′ = c .before .before .before .before .before .loop in
-    let given′′ = c .before .before .before .before .before .before .before .args in
-    let loop′ = loop′′ in let given′ = given′′ in texts-inside (given′ .f) (loop′ .rest .now) (loop′ .at) (c .before .texts2 .given .0 .0) (c .before .texts2 .given .0 .1 .0)
+    let loop′ = c .before .before .before .before .before .loop in
+    let given′ = c .before .before .before .before .before .before .before .args in
+    texts-inside (given′ .f) (loop′ .rest .now) (loop′ .at) (c .before .texts2 .given .0 .0) (c .before .texts2 .given .0 .1 .0)
     (c .before .texts2 .given .0 .1 .1 .0) (sym (c .before .before .before .texts-of .ensures) ∙ c .before .texts2 .given .1)
 
 part-rest-start : tie.Need-part-rest-start Inv-loop μ-loop
 part-rest-start c =
-    let loop′′ = c .before .before .before .before .before .loop in
-    let given′′ = c .before .before .before .before .before .before .before .args in
-    let loop′ = loop′′ in let given′ = given′′ in texts-inside (given′ .f) (loop′ .rest .now) (loop′ .at) (c .before .texts2 .given .0 .0) (c .before .texts2 .given .0 .1 .0)
+    let loop′ = c .before .before .before .before .before .loop in
+    let given′ = c .before .before .before .before .before .before .before .args in
+    texts-inside (given′ .f) (loop′ .rest .now) (loop′ .at) (c .before .texts2 .given .0 .0) (c .before .texts2 .given .0 .1 .0)
     (c .before .texts2 .given .0 .1 .1 .0) (sym (c .before .before .before .texts-of .ensures) ∙ c .before .texts2 .given .1)
 
 add-at : tie.Need-add-at Inv-loop μ-loop

@@ -43,9 +43,12 @@ put-thread-requires c κs = let a = c .before .before .before .before .before .b
 returns-3 : tie.Need-returns-3
 returns-3 c = let a = c .before .before .before .before .before .before .before .before .before .before .args in
     let t = thread (wordAt (a .bytes .now) 0) (wordAt (a .bytes .now) 8) in
-    rw (referent-thread (a .table) (a .index) (a .bytes .now) (c .before .before .before .before .before .before .before .if1 .left),
-    inline-thread (a .index) t (c .before .before .before .before .before .before .if2 .left), ← c .before .before .before .before .word .ensures,
-    ← c .before .before .before .word2 .ensures)
+    rw (
+      referent-thread (a .table) (a .index) (a .bytes .now) (c .before .before .before .before .before .before .before .if1 .left),
+      inline-thread (a .index) t (c .before .before .before .before .before .before .if2 .left),
+      ← c .before .before .before .before .word .ensures,
+      ← c .before .before .before .word2 .ensures,
+    )
     (c .before .before .put-thread .ensures)
 
 pub put-referent-spec : {M : Type 1} → statement M

@@ -34,9 +34,9 @@ returns c =
     let with-field2 = c .before .before .before .before .before .before .before .before .with-field2 in
     let with-field = c .before .before .before .before .before .before .before .before .before .with-field in
     let header′ = c .before .before .before .before .before .before .before .before .before .before .header in
-    let stream-words′ = c .before .before .before .before .before .before .before .before .before .before .before .stream-words in
+    let words = c .before .before .before .before .before .before .before .before .before .before .before .stream-words in
     let given = c .before .before .before .before .before .before .before .before .before .before .before .before .before .before .args in
-    let a = given in let n = length (a .bytes .now) in let words = stream-words′ in let long = length-string (a .index) (a .bytes .now) in (
+    let a = given in let n = length (a .bytes .now) in let long = length-string (a .index) (a .bytes .now) in (
       c .before .before .put-stream .ensures ∙ ap (λ (out : List ℕ). written out (a .place + 8) (padded (a .bytes .now))) (put-word .ensures)
           ∙ record-written (a .out .now) (a .place) 2 (words .result) (with-field2 .result) (a .index of 15 ∷ 0 of 1 ∷ n of 15 ∷ 0 of 17 ∷ [])
           (padded (a .bytes .now)) (omega (arith, long)) (omega (arith, length-padded (a .bytes .now), words .ensures))

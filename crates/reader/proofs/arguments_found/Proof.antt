@@ -25,9 +25,9 @@ loop-holds c = (refl, refl)
 
 returns : tie.Need-returns Inv-loop μ-loop
 returns c =
-    let loop′′ = c .before .before .before .before .loop in
-    let given′′ = c .before .before .before .before .before .before .before .before .args in
-    let loop′ = loop′′ in let given′ = given′′ in sym (loop′ .inv .0 ∙ found-turn (given′ .f) (given′ .archive .now) (given′ .tables .now)
+    let loop′ = c .before .before .before .before .loop in
+    let given′ = c .before .before .before .before .before .before .before .before .args in
+    sym (loop′ .inv .0 ∙ found-turn (given′ .f) (given′ .archive .now) (given′ .tables .now)
     (given′ .context) (given′ .limit) (loop′ .left) (loop′ .rest .now) (loop′ .at) (c .before .before .before .loop-test .taken) ∙ simp (
       ← c .before .before .texts-of .ensures,
       c .enum-told .given .1,

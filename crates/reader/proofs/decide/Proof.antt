@@ -15,9 +15,9 @@ returns c = simp (← c .stop .ensures, ne-eqb _ _ (c .before .if1 .taken), ← 
 
 decide-place-requires : tie.Need-decide-place-requires
 decide-place-requires c κs =
-    let given′ = c .before .before .before .before .before .before .args in
-    let pre′ = c .before .before .before .before .before .before .pre in
-    let given = given′ in let pre = pre′ in let a = admitted (given .f) (given .archive .now) (length (given .tables .now)) (sym (c .before .before .before .opening-number .ensures)
+    let given = c .before .before .before .before .before .before .args in
+    let pre = c .before .before .before .before .before .before .pre in
+    let a = admitted (given .f) (given .archive .now) (length (given .tables .now)) (sym (c .before .before .before .opening-number .ensures)
     ∙ c .before .before .if1 .left) in (pre, omega (arith, a .short), a .enough, sym (c .before .belongs .ensures) ∙ c .if2 .taken)
 
 returns-2 : tie.Need-returns-2

@@ -33,13 +33,13 @@ returns-2 c =
 returns-3 : tie.Need-returns-3
 unfolding contentDecision effectDecision reportAnswer noneBad followed changeOf effectOf
 returns-3 c =
-    let is-bad2′ = c .before .before .before .before .is-bad2 in
-    let if1′ = c .before .before .before .before .before .if1 in
-    let is-bad′ = c .before .before .before .before .before .before .is-bad in
-    let resolve3′ = c .before .before .before .before .before .before .before .resolve3 in
-    let resolve2′ = c .before .before .before .before .before .before .before .before .resolve2 in
-    let resolve′ = c .before .before .before .before .before .before .before .before .before .resolve in
-    let is-bad2 = is-bad2′ in let if1 = if1′ in let is-bad = is-bad′ in let resolve3 = resolve3′ in let resolve2 = resolve2′ in let resolve = resolve′ in simp
+    let is-bad2 = c .before .before .before .before .is-bad2 in
+    let if1 = c .before .before .before .before .before .if1 in
+    let is-bad = c .before .before .before .before .before .before .is-bad in
+    let resolve3 = c .before .before .before .before .before .before .before .resolve3 in
+    let resolve2 = c .before .before .before .before .before .before .before .before .resolve2 in
+    let resolve = c .before .before .before .before .before .before .before .before .before .resolve in
+    simp
     (← c .stop3 .ensures, c .before .if3 .taken, ← c .before .before .is-bad3 .ensures, c .before .before .before .if2 .left, ← is-bad2 .ensures, if1 .left, ← is-bad .ensures, ← resolve3 .ensures, ← resolve2 .ensures, ← resolve .ensures)
 
 sub-arguments-found : tie.Need-sub-arguments-found
@@ -87,33 +87,44 @@ shown-report-requires c κs =
 returns-4 : tie.Need-returns-4
 unfolding contentDecision effectDecision reportAnswer noneBad followed changeOf effectOf
 returns-4 c =
-    let if3′ = c .before .before .before .before .before .if3 in
-    let is-bad3′ = c .before .before .before .before .before .before .is-bad3 in
-    let if2′ = c .before .before .before .before .before .before .before .if2 in
-    let is-bad2′ = c .before .before .before .before .before .before .before .before .is-bad2 in
-    let if1′ = c .before .before .before .before .before .before .before .before .before .if1 in
-    let is-bad′ = c .before .before .before .before .before .before .before .before .before .before .is-bad in
-    let resolve3′ = c .before .before .before .before .before .before .before .before .before .before .before .resolve3 in
-    let resolve2′ = c .before .before .before .before .before .before .before .before .before .before .before .before .resolve2 in
-    let resolve′ = c .before .before .before .before .before .before .before .before .before .before .before .before .before .resolve in
-    let if3 = if3′ in let is-bad3 = is-bad3′ in let if2 = if2′ in let is-bad2 = is-bad2′ in let if1 = if1′ in let is-bad = is-bad′ in let resolve3 = resolve3′ in let resolve2 = resolve2′ in let resolve = resolve′ in simp
-    (← c .move-to .ensures, ← c .before .shown-report .ensures, c .before .before .if4 .taken, ← c .before .before .before .arguments-found .ensures,
-    if3 .left, ← is-bad3 .ensures, if2 .left, ← is-bad2 .ensures, if1 .left, ← is-bad .ensures, ← resolve3 .ensures, ← resolve2 .ensures,
-    ← resolve .ensures)
+    let if3 = c .before .before .before .before .before .if3 in
+    let is-bad3 = c .before .before .before .before .before .before .is-bad3 in
+    let if2 = c .before .before .before .before .before .before .before .if2 in
+    let is-bad2 = c .before .before .before .before .before .before .before .before .is-bad2 in
+    let if1 = c .before .before .before .before .before .before .before .before .before .if1 in
+    let is-bad = c .before .before .before .before .before .before .before .before .before .before .is-bad in
+    let resolve3 = c .before .before .before .before .before .before .before .before .before .before .before .resolve3 in
+    let resolve2 = c .before .before .before .before .before .before .before .before .before .before .before .before .resolve2 in
+    let resolve = c .before .before .before .before .before .before .before .before .before .before .before .before .before .resolve in
+    simp (
+      ← c .move-to .ensures,
+      ← c .before .shown-report .ensures,
+      c .before .before .if4 .taken,
+      ← c .before .before .before .arguments-found .ensures,
+      if3 .left,
+      ← is-bad3 .ensures,
+      if2 .left,
+      ← is-bad2 .ensures,
+      if1 .left,
+      ← is-bad .ensures,
+      ← resolve3 .ensures,
+      ← resolve2 .ensures,
+      ← resolve .ensures,
+    )
 
 returns-5 : tie.Need-returns-5
 unfolding contentDecision effectDecision reportAnswer noneBad followed changeOf effectOf
 returns-5 c =
-    let if3′ = c .before .before .before .before .if3 in
-    let is-bad3′ = c .before .before .before .before .before .is-bad3 in
-    let if2′ = c .before .before .before .before .before .before .if2 in
-    let is-bad2′ = c .before .before .before .before .before .before .before .is-bad2 in
-    let if1′ = c .before .before .before .before .before .before .before .before .if1 in
-    let is-bad′ = c .before .before .before .before .before .before .before .before .before .is-bad in
-    let resolve3′ = c .before .before .before .before .before .before .before .before .before .before .resolve3 in
-    let resolve2′ = c .before .before .before .before .before .before .before .before .before .before .before .resolve2 in
-    let resolve′ = c .before .before .before .before .before .before .before .before .before .before .before .before .resolve in
-    let if3 = if3′ in let is-bad3 = is-bad3′ in let if2 = if2′ in let is-bad2 = is-bad2′ in let if1 = if1′ in let is-bad = is-bad′ in let resolve3 = resolve3′ in let resolve2 = resolve2′ in let resolve = resolve′ in simp
+    let if3 = c .before .before .before .before .if3 in
+    let is-bad3 = c .before .before .before .before .before .is-bad3 in
+    let if2 = c .before .before .before .before .before .before .if2 in
+    let is-bad2 = c .before .before .before .before .before .before .before .is-bad2 in
+    let if1 = c .before .before .before .before .before .before .before .before .if1 in
+    let is-bad = c .before .before .before .before .before .before .before .before .before .is-bad in
+    let resolve3 = c .before .before .before .before .before .before .before .before .before .before .resolve3 in
+    let resolve2 = c .before .before .before .before .before .before .before .before .before .before .before .resolve2 in
+    let resolve = c .before .before .before .before .before .before .before .before .before .before .before .before .resolve in
+    simp
     (← c .stop4 .ensures, c .before .if4 .left, ← c .before .before .arguments-found .ensures, if3 .left, ← is-bad3 .ensures, if2 .left, ← is-bad2 .ensures, if1 .left, ← is-bad .ensures, ← resolve3 .ensures, ← resolve2 .ensures, ← resolve .ensures)
 
 pub decide-report-spec : {M : Type 1} → statement M

@@ -20,8 +20,8 @@ returns-2 c = sym (entry-behind _ _ _ _ _ _ (c .if2 .taken))
 
 add-end : tie.Need-add-end
 add-end c =
-    let given′′ = c .before .before .before .before .before .before .before .before .args in
-    let given′ = given′′ in let e = simp part-from at (sym (c .before .before .before .extent-of .ensures) ∙ c .before .extent .given .1) in let w = extent-read
+    let given′ = c .before .before .before .before .before .before .before .before .args in
+    let e = simp part-from at (sym (c .before .before .before .extent-of .ensures) ∙ c .before .extent .given .1) in let w = extent-read
     (drop (given′ .entry) (given′ .archive .now)) (c .before .extent .given .0 .0) e in omega (
       arith,
       w .inside,
