@@ -64,28 +64,21 @@ clear-requires-2 c κs =
 
 returns-2 : tie.Need-returns-2
 returns-2 c =
-    let pack = c .before .before .before .before .before .before .before .before .pack in
-    let clear = c .before .before .before .before .before .before .before .before .before .before .before .before .before .clear in
-    let table-words′ = c .before .before .before .before .before .before .before .before .before .before .before .before .before .before .before .table-words in
-    let if1′ = c .before .before .before .before .before .before .before .before .before .before .before .before .before .before .before .before .if1 in
-    let packing-number = c .before .before .before .before .before .before .before .before .before .before .before .before .before .before .before .before .before .packing-number in
-    let small-format′ = c .before .before .before .before .before .before .before .before .before .before .before .before .before .before .before .before .before .before .small-format in
-    let shared-slice-known = c .before .before .before .before .before .before .before .before .before .before .before .before .before .before .before .before .before .before .before .before .before .shared-slice-known in
-    let given′ = c .before .before .before .before .before .before .before .before .before .before .before .before .before .before .before .before .before .before .before .before .before .before .args in
-    let the-small-format = small-format′ in
-    let a = given′ in
-    let the-clear = clear in
-    let the-pack = pack in
+    let the-pack = c .before .before .before .before .before .before .before .before .pack in
+    let the-clear = c .before .before .before .before .before .before .before .before .before .before .before .before .before .clear in
+    let the-table-words = c .before .before .before .before .before .before .before .before .before .before .before .before .before .before .before .table-words in
+    let the-if1 = c .before .before .before .before .before .before .before .before .before .before .before .before .before .before .before .before .if1 in
+    let the-number = c .before .before .before .before .before .before .before .before .before .before .before .before .before .before .before .before .before .packing-number in
+    let the-small-format = c .before .before .before .before .before .before .before .before .before .before .before .before .before .before .before .before .before .before .small-format in
+    let known = c .before .before .before .before .before .before .before .before .before .before .before .before .before .before .before .before .before .before .before .before .before .shared-slice-known in
+    let a = c .before .before .before .before .before .before .before .before .before .before .before .before .before .before .before .before .before .before .before .before .before .before .args in
     let the-clear2 = c .before .before .clear2 in
-    let the-table-words = table-words′ in
-    let opening-let = packing-number in
-    let the-if1 = if1′ in
-    let known = shared-slice-known in
     let last =
     cleared-last (the-small-format .result) (a .room .now) (the-clear .last .0) (the-pack .last .1 .1 .0) (the-clear2 .last .0) (the-table-words .result)
-    (the-table-words .ensures) (the-clear .ensures) (the-pack .ensures .1 .1 .1) (the-clear2 .ensures) in let p = rw (the-small-format .ensures) at
+    (the-table-words .ensures) (the-clear .ensures) (the-pack .ensures .1 .1 .1) (the-clear2 .ensures) in
+    let p = rw (the-small-format .ensures) at
     (passed-reply (the-small-format .result) (a .archive .now) (a .room .now) (a .output .now) (the-pack .result) (the-clear2 .last .0)
-    (the-pack .last .1 .1 .1 .0) (sym (opening-let .ensures) ∙ the-if1 .left) (the-pack .ensures .0) last (the-pack .ensures .1 .0)) in (
+    (the-pack .last .1 .1 .1 .0) (sym (the-number .ensures) ∙ the-if1 .left) (the-pack .ensures .0) last (the-pack .ensures .1 .0)) in (
       p .0,
       (p .1, (p .2, rw (p .0, p .2) (demand (a .archive .now) (length (a .room .now)) (a .output .now) (λ i. omega (arith, known .given i))))),
     )
