@@ -72,46 +72,46 @@ pub enum Walked {
 fn header_scalar(header: u64) -> Scalar
     ensures { λ r. ⌜ r ≡ headerScalar header ⌝ }
 {
-    let kind = words::field(header, 0, 3);
-    if kind == 0 {
+    let variant = words::field(header, 0, 3);
+    if variant == 0 {
         return Scalar::Null;
     }
-    if kind == 1 {
+    if variant == 1 {
         return Scalar::Signed32(words::signed_half(header));
     }
-    if kind == 2 {
+    if variant == 2 {
         return Scalar::Unsigned32(words::field(header, 32, 63) as u32);
     }
-    if kind == 9 {
+    if variant == 9 {
         return Scalar::Boolean(words::field(header, 32, 32) == 1);
     }
-    Scalar::Unknown(kind as u8)
+    Scalar::Unknown(variant as u8)
 }
 
 // Whether an argument of this type has its value in a word.
-fn holds_word(kind: u64) -> bool
-    ensures { λ r. ⌜ r ≡ holdsWord kind ⌝ }
+fn holds_word(variant: u64) -> bool
+    ensures { λ r. ⌜ r ≡ holdsWord variant ⌝ }
 {
-    if kind < 3 {
+    if variant < 3 {
         return false;
     }
-    kind < 9
+    variant < 9
 }
 
 // The value of a type that has it in a word.
-fn word_scalar(kind: u64, word: u64) -> Scalar
-    ensures { λ r. ⌜ r ≡ wordScalar kind word ⌝ }
+fn word_scalar(variant: u64, word: u64) -> Scalar
+    ensures { λ r. ⌜ r ≡ wordScalar variant word ⌝ }
 {
-    if kind == 3 {
+    if variant == 3 {
         return Scalar::Signed64(words::signed_word(word));
     }
-    if kind == 4 {
+    if variant == 4 {
         return Scalar::Unsigned64(word);
     }
-    if kind == 5 {
+    if variant == 5 {
         return Scalar::Double(word);
     }
-    if kind == 7 {
+    if variant == 7 {
         return Scalar::Pointer(word);
     }
     Scalar::KernelObject(word)
@@ -123,8 +123,8 @@ fn take_value(f: Format, rest: &[u8], place: usize, at: usize, end: usize) -> Va
     ensures { λ r. ⌜ r ≡ takeValue f (now (rest .entry)) place at end ⌝ }
 {
     let header = words::word(rest, 0);
-    let kind = words::field(header, 0, 3);
-    if kind == 6 {
+    let variant = words::field(header, 0, 3);
+    if variant == 6 {
         let text = format::take_text(f, words::field(header, 32, 47), at, end);
         match text {
             Taken::Refused(number) => {
@@ -135,12 +135,12 @@ fn take_value(f: Format, rest: &[u8], place: usize, at: usize, end: usize) -> Va
             }
         }
     }
-    if holds_word(kind) {
+    if holds_word(variant) {
         if end < at + 8 {
             return Valued::Refused(MALFORMED);
         }
         let word = words::word(rest, at - place);
-        return Valued::Value(Value::Scalar(word_scalar(kind, word)));
+        return Valued::Value(Value::Scalar(word_scalar(variant, word)));
     }
     Valued::Value(Value::Scalar(header_scalar(header)))
 }
@@ -186,8 +186,8 @@ fn value_text(f: Format, header: u64, at: usize, end: usize) -> ValueTaken
     requires { ⌜ (at ≤ end) × (end < 2 ^ 63) ⌝ }
     ensures { λ r. ⌜ r ≡ valueText f header at end ⌝ }
 {
-    let kind = words::field(header, 0, 3);
-    if kind == 6 {
+    let variant = words::field(header, 0, 3);
+    if variant == 6 {
         let text = format::take_text(f, words::field(header, 32, 47), at, end);
         match text {
             Taken::Refused(number) => {
@@ -198,7 +198,7 @@ fn value_text(f: Format, header: u64, at: usize, end: usize) -> ValueTaken
             }
         }
     }
-    if holds_word(kind) {
+    if holds_word(variant) {
         if end < at + 8 {
             return ValueTaken::Refused(MALFORMED);
         }
@@ -336,17 +336,17 @@ fn value_bytes(value: Value) -> usize
 fn reserved_bits(header: u64) -> u64
     ensures { λ r. ⌜ r ≡ reservedBits header ⌝ }
 {
-    let kind = words::field(header, 0, 3);
-    if kind == 6 {
+    let variant = words::field(header, 0, 3);
+    if variant == 6 {
         return words::field(header, 48, 63);
     }
-    if kind == 9 {
+    if variant == 9 {
         return words::field(header, 33, 63);
     }
-    if kind == 1 {
+    if variant == 1 {
         return 0;
     }
-    if kind == 2 {
+    if variant == 2 {
         return 0;
     }
     words::field(header, 32, 63)

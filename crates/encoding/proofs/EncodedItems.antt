@@ -12,7 +12,7 @@ use Rattle.format.specs.declared.Format.{Format}
 use Rattle.format.specs.Limits.{smallFormat}
 use Rattle.format.specs.Part.{takePart, takeParts}
 use Rattle.records.specs.declared.Content.the-variants.{Magic, ProviderInfo, Section, ProviderEvent, Initialization}
-use Rattle.records.specs.Layout.{isReport}
+use Rattle.records.specs.Layout.{isEvent, layoutOf}
 use Rattle.records.specs.Record.{providerInfoOf, metadataOf, initializationOf, contentOf, recordAt}
 use Rattle.records.specs.Item.{Item, magic, providerInfo, section, providerEvent, initialization, report, skipped, layoutOfItem, stream, words, Key}
 use Rattle.encoding.specs.Encoded.{partsBytes, encodedPieces, recordBytes, layoutHeader, layoutBody, itemRecord}
@@ -91,13 +91,13 @@ initialization-record index rate =
 module _ (f : Format) (index : Key → ℕ) (place : ℕ) where
   -- the magic is read as the magic
   pub magic-read : contentOf f (itemRecord index magic) place ≡ Magic
-  unfolding contentOf isReport metadataOf wordAt little magicBytes bytesOf startsWithMagic
+  unfolding contentOf layoutOf isEvent metadataOf wordAt little magicBytes bytesOf startsWithMagic
   magic-read = refl
 
   -- a provider info is read as its id and its name, which stands behind the header
   pub provider-info-read : (id : ℕ) (name : List ℕ) → ItemFits f index (providerInfo id name)
       → contentOf f (itemRecord index (providerInfo id name)) place ≡ ProviderInfo id (place + 8) (length name)
-  unfolding contentOf isReport metadataOf providerInfoOf takeParts takePart
+  unfolding contentOf layoutOf isEvent metadataOf providerInfoOf takeParts takePart
   provider-info-read id name fit =
       let i = providerInfo id name in
       let fits = item-fits f index i fit .fits in
@@ -112,14 +112,14 @@ module _ (f : Format) (index : Key → ℕ) (place : ℕ) where
 
   -- a section is read as its id
   pub section-read : (id : ℕ) → ItemFits f index (section id) → contentOf f (itemRecord index (section id)) place ≡ Section id
-  unfolding contentOf isReport metadataOf
+  unfolding contentOf layoutOf isEvent metadataOf
   section-read id fit =
       let fits = item-fits f index (section id) fit .fits in rw (own-field fits 0, own-field fits 2, own-field fits 3)
 
   -- a provider event is read as its id and its event
   pub provider-event-read : (id e : ℕ) → ItemFits f index (providerEvent id e)
       → contentOf f (itemRecord index (providerEvent id e)) place ≡ ProviderEvent id e
-  unfolding contentOf isReport metadataOf
+  unfolding contentOf layoutOf isEvent metadataOf
   provider-event-read id e fit =
       let fits = item-fits f index (providerEvent id e) fit .fits in
       rw (own-field fits 0, own-field fits 2, own-field fits 3, own-field fits 4)
@@ -127,7 +127,7 @@ module _ (f : Format) (index : Key → ℕ) (place : ℕ) where
   -- an initialization is read as its rate
   pub initialization-read : (rate : ℕ) → ItemFits f index (initialization rate)
       → contentOf f (itemRecord index (initialization rate)) place ≡ Initialization rate
-  unfolding contentOf isReport initializationOf takeParts takePart
+  unfolding contentOf layoutOf isEvent initializationOf takeParts takePart
   initialization-read rate fit =
       let i = initialization rate in
       let fits = item-fits f index i fit .fits in

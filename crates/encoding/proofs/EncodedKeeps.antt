@@ -24,7 +24,7 @@ use Rattle.arguments.specs.Loss.{valueBytes, argumentBytes, reservedBits, value
 use Rattle.records.specs.declared.Content.the-variants.{String, Thread, Report as ReportRead}
 use Rattle.records.specs.Record.{contentOf}
 use Rattle.records.specs.Loss.{wordsKeep, streamKeeps, reportKeeps, recordKeeps}
-use Rattle.records.specs.Item.{Thread as ThreadWords, Value, scalar, text, Argument, Report, ownType, ownBehind, lastWords, Item, magic, providerInfo, section, providerEvent, initialization, report, skipped, reportLayout, layoutOfItem, Key}
+use Rattle.records.specs.Item.{Thread as ThreadWords, Value, scalar, text, Argument, Report, ownLayout, lastWords, Item, magic, providerInfo, section, providerEvent, initialization, report, skipped, reportLayout, layoutOfItem, Key}
 use Rattle.encoding.specs.Encoded.{Encoded, word, words, stream, wordsBytes, textIndex, threadIndex, textInline, threadInline, partBytes, partsBytes}
 use Rattle.encoding.specs.Encoded.{recordBytes, encodedText, scalarHalf, scalarParts, argumentRecord, argumentsRecords, layoutHeader, layoutBody, stringRecord, threadRecord, itemRecord}
 use Rattle.encoding.proofs.EncodedParts.{referenceAt, referencesAt, partWords, partsWords, length-words, length-part}
@@ -207,13 +207,13 @@ arguments-keep f index (a ∷ l) more place fit sized =
 behind-fields : (index : Key → ℕ) (r : Report) (place : ℕ)
     → drop (reportAt index r place .arguments - place) (reportRecord index r) ≡ behindPieces index (reportLayout r)
 behind-fields index r place =
-    let header = bytesOf 8 (pack (headerFields (ownType (r .own)) (layoutHeader index (reportLayout r)) (layoutBody index (reportLayout r)))) in
+    let header = bytesOf 8 (pack (headerFields (ownLayout (r .own) .type) (layoutHeader index (reportLayout r)) (layoutBody index (reportLayout r)))) in
     let fields = partsBytes (reportParts index r) in
     let long : length (header ++ fields) ≡ place + 8 + length fields - place =
     omega (
       arith,
       length-append header fields,
-      length-bytesOf 8 (pack (headerFields (ownType (r .own)) (layoutHeader index (reportLayout r)) (layoutBody index (reportLayout r)))),
+      length-bytesOf 8 (pack (headerFields (ownLayout (r .own) .type) (layoutHeader index (reportLayout r)) (layoutBody index (reportLayout r)))),
     ) in
     rw (← append-assoc header fields (behindPieces index (reportLayout r)))
     (drop-at (header ++ fields) (behindPieces index (reportLayout r)) (place + 8 + length fields - place) long)
@@ -224,14 +224,14 @@ pub report-keeps : (f : Format) (index : Key → ℕ) (r : Report) (place : ℕ)
 unfolding recordKeeps reportKeeps
 report-keeps f index r place fit =
     let source = reportRecord index r in
-    let x = wordsBytes (lastWords (ownBehind (r .own)) (r .last)) in
+    let x = wordsBytes (lastWords (ownLayout (r .own) .behind) (r .last)) in
     let fields : At source (place + 8 - place) (partsBytes (reportParts index r)) =
     rw (add-sub-cancel-left place 8) (pieces-at index (reportLayout r) source 0 (at-start source)) in
-    let long : length x ≡ 8 * ownBehind (r .own) =
+    let long : length x ≡ 8 * ownLayout (r .own) .behind =
     omega (
       arith,
-      length-words (lastWords (ownBehind (r .own)) (r .last)),
-      length-last (ownBehind (r .own)) (r .last) (behind-few (r .own)),
+      length-words (lastWords (ownLayout (r .own) .behind) (r .last)),
+      length-last (ownLayout (r .own) .behind) (r .last) (behind-few (r .own)),
     ) in
     let kept = parts-keep source place (place + 8) (reportParts index r) (omega arith) fields in
     rw (

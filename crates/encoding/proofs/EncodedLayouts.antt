@@ -13,9 +13,10 @@ use Rattle.words.proofs.Words.{At, at-left, at-right}
 use Rattle.format.specs.declared.Format.{Format}
 use Rattle.format.specs.declared.Part.the-variants.{Thread as threadPart}
 use Rattle.format.specs.Part.{tableOf, body, takeParts}
-use Rattle.records.specs.Item.{Shown, known, unresolved, Thread, thread, Referent, textReferent, threadReferent, referentTable, Report, ownBehind, Item, magic}
+use Rattle.records.specs.Item.{Shown, known, unresolved, Thread, thread, Referent, textReferent, threadReferent, Report, ownLayout, Item, magic}
 use Rattle.records.specs.Item.{providerInfo, section, providerEvent, initialization, report, skipped, Piece, words, stream, refers, ItemLayout, layoutOfItem, Key, threadKey}
 use Rattle.records.proofs.Bounds.{OwnSuits}
+use Rattle.encoding.specs.Models.Part.{referentTable}
 use Rattle.encoding.specs.Encoded.{Encoded, wordsBytes, referenceOf, partsBytes, encodedThread, encodedReferent, argumentsRecords, encodedPieces, layoutHeader, layoutBody, layoutRecord}
 use Rattle.encoding.proofs.EncodedParts.{partOf, referencesAt, AllWords, Fine, AllFine, partWords, partsWords, length-words, length-parts, parts-read, AllSpell, all-spelled}
 use Rattle.encoding.proofs.EncodedRecords.{RecordFits, length-record, body-at}
@@ -111,7 +112,7 @@ pub record LayoutFits (f : Format) (index : Key → ℕ) (l : ItemLayout) : Type
 -- what is asked of a record that refers to texts and threads, whatever the indexes are
 pub record ReportSuits (r : Report) : Type 0 where
   pub own : OwnSuits (r .own) (referentTable (r .first)) (referentTable (r .second)) (referentTable (r .third)) (length (r .stream)) (length (r .arguments))
-  pub no-last : ownBehind (r .own) ≡ 0 → r .last ≡ 0
+  pub no-last : ownLayout (r .own) .behind ≡ 0 → r .last ≡ 0
 
 -- what is asked of an item's header, whatever the indexes are; a skipped record is never written
 abbrev pub KindSuits : Item → Type 0

@@ -21,11 +21,12 @@ use Rattle.records.specs.declared.Layout.{Layout}
 use Rattle.records.specs.declared.Fields.the-variants.{Fields as FieldsRead}
 use Rattle.records.specs.declared.Last.the-variants.{Word}
 use Rattle.records.specs.declared.Content.the-variants.{Report as ReportRead}
-use Rattle.records.specs.Layout.{isReport, layoutOf, ownOf, takeFields, lastWord, lookupOf}
+use Rattle.records.specs.Layout.{isEvent, layoutOf, ownOf, takeFields, lastWord, lookupOf}
 use Rattle.records.specs.Models.Layouts.{reportArguments}
 use Rattle.records.specs.Record.{contentOf}
-use Rattle.records.specs.Item.{referentTable, Report, report, ownType, ownWords, ownBehind, lastWords, reportLayout, Key}
+use Rattle.records.specs.Item.{Report, report, ownLayout, lastWords, reportLayout, Key}
 use Rattle.records.proofs.Layouts.{extra-few, report-is}
+use Rattle.encoding.specs.Models.Part.{referentTable}
 use Rattle.encoding.specs.Encoded.{Encoded, stream, wordsBytes, partsBytes, encodedReferent, argumentsRecords, encodedPieces, layoutHeader, layoutBody, itemRecord}
 use Rattle.encoding.proofs.EncodedParts.{partOf, referencesAt, AllWords, length-words, WordsAre, Spells}
 use Rattle.encoding.proofs.EncodedRecords.{RecordFits, at-start, own-field}
@@ -46,7 +47,7 @@ length-last behind last few =
     (λ e. let is = eqb-false behind 0 e in rw e (omega arith))
 
 -- every kind has at most one word behind its arguments
-pub behind-few : (e : Event) → ownBehind e ≤ 1
+pub behind-few : (e : Event) → ownLayout e .behind ≤ 1
 behind-few e = extra-few (e .variant)
 
 -- ---- what a kind has to show
@@ -55,48 +56,39 @@ behind-few e = extra-few (e .variant)
 abbrev pub layoutEncoded : (Key → ℕ) → Report → Layout
 layoutEncoded index r =
     record {
-      words = length (ownWords (r .own));
+      read = true;
+      words = length (ownLayout (r .own) .words);
       first = partOf (encodedReferent index (r .first));
       second = partOf (encodedReferent index (r .second));
       third = partOf (encodedReferent index (r .third));
       stream = partOf (stream (r .stream));
       count = length (r .arguments);
-      behind = ownBehind (r .own);
+      behind = ownLayout (r .own) .behind;
       reserved = 0;
     }
 
 pub record OwnEncoded (f : Format) (index : Key → ℕ) (r : Report) : Type 0 where
-  pub known : ownType (r .own) < 15
-  pub fits : RecordFits (ownType (r .own)) (layoutHeader index (reportLayout r)) (layoutBody index (reportLayout r))
-  pub kind : isReport (wordAt (reportRecord index r) 0) ≡ true
+  pub known : ownLayout (r .own) .type < 15
+  pub fits : RecordFits (ownLayout (r .own) .type) (layoutHeader index (reportLayout r)) (layoutBody index (reportLayout r))
   pub layout : layoutOf (wordAt (reportRecord index r) 0) ≡ layoutEncoded index r
-  pub values : WordsAre (reportRecord index r) 8 (ownWords (r .own)) → ownOf (reportRecord index r) ≡ r .own
+  pub values : WordsAre (reportRecord index r) 8 (ownLayout (r .own) .words) → ownOf (reportRecord index r) ≡ r .own
 
 -- an event
-own-fits : (f : Format) (index : Key → ℕ) (r : Report) → ItemFits f index (report r)
-    → RecordFits (ownType (r .own)) (layoutHeader index (reportLayout r)) (layoutBody index (reportLayout r))
-own-fits f index r fit =
-    let own = fit .suits .own in
-    let size = length-body index (reportLayout r) in
-    let a = referent-thread f index (r .first) (own .first) (fit .layout .pieces .1 .0) .bits in
-    let b = referent-text f index (r .second) (own .second) (fit .layout .pieces .1 .1 .0) .bits in
-    let c = referent-text f index (r .third) (own .third) (fit .layout .pieces .1 .1 .1 .0) .bits in
-    record { fits = omega (arith, size, fit .layout .size, own .type, own .few, a, b, c); full = refl; whole = omega (arith, size) }
-
 pub own-encoded : (f : Format) (index : Key → ℕ) (r : Report) → ItemFits f index (report r) → OwnEncoded f index r
-unfolding isReport layoutOf ownOf
+unfolding layoutOf isEvent ownOf
 own-encoded f index r fit =
     let own = fit .suits .own in
-    let fits = own-fits f index r fit in
+    let size = length-body index (reportLayout r) in
     let a = referent-thread f index (r .first) (own .first) (fit .layout .pieces .1 .0) in
     let b = referent-text f index (r .second) (own .second) (fit .layout .pieces .1 .1 .0) in
     let c = referent-text f index (r .third) (own .third) (fit .layout .pieces .1 .1 .1 .0) in
+    let fits : RecordFits (ownLayout (r .own) .type) (layoutHeader index (reportLayout r)) (layoutBody index (reportLayout r)) =
+    record { fits = omega (arith, size, fit .layout .size, own .type, own .few, a .bits, b .bits, c .bits); full = refl; whole = omega (arith, size) } in
     record {
       known = omega arith;
       fits = fits;
-      kind = rw (own-field fits 0, own-field fits 2, le-leb (r .own .variant) 10 (own .type));
       layout =
-          rw (own-field fits 4, own-field fits 5, own-field fits 6, own-field fits 3, own-field fits 2, ← (a .part), ← (b .part), ← (c .part), own .stream);
+          rw (own-field fits 0, own-field fits 4, own-field fits 5, own-field fits 6, own-field fits 3, own-field fits 2, le-leb (r .own .variant) 10 (own .type), ← (a .part), ← (b .part), ← (c .part), own .stream);
       values = λ w. rw (own-field fits 2, w .0);
     }
 
@@ -152,16 +144,16 @@ module _ (f : Format) (index : Key → ℕ) (r : Report) (place : ℕ) (fit : It
   list = argumentsRecords index (r .arguments)
 
   abbrev end : List ℕ
-  end = wordsBytes (lastWords (ownBehind (r .own)) (r .last))
+  end = wordsBytes (lastWords (ownLayout (r .own) .behind) (r .last))
 
-  room : length source ≡ 8 + length (partsBytes (reportParts index r)) + length list + 8 * ownBehind (r .own)
+  room : length source ≡ 8 + length (partsBytes (reportParts index r)) + length list + 8 * ownLayout (r .own) .behind
   room =
       omega (
         arith,
         length-all index (reportLayout r),
         length-append list end,
-        length-words (lastWords (ownBehind (r .own)) (r .last)),
-        length-last (ownBehind (r .own)) (r .last) (behind-few (r .own)),
+        length-words (lastWords (ownLayout (r .own) .behind) (r .last)),
+        length-last (ownLayout (r .own) .behind) (r .last) (behind-few (r .own)),
       )
 
   fields-there : takeFields f (layoutEncoded index r) (place + 8) (place + length source)
@@ -178,11 +170,11 @@ module _ (f : Format) (index : Key → ℕ) (r : Report) (place : ℕ) (fit : It
       let sized = all-sized index (r .arguments) (omega (arith, fit .layout .size)) in
       rw (there .1, append-assoc list end (there .0)) (arguments-read f index (r .arguments) (end ++ there .0) first (fit .layout .arguments) sized)
 
-  last-there : lastWord source place (first + length list) (ownBehind (r .own)) ≡ Word (r .last)
+  last-there : lastWord source place (first + length list) (ownLayout (r .own) .behind) ≡ Word (r .last)
   last-there =
       let from : first - place + length list ≡ first + length list - place = omega arith in
       let there = rw from at (at-right source (first - place) list end (own-behind index r place)) in
-      last-read source place (first + length list) (ownBehind (r .own)) (r .last) (fit .layout .last) (fit .suits .no-last) there (omega (arith, room))
+      last-read source place (first + length list) (ownLayout (r .own) .behind) (r .last) (fit .layout .last) (fit .suits .no-last) there (omega (arith, room))
 
   -- a record that fits is read as its own values, its references and its last word
   pub report-content : contentOf f source place ≡ ReportRead (reportAt index r place)
@@ -190,7 +182,7 @@ module _ (f : Format) (index : Key → ℕ) (r : Report) (place : ℕ) (fit : It
   report-content =
       let own = own-encoded f index r fit in
       rw (
-        own .kind,
+        own .layout,
         report-is f source place (layoutEncoded index r) (own .layout) fields-there (ap walked arguments-there) last-there,
         own .values (pieces-spelled index (reportLayout r) f source 0 (fit .layout .pieces) (at-start source) .0),
       )
@@ -215,7 +207,7 @@ report-read f index r archive place fit at =
     let fields = pieces-spelled index (reportLayout r) f archive place (fit .layout .pieces) at in
     let l = argumentsRecords index (r .arguments) in
     let first = reportAt index r place .arguments in
-    let there = at-left archive first l (wordsBytes (lastWords (ownBehind (r .own)) (r .last))) (behind-at index (reportLayout r) archive place at) in
+    let there = at-left archive first l (wordsBytes (lastWords (ownLayout (r .own) .behind) (r .last))) (behind-at index (reportLayout r) archive place at) in
     record {
       content = report-content f index r place fit;
       own = refl;
@@ -243,6 +235,6 @@ small-report index r suits pieces fit =
       referent-words smallFormat index (r .third) (pieces .1 .1 .1 .0),
       pieces .1 .1 .1 .1 .0,
       arguments-words smallFormat index (r .arguments) fit,
-      length-last (ownBehind (r .own)) (r .last) (behind-few (r .own)),
+      length-last (ownLayout (r .own) .behind) (r .last) (behind-few (r .own)),
       behind-few (r .own),
     )

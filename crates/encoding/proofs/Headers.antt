@@ -8,15 +8,15 @@ use native.Mathlib.Omega.{arith}
 use lib.ListN.{length}
 use lib.Pow.{pow-add}
 use Rattle.words.specs.Word.{Field, _of_, pack, bytesOf}
-use Rattle.words.specs.Stream.{streamWords, padded, written}
+use Rattle.words.specs.Stream.{streamWords, padded, overwritten}
 use Rattle.words.proofs.Words.{length-bytesOf}
-use Rattle.words.proofs.Streams.{written-written, length-padded}
+use Rattle.words.proofs.Streams.{overwritten-twice, length-padded}
 use Rattle.records.specs.Item.{Thread, thread as threadOf, Item, layoutOfItem}
 use Rattle.encoding.specs.Encoded.{threadInline, partBytes, recordBytes, stringRecord, threadRecord}
 use Rattle.encoding.proofs.EncodedParts.{length-part}
 use Rattle.encoding.proofs.EncodedRecords.{length-record}
 use Rattle.encoding.proofs.EncodedLayouts.{layoutWords, length-layout}
-use Rattle.encoding.specs.Part.{plainRecord}
+use Rattle.encoding.specs.Models.Part.{plainRecord}
 
 -- ---- fields and bodies
 
@@ -41,18 +41,18 @@ fields-packed word low (v of w ∷ fields) =
 -- a header, and right behind it a body of this size, are one writing of the record
 pub record-written : (out : List ℕ) (place type size word : ℕ) (fields : List Field) (body : List ℕ) → place ≤ length out
     → length body ≡ 8 * size → word ≡ withFields type 4 ((1 + size) of 12 ∷ fields)
-    → written (written out place (bytesOf 8 word)) (place + 8) body ≡ written out place (recordBytes type fields body)
+    → overwritten (overwritten out place (bytesOf 8 word)) (place + 8) body ≡ overwritten out place (recordBytes type fields body)
 record-written out place type size word fields body h l e =
     let words : 1 + length body / 8 ≡ 1 + size = omega (arith, l) in
     let packed : word ≡ pack (type of 4 ∷ (1 + length body / 8) of 12 ∷ fields) =
     e ∙ fields-packed type 4 ((1 + size) of 12 ∷ fields) ∙ rw words in
-    ap (λ (n : ℕ). written (written out place (bytesOf 8 word)) (place + n) body) (sym (length-bytesOf 8 word))
-    ∙ written-written out place (bytesOf 8 word) body h
-    ∙ ap (λ (n : ℕ). written out place (bytesOf 8 n ++ body)) packed
+    ap (λ (n : ℕ). overwritten (overwritten out place (bytesOf 8 word)) (place + n) body) (sym (length-bytesOf 8 word))
+    ∙ overwritten-twice out place (bytesOf 8 word) body h
+    ∙ ap (λ (n : ℕ). overwritten out place (bytesOf 8 n ++ body)) packed
 
 -- a header alone is one writing of a record without a body
 pub header-written : (out : List ℕ) (place type word : ℕ) (fields : List Field) → word ≡ withFields type 4 (1 of 12 ∷ fields)
-    → written out place (bytesOf 8 word) ≡ written out place (recordBytes type fields [])
+    → overwritten out place (bytesOf 8 word) ≡ overwritten out place (recordBytes type fields [])
 header-written out place type word fields e =
     rw (e, fields-packed type 4 (1 of 12 ∷ fields), append-nil (bytesOf 8 (pack (type of 4 ∷ 1 of 12 ∷ fields))))
 
@@ -76,9 +76,9 @@ length-plain i = length-layout (λ key. 0) (layoutOfItem i)
 
 -- a thread's first word, and right behind it the second, are one writing of the thread
 pub thread-written : (out : List ℕ) (place process thread : ℕ) → place + 8 ≤ length out
-    → written (written out (place + 8) (bytesOf 8 process)) (place + 16) (bytesOf 8 thread)
-    ≡ written out (place + 8) (partBytes (threadInline (threadOf process thread)))
+    → overwritten (overwritten out (place + 8) (bytesOf 8 process)) (place + 16) (bytesOf 8 thread)
+    ≡ overwritten out (place + 8) (partBytes (threadInline (threadOf process thread)))
 thread-written out place process thread h =
     let behind : place + 16 ≡ place + 8 + length (bytesOf 8 process) = omega (arith, length-bytesOf 8 process) in
-    ap (λ (n : ℕ). written (written out (place + 8) (bytesOf 8 process)) n (bytesOf 8 thread)) behind
-    ∙ written-written out (place + 8) (bytesOf 8 process) (bytesOf 8 thread) h
+    ap (λ (n : ℕ). overwritten (overwritten out (place + 8) (bytesOf 8 process)) n (bytesOf 8 thread)) behind
+    ∙ overwritten-twice out (place + 8) (bytesOf 8 process) (bytesOf 8 thread) h

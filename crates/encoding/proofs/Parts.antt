@@ -9,15 +9,15 @@ use lib.ListN.{length, length-append}
 use lib.Dec.{eqb}
 use borrow.Author.Tests.{eq-eqb, ne-eqb, eqb-true}
 use Rattle.words.specs.Word.{pick, wordAt, _of_, pack, bytesOf}
-use Rattle.words.specs.Stream.{padded, written}
+use Rattle.words.specs.Stream.{padded, overwritten}
 use Rattle.words.proofs.Words.{length-bytesOf}
 use Rattle.words.proofs.Tests.{cases}
-use Rattle.words.proofs.Streams.{written-written, none-written}
+use Rattle.words.proofs.Streams.{overwritten-twice, none-overwritten}
 use Rattle.records.specs.Item.{Key, textKey, threadKey, Thread, thread, known}
 use Rattle.encoding.specs.Encoded.{Encoded, textIndex, textInline, threadInline, referenceOf, partBytes, partsBytes, encodedArgument, encodedText, encodedThread}
 use Rattle.encoding.proofs.EncodedParts.{length-part}
 use Rattle.encoding.proofs.EncodedRecords.{length-record}
-use Rattle.encoding.specs.Part.{textPart, threadPart, referentPart, argumentStart}
+use Rattle.encoding.specs.Models.Part.{textPart, threadPart, referentPart, argumentStart}
 
 -- a text with its key's index is what is written for it
 pub text-is : (index : Key → ℕ) (b : List ℕ) → encodedText index (known b) ≡ textPart (index (textKey b)) b
@@ -51,8 +51,8 @@ pub reference-lt : (index : ℕ) (b : List ℕ) → index < 2 ^ 15 → length b 
 reference-lt index b hi hb = either-lt (eqb index 0) index b hi hb
 
 -- where nothing is written nothing changes
-pub nothing-written : (out : List ℕ) (place : ℕ) → out ≡ written out place []
-nothing-written out place = none-written out place []
+pub nothing-written : (out : List ℕ) (place : ℕ) → out ≡ overwritten out place []
+nothing-written out place = none-overwritten out place []
 
 -- an argument's start is as long as its header and its name
 pub length-start : (type more half : ℕ) (name : Encoded) → length (argumentStart type more half name) ≡ 8 + length (partBytes name)
@@ -80,25 +80,25 @@ argument-parts type more half name parts h =
 
 -- an argument's start, and right behind it its one other part, are one writing of the argument
 pub argument-written : (out : List ℕ) (place type more half : ℕ) (name part : Encoded) → place ≤ length out → length (partBytes part) ≡ more * 8
-    → written (written out place (argumentStart type more half name)) (place + length (argumentStart type more half name)) (partBytes part)
-    ≡ written out place (encodedArgument type half name (part ∷ []))
+    → overwritten (overwritten out place (argumentStart type more half name)) (place + length (argumentStart type more half name)) (partBytes part)
+    ≡ overwritten out place (encodedArgument type half name (part ∷ []))
 argument-written out place type more half name part h l =
     let one : partsBytes (part ∷ []) ≡ partBytes part = append-nil (partBytes part) in
-    written-written out place (argumentStart type more half name) (partBytes part) h
-    ∙ ap (λ (b : List ℕ). written out place (argumentStart type more half name ++ b)) (sym one)
-    ∙ ap (written out place) (argument-parts type more half name (part ∷ []) (ap length one ∙ l))
+    overwritten-twice out place (argumentStart type more half name) (partBytes part) h
+    ∙ ap (λ (b : List ℕ). overwritten out place (argumentStart type more half name ++ b)) (sym one)
+    ∙ ap (overwritten out place) (argument-parts type more half name (part ∷ []) (ap length one ∙ l))
 
 -- a header, and right behind it the name, are one writing of the start
 pub start-written : (out : List ℕ) (place type more half size word : ℕ) (name : Encoded) → place ≤ length out
     → size * 8 ≡ length (partBytes name)
     → word ≡ type + (1 + size + more) * 2 ^ 4 + referenceOf name * 2 ^ 16 + half * 2 ^ 32
-    → written (written out place (bytesOf 8 word)) (place + 8) (partBytes name) ≡ written out place (argumentStart type more half name)
+    → overwritten (overwritten out place (bytesOf 8 word)) (place + 8) (partBytes name) ≡ overwritten out place (argumentStart type more half name)
 start-written out place type more half size word name h l e =
     let same : word ≡ pack (type of 4 ∷ (1 + length (partBytes name) / 8 + more) of 12 ∷ referenceOf name of 16 ∷ half of 32 ∷ []) =
     omega (arith, l, e) in
-    ap (λ (n : ℕ). written (written out place (bytesOf 8 word)) (place + n) (partBytes name)) (sym (length-bytesOf 8 word))
-    ∙ written-written out place (bytesOf 8 word) (partBytes name) h
-    ∙ ap (λ (n : ℕ). written out place (bytesOf 8 n ++ partBytes name)) same
+    ap (λ (n : ℕ). overwritten (overwritten out place (bytesOf 8 word)) (place + n) (partBytes name)) (sym (length-bytesOf 8 word))
+    ∙ overwritten-twice out place (bytesOf 8 word) (partBytes name) h
+    ∙ ap (λ (n : ℕ). overwritten out place (bytesOf 8 n ++ partBytes name)) same
 
 -- an argument with one part behind its name is as long as its header and both
 pub length-argument-one : (type half : ℕ) (name part : Encoded)

@@ -1,2 +1,2 @@
 pub mod Encoded
-pub mod Part
+pub mod Models

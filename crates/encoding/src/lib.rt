@@ -3,27 +3,27 @@ ghost use mathlib.Core.Path.{_≡_};
 ghost use Prim.Native.Nat.{_+_, _*_, _^_, _<_, _≤_};
 ghost use mathlib.Core.List.{[], _∷_};
 ghost use lib.ListN.{length};
-ghost use Rattle.words.specs.Stream.{streamWords, written};
-ghost use Rattle.records.specs.Item.{thread as threadOf, magic, providerInfo, section, providerEvent, initialization, ownHeader, ownWords};
+ghost use Rattle.words.specs.Stream.{streamWords, overwritten};
+ghost use Rattle.records.specs.Item.{thread as threadOf, magic, providerInfo, section, providerEvent, initialization, ownLayout};
 ghost use Rattle.encoding.specs.Encoded.{word as wordPart, stream as streamPart, referenceOf, wordsBytes, partBytes, encodedArgument, stringRecord, threadRecord};
 ghost use Rattle.words.specs.Word.{unsigned, bit};
 ghost use Rattle.arguments.specs.Argument.{scalarType};
-ghost use Rattle.encoding.specs.Part.{plainRecord, textPart, threadPart, referentPart, FieldsFit, reportHeader, argumentStart, textArgument, scalarArgument};
+ghost use Rattle.encoding.specs.Models.Part.{plainRecord, textPart, threadPart, referentPart, FieldsFit, reportHeader, argumentStart, textArgument, scalarArgument};
 use arguments::Scalar;
 use records::Event;
 
 // The lowest 16 bits of a header: a type and a size in words.
-fn header(kind: u64, words: usize) -> u64
-    requires { ⌜ (kind < 2 ^ 4) × (words < 2 ^ 12) ⌝ }
-    ensures { λ r. ⌜ r ≡ kind + words * 2 ^ 4 ⌝ }
+fn header(variant: u64, words: usize) -> u64
+    requires { ⌜ (variant < 2 ^ 4) × (words < 2 ^ 12) ⌝ }
+    ensures { λ r. ⌜ r ≡ variant + words * 2 ^ 4 ⌝ }
 {
-    words::with_field(kind, 4, 15, words as u64)
+    words::with_field(variant, 4, 15, words as u64)
 }
 
 // The registration of a text.
 pub fn put_string_record(out: &mut [u8], place: usize, index: usize, bytes: &[u8]) -> usize
     requires { ⌜ (index < 2 ^ 15) × (1 + streamWords (length (now bytes)) < 2 ^ 12) × (place + length (stringRecord index (now bytes)) ≤ length (now out)) ⌝ }
-    ensures { λ _. ⌜ now (out .exit) ≡ written (now (out .entry)) place (stringRecord index (now (bytes .entry))) ⌝ }
+    ensures { λ _. ⌜ now (out .exit) ≡ overwritten (now (out .entry)) place (stringRecord index (now (bytes .entry))) ⌝ }
     ensures { λ r. ⌜ r ≡ place + length (stringRecord index (now (bytes .entry))) ⌝ }
 {
     let size = words::stream_words(bytes.len());
@@ -43,7 +43,7 @@ pub fn put_thread_record(
     thread: u64,
 ) -> usize
     requires { ⌜ (index < 2 ^ 8) × (place + length (threadRecord index (threadOf process thread)) ≤ length (now out)) ⌝ }
-    ensures { λ _. ⌜ now (out .exit) ≡ written (now (out .entry)) place (threadRecord index (threadOf process thread)) ⌝ }
+    ensures { λ _. ⌜ now (out .exit) ≡ overwritten (now (out .entry)) place (threadRecord index (threadOf process thread)) ⌝ }
     ensures { λ r. ⌜ r ≡ place + length (threadRecord index (threadOf process thread)) ⌝ }
 {
     words::put_word(
@@ -59,7 +59,7 @@ pub fn put_thread_record(
 // The magic.
 pub fn put_magic(out: &mut [u8], place: usize) -> usize
     requires { ⌜ place + length (plainRecord magic) ≤ length (now out) ⌝ }
-    ensures { λ _. ⌜ now (out .exit) ≡ written (now (out .entry)) place (plainRecord magic) ⌝ }
+    ensures { λ _. ⌜ now (out .exit) ≡ overwritten (now (out .entry)) place (plainRecord magic) ⌝ }
     ensures { λ r. ⌜ r ≡ place + length (plainRecord magic) ⌝ }
 {
     words::put_stream(out, place, b"\x10\x00\x04\x46\x78\x54\x16\x00");
@@ -69,12 +69,12 @@ pub fn put_magic(out: &mut [u8], place: usize) -> usize
 // A provider's id and name.
 pub fn put_provider_info(out: &mut [u8], place: usize, id: u32, name: &[u8]) -> usize
     requires { ⌜ (length (now name) < 2 ^ 8) × (place + length (plainRecord (providerInfo id (now name))) ≤ length (now out)) ⌝ }
-    ensures { λ _. ⌜ now (out .exit) ≡ written (now (out .entry)) place (plainRecord (providerInfo id (now (name .entry)))) ⌝ }
+    ensures { λ _. ⌜ now (out .exit) ≡ overwritten (now (out .entry)) place (plainRecord (providerInfo id (now (name .entry)))) ⌝ }
     ensures { λ r. ⌜ r ≡ place + length (plainRecord (providerInfo id (now (name .entry)))) ⌝ }
 {
     let size = words::stream_words(name.len());
-    let kind = words::with_field(header(0, 1 + size), 16, 19, 1);
-    let named = words::with_field(kind, 20, 51, id as u64);
+    let metadata = words::with_field(header(0, 1 + size), 16, 19, 1);
+    let named = words::with_field(metadata, 20, 51, id as u64);
     let word = words::with_field(named, 52, 59, name.len() as u64);
     words::put_word(out, place, word);
     words::put_stream(out, place + 8, name);
@@ -84,22 +84,22 @@ pub fn put_provider_info(out: &mut [u8], place: usize, id: u32, name: &[u8]) -> 
 // The start of a provider's section.
 pub fn put_section(out: &mut [u8], place: usize, id: u32) -> usize
     requires { ⌜ place + length (plainRecord (section id)) ≤ length (now out) ⌝ }
-    ensures { λ _. ⌜ now (out .exit) ≡ written (now (out .entry)) place (plainRecord (section id)) ⌝ }
+    ensures { λ _. ⌜ now (out .exit) ≡ overwritten (now (out .entry)) place (plainRecord (section id)) ⌝ }
     ensures { λ r. ⌜ r ≡ place + length (plainRecord (section id)) ⌝ }
 {
-    let kind = words::with_field(header(0, 1), 16, 19, 2);
-    words::put_word(out, place, words::with_field(kind, 20, 51, id as u64));
+    let metadata = words::with_field(header(0, 1), 16, 19, 2);
+    words::put_word(out, place, words::with_field(metadata, 20, 51, id as u64));
     place + 8
 }
 
 // What a provider reports of itself.
 pub fn put_provider_event(out: &mut [u8], place: usize, id: u32, event: u8) -> usize
     requires { ⌜ (event < 2 ^ 4) × (place + length (plainRecord (providerEvent id event)) ≤ length (now out)) ⌝ }
-    ensures { λ _. ⌜ now (out .exit) ≡ written (now (out .entry)) place (plainRecord (providerEvent id event)) ⌝ }
+    ensures { λ _. ⌜ now (out .exit) ≡ overwritten (now (out .entry)) place (plainRecord (providerEvent id event)) ⌝ }
     ensures { λ r. ⌜ r ≡ place + length (plainRecord (providerEvent id event)) ⌝ }
 {
-    let kind = words::with_field(header(0, 1), 16, 19, 3);
-    let named = words::with_field(kind, 20, 51, id as u64);
+    let metadata = words::with_field(header(0, 1), 16, 19, 3);
+    let named = words::with_field(metadata, 20, 51, id as u64);
     words::put_word(out, place, words::with_field(named, 52, 55, event as u64));
     place + 8
 }
@@ -107,7 +107,7 @@ pub fn put_provider_event(out: &mut [u8], place: usize, id: u32, event: u8) -> u
 // The rate from here on.
 pub fn put_initialization(out: &mut [u8], place: usize, rate: u64) -> usize
     requires { ⌜ place + length (plainRecord (initialization rate)) ≤ length (now out) ⌝ }
-    ensures { λ _. ⌜ now (out .exit) ≡ written (now (out .entry)) place (plainRecord (initialization rate)) ⌝ }
+    ensures { λ _. ⌜ now (out .exit) ≡ overwritten (now (out .entry)) place (plainRecord (initialization rate)) ⌝ }
     ensures { λ r. ⌜ r ≡ place + length (plainRecord (initialization rate)) ⌝ }
 {
     words::put_word(out, place, header(1, 2));
@@ -141,7 +141,7 @@ pub fn text_words(index: usize, bytes: &[u8]) -> usize
 // Such a text, written in a body.
 pub fn put_text(out: &mut [u8], place: usize, index: usize, bytes: &[u8]) -> usize
     requires { ⌜ place + length (partBytes (textPart index (now bytes))) ≤ length (now out) ⌝ }
-    ensures { λ _. ⌜ now (out .exit) ≡ written (now (out .entry)) place (partBytes (textPart index (now (bytes .entry)))) ⌝ }
+    ensures { λ _. ⌜ now (out .exit) ≡ overwritten (now (out .entry)) place (partBytes (textPart index (now (bytes .entry)))) ⌝ }
     ensures { λ r. ⌜ r ≡ place + length (partBytes (textPart index (now (bytes .entry)))) ⌝ }
 {
     if index != 0 {
@@ -154,7 +154,7 @@ pub fn put_text(out: &mut [u8], place: usize, index: usize, bytes: &[u8]) -> usi
 // A thread that is written by its index, or inline where that is 0; its reference is the index.
 pub fn put_thread(out: &mut [u8], place: usize, index: usize, process: u64, thread: u64) -> usize
     requires { ⌜ place + length (partBytes (threadPart index (threadOf process thread))) ≤ length (now out) ⌝ }
-    ensures { λ _. ⌜ now (out .exit) ≡ written (now (out .entry)) place (partBytes (threadPart index (threadOf process thread))) ⌝ }
+    ensures { λ _. ⌜ now (out .exit) ≡ overwritten (now (out .entry)) place (partBytes (threadPart index (threadOf process thread))) ⌝ }
     ensures { λ r. ⌜ r ≡ place + length (partBytes (threadPart index (threadOf process thread))) ⌝ }
 {
     if index != 0 {
@@ -178,7 +178,7 @@ pub fn referent_reference(table: u64, index: usize, bytes: &[u8]) -> u64
 // Such a text or thread, written in a body.
 pub fn put_referent(out: &mut [u8], place: usize, table: u64, index: usize, bytes: &[u8]) -> usize
     requires { ⌜ (table ≡ 3 → index ≡ 0 → 16 ≤ length (now bytes)) × (place + length (partBytes (referentPart table index (now bytes))) ≤ length (now out)) ⌝ }
-    ensures { λ _. ⌜ now (out .exit) ≡ written (now (out .entry)) place (partBytes (referentPart table index (now (bytes .entry)))) ⌝ }
+    ensures { λ _. ⌜ now (out .exit) ≡ overwritten (now (out .entry)) place (partBytes (referentPart table index (now (bytes .entry)))) ⌝ }
     ensures { λ r. ⌜ r ≡ place + length (partBytes (referentPart table index (now (bytes .entry)))) ⌝ }
 {
     if table != 3 {
@@ -193,7 +193,7 @@ pub fn put_referent(out: &mut [u8], place: usize, table: u64, index: usize, byte
 // A stream that is no reference, written in a body.
 pub fn put_stream(out: &mut [u8], place: usize, bytes: &[u8]) -> usize
     requires { ⌜ place + length (partBytes (streamPart (now bytes))) ≤ length (now out) ⌝ }
-    ensures { λ _. ⌜ now (out .exit) ≡ written (now (out .entry)) place (partBytes (streamPart (now (bytes .entry)))) ⌝ }
+    ensures { λ _. ⌜ now (out .exit) ≡ overwritten (now (out .entry)) place (partBytes (streamPart (now (bytes .entry)))) ⌝ }
     ensures { λ r. ⌜ r ≡ place + length (partBytes (streamPart (now (bytes .entry)))) ⌝ }
 {
     words::put_stream(out, place, bytes);
@@ -213,8 +213,8 @@ pub fn put_report_header(
     third: u64,
     long: usize,
 ) -> usize
-    requires { ⌜ (size < 2 ^ 12) × FieldsFit (ownHeader own count first second third long) × (place + 8 ≤ length (now out)) ⌝ }
-    ensures { λ _. ⌜ now (out .exit) ≡ written (now (out .entry)) place (reportHeader own size count first second third long) ⌝ }
+    requires { ⌜ (size < 2 ^ 12) × FieldsFit (ownLayout own .header count first second third long) × (place + 8 ≤ length (now out)) ⌝ }
+    ensures { λ _. ⌜ now (out .exit) ≡ overwritten (now (out .entry)) place (reportHeader own size count first second third long) ⌝ }
     ensures { λ r. ⌜ r ≡ place + 8 ⌝ }
 {
     let varied = words::with_field(header(4, size), 16, 19, own.variant as u64);
@@ -227,9 +227,9 @@ pub fn put_report_header(
 
 // The words of its own that such a record has before its references: an event has its timestamp.
 pub fn put_own_words(out: &mut [u8], place: usize, own: Event) -> usize
-    requires { ⌜ place + length (wordsBytes (ownWords own)) ≤ length (now out) ⌝ }
-    ensures { λ _. ⌜ now (out .exit) ≡ written (now (out .entry)) place (wordsBytes (ownWords own)) ⌝ }
-    ensures { λ r. ⌜ r ≡ place + length (wordsBytes (ownWords own)) ⌝ }
+    requires { ⌜ place + length (wordsBytes (ownLayout own .words)) ≤ length (now out) ⌝ }
+    ensures { λ _. ⌜ now (out .exit) ≡ overwritten (now (out .entry)) place (wordsBytes (ownLayout own .words)) ⌝ }
+    ensures { λ r. ⌜ r ≡ place + length (wordsBytes (ownLayout own .words)) ⌝ }
 {
     words::put_word(out, place, own.timestamp);
     place + 8
@@ -239,19 +239,19 @@ pub fn put_own_words(out: &mut [u8], place: usize, own: Event) -> usize
 fn put_argument_start(
     out: &mut [u8],
     place: usize,
-    kind: u64,
+    variant: u64,
     more: usize,
     half: u64,
     index: usize,
     name: &[u8],
 ) -> usize
-    requires { ⌜ (kind < 2 ^ 4) × (half < 2 ^ 32) × (index < 2 ^ 15) × (length (now name) < 2 ^ 15) ⌝ }
-    requires { ⌜ (length (argumentStart kind more half (textPart index (now name))) + more * 8 < 2 ^ 15) × (place + length (argumentStart kind more half (textPart index (now name))) ≤ length (now out)) ⌝ }
-    ensures { λ _. ⌜ now (out .exit) ≡ written (now (out .entry)) place (argumentStart kind more half (textPart index (now (name .entry)))) ⌝ }
-    ensures { λ r. ⌜ r ≡ place + length (argumentStart kind more half (textPart index (now (name .entry)))) ⌝ }
+    requires { ⌜ (variant < 2 ^ 4) × (half < 2 ^ 32) × (index < 2 ^ 15) × (length (now name) < 2 ^ 15) ⌝ }
+    requires { ⌜ (length (argumentStart variant more half (textPart index (now name))) + more * 8 < 2 ^ 15) × (place + length (argumentStart variant more half (textPart index (now name))) ≤ length (now out)) ⌝ }
+    ensures { λ _. ⌜ now (out .exit) ≡ overwritten (now (out .entry)) place (argumentStart variant more half (textPart index (now (name .entry)))) ⌝ }
+    ensures { λ r. ⌜ r ≡ place + length (argumentStart variant more half (textPart index (now (name .entry)))) ⌝ }
 {
     let named = words::with_field(
-        header(kind, 1 + text_words(index, name) + more),
+        header(variant, 1 + text_words(index, name) + more),
         16,
         31,
         text_reference(index, name),
@@ -264,34 +264,34 @@ fn put_argument_start(
 pub fn put_short_argument(
     out: &mut [u8],
     place: usize,
-    kind: u64,
+    variant: u64,
     half: u64,
     index: usize,
     name: &[u8],
 ) -> usize
-    requires { ⌜ (kind < 2 ^ 4) × (half < 2 ^ 32) × (index < 2 ^ 15) × (length (now name) < 2 ^ 15) ⌝ }
-    requires { ⌜ (length (encodedArgument kind half (textPart index (now name)) []) < 2 ^ 15) × (place + length (encodedArgument kind half (textPart index (now name)) []) ≤ length (now out)) ⌝ }
-    ensures { λ _. ⌜ now (out .exit) ≡ written (now (out .entry)) place (encodedArgument kind half (textPart index (now (name .entry))) []) ⌝ }
-    ensures { λ r. ⌜ r ≡ place + length (encodedArgument kind half (textPart index (now (name .entry))) []) ⌝ }
+    requires { ⌜ (variant < 2 ^ 4) × (half < 2 ^ 32) × (index < 2 ^ 15) × (length (now name) < 2 ^ 15) ⌝ }
+    requires { ⌜ (length (encodedArgument variant half (textPart index (now name)) []) < 2 ^ 15) × (place + length (encodedArgument variant half (textPart index (now name)) []) ≤ length (now out)) ⌝ }
+    ensures { λ _. ⌜ now (out .exit) ≡ overwritten (now (out .entry)) place (encodedArgument variant half (textPart index (now (name .entry))) []) ⌝ }
+    ensures { λ r. ⌜ r ≡ place + length (encodedArgument variant half (textPart index (now (name .entry))) []) ⌝ }
 {
-    put_argument_start(out, place, kind, 0, half, index, name)
+    put_argument_start(out, place, variant, 0, half, index, name)
 }
 
 // An argument whose value is a word behind its name.
 pub fn put_word_argument(
     out: &mut [u8],
     place: usize,
-    kind: u64,
+    variant: u64,
     word: u64,
     index: usize,
     name: &[u8],
 ) -> usize
-    requires { ⌜ (kind < 2 ^ 4) × (index < 2 ^ 15) × (length (now name) < 2 ^ 15) ⌝ }
-    requires { ⌜ (length (encodedArgument kind 0 (textPart index (now name)) (wordPart word ∷ [])) < 2 ^ 15) × (place + length (encodedArgument kind 0 (textPart index (now name)) (wordPart word ∷ [])) ≤ length (now out)) ⌝ }
-    ensures { λ _. ⌜ now (out .exit) ≡ written (now (out .entry)) place (encodedArgument kind 0 (textPart index (now (name .entry))) (wordPart word ∷ [])) ⌝ }
-    ensures { λ r. ⌜ r ≡ place + length (encodedArgument kind 0 (textPart index (now (name .entry))) (wordPart word ∷ [])) ⌝ }
+    requires { ⌜ (variant < 2 ^ 4) × (index < 2 ^ 15) × (length (now name) < 2 ^ 15) ⌝ }
+    requires { ⌜ (length (encodedArgument variant 0 (textPart index (now name)) (wordPart word ∷ [])) < 2 ^ 15) × (place + length (encodedArgument variant 0 (textPart index (now name)) (wordPart word ∷ [])) ≤ length (now out)) ⌝ }
+    ensures { λ _. ⌜ now (out .exit) ≡ overwritten (now (out .entry)) place (encodedArgument variant 0 (textPart index (now (name .entry))) (wordPart word ∷ [])) ⌝ }
+    ensures { λ r. ⌜ r ≡ place + length (encodedArgument variant 0 (textPart index (now (name .entry))) (wordPart word ∷ [])) ⌝ }
 {
-    let behind = put_argument_start(out, place, kind, 1, 0, index, name);
+    let behind = put_argument_start(out, place, variant, 1, 0, index, name);
     words::put_word(out, behind, word);
     behind + 8
 }
@@ -307,7 +307,7 @@ pub fn put_text_argument(
 ) -> usize
     requires { ⌜ (index < 2 ^ 15) × (length (now name) < 2 ^ 15) × (key < 2 ^ 15) × (length (now text) < 2 ^ 15) ⌝ }
     requires { ⌜ (length (textArgument (textPart index (now name)) (textPart key (now text))) < 2 ^ 15) × (place + length (textArgument (textPart index (now name)) (textPart key (now text))) ≤ length (now out)) ⌝ }
-    ensures { λ _. ⌜ now (out .exit) ≡ written (now (out .entry)) place (textArgument (textPart index (now (name .entry))) (textPart key (now (text .entry)))) ⌝ }
+    ensures { λ _. ⌜ now (out .exit) ≡ overwritten (now (out .entry)) place (textArgument (textPart index (now (name .entry))) (textPart key (now (text .entry)))) ⌝ }
     ensures { λ r. ⌜ r ≡ place + length (textArgument (textPart index (now (name .entry))) (textPart key (now (text .entry)))) ⌝ }
 {
     let more = text_words(key, text);
@@ -355,7 +355,7 @@ pub fn put_scalar_argument(
 ) -> usize
     requires { ⌜ (scalarType scalar < 2 ^ 4) × (index < 2 ^ 15) × (length (now name) < 2 ^ 15) ⌝ }
     requires { ⌜ (length (scalarArgument (textPart index (now name)) scalar) < 2 ^ 15) × (place + length (scalarArgument (textPart index (now name)) scalar) ≤ length (now out)) ⌝ }
-    ensures { λ _. ⌜ now (out .exit) ≡ written (now (out .entry)) place (scalarArgument (textPart index (now (name .entry))) scalar) ⌝ }
+    ensures { λ _. ⌜ now (out .exit) ≡ overwritten (now (out .entry)) place (scalarArgument (textPart index (now (name .entry))) scalar) ⌝ }
     ensures { λ r. ⌜ r ≡ place + length (scalarArgument (textPart index (now (name .entry))) scalar) ⌝ }
 {
     match scalar {
@@ -368,6 +368,6 @@ pub fn put_scalar_argument(
         Scalar::Pointer(n) => put_word_argument(out, place, 7, n, index, name),
         Scalar::KernelObject(n) => put_word_argument(out, place, 8, n, index, name),
         Scalar::Boolean(b) => put_short_argument(out, place, 9, boolean_half(b), index, name),
-        Scalar::Unknown(kind) => put_short_argument(out, place, kind as u64, 0, index, name),
+        Scalar::Unknown(variant) => put_short_argument(out, place, variant as u64, 0, index, name),
     }
 }

@@ -7,8 +7,8 @@ use native.Mathlib.Omega.{arith}
 use lib.ListN.{length, getD, take, replicate, length-append, length-replicate}
 use lib.Seq.{getD-take}
 use borrow.Author.Tests.{lt-ltb, le-ltb}
-use Rattle.words.specs.Stream.{written}
-use Rattle.words.proofs.Streams.{written-written}
+use Rattle.words.specs.Stream.{overwritten}
+use Rattle.words.proofs.Streams.{overwritten-twice}
 use Rattle.contexts.specs.declared.State.{State}
 use Rattle.contexts.specs.declared.Provider.{Provider}
 use Rattle.contexts.specs.declared.Provider.the-variants.{None, Id}
@@ -92,14 +92,14 @@ length-reply a s = rw (length-append (answerNumbers a), length-answer a)
 
 -- numbers put right behind others are one writing with them
 pub onward : (out : List ℕ) {before after : List ℕ} (place at : ℕ) (a b : List ℕ) → place ≤ length out → at ≡ place + length a
-    → before ≡ written out place a → after ≡ written before at b → after ≡ written out place (a ++ b)
+    → before ≡ overwritten out place a → after ≡ overwritten before at b → after ≡ overwritten out place (a ++ b)
 onward out {before} place at a b h e p q =
-    q ∙ ap (λ (n : ℕ). written before n b) e ∙ ap (λ (o : List ℕ). written o (place + length a) b) p ∙ written-written out place a b h
+    q ∙ ap (λ (n : ℕ). overwritten before n b) e ∙ ap (λ (o : List ℕ). overwritten o (place + length a) b) p ∙ overwritten-twice out place a b h
 
 -- five times four numbers, put one behind the other, are one writing
 pub twenty : (out : List ℕ) {o1 o2 o3 o4 o5 : List ℕ} (a b c d e : List ℕ) → length a ≡ 4 → length b ≡ 4 → length c ≡ 4 → length d ≡ 4
-    → o1 ≡ written out 0 a → o2 ≡ written o1 4 b → o3 ≡ written o2 8 c → o4 ≡ written o3 12 d → o5 ≡ written o4 16 e
-    → o5 ≡ written out 0 (a ++ (b ++ (c ++ (d ++ e))))
+    → o1 ≡ overwritten out 0 a → o2 ≡ overwritten o1 4 b → o3 ≡ overwritten o2 8 c → o4 ≡ overwritten o3 12 d → o5 ≡ overwritten o4 16 e
+    → o5 ≡ overwritten out 0 (a ++ (b ++ (c ++ (d ++ e))))
 twenty out a b c d e la lb lc ld p1 p2 p3 p4 p5 =
     let p12 = onward out 0 4 a b (omega arith) (omega arith) p1 p2 in
     let p13 = onward out 0 8 (a ++ b) c (omega arith) (omega (arith, length-append a b)) p12 p3 in
@@ -107,14 +107,14 @@ twenty out a b c d e la lb lc ld p1 p2 p3 p4 p5 =
     let ends : length (((a ++ b) ++ c) ++ d) ≡ 16 =
     omega (arith, length-append a b, length-append (a ++ b) c, length-append ((a ++ b) ++ c) d) in
     let p15 = onward out 0 16 (((a ++ b) ++ c) ++ d) e (omega arith) (omega arith) p14 p5 in
-    p15 ∙ ap (written out 0) (append-assoc ((a ++ b) ++ c) d e ∙ append-assoc (a ++ b) c (d ++ e) ∙ append-assoc a b (c ++ (d ++ e)))
+    p15 ∙ ap (overwritten out 0) (append-assoc ((a ++ b) ++ c) d e ∙ append-assoc (a ++ b) c (d ++ e) ∙ append-assoc a b (c ++ (d ++ e)))
 
 -- lent words that are too few stay as they were
 pub put-none : (out numbers : List ℕ) (n : ℕ) → length numbers ≡ n → length out < n → out ≡ putNumbers out numbers
 put-none out numbers n long h = rw (long, lt-ltb _ _ h)
 
 -- lent words that are enough hold the numbers at their start
-pub put-all : (out numbers : List ℕ) (n : ℕ) → length numbers ≡ n → n ≤ length out → written out 0 numbers ≡ putNumbers out numbers
+pub put-all : (out numbers : List ℕ) (n : ℕ) → length numbers ≡ n → n ≤ length out → overwritten out 0 numbers ≡ putNumbers out numbers
 put-all out numbers n long h = let l : length numbers ≤ length out = omega arith in rw (le-ltb _ _ l)
 
 -- numbers behind the twelve say nothing

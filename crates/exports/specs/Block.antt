@@ -5,7 +5,7 @@ use mathlib.Core.List.{List, [], _∷_, _++_}
 use lib.ListN.{length, getD, replicate}
 use lib.Dec.{ltb}
 use Rattle.words.specs.Word.{pick}
-use Rattle.words.specs.Stream.{written}
+use Rattle.words.specs.Stream.{overwritten}
 use Rattle.contexts.specs.declared.State.{State}
 use Rattle.reader.specs.declared.Answer.{Answer}
 use Rattle.reader.specs.declared.Asked.{Asked}
@@ -63,4 +63,4 @@ putCount space n = pick (ltb space n) 0 n
 
 -- the lent words afterwards: the numbers at their start and the rest as it was, or all as it was where they are too few
 abbrev pub putNumbers : List ℕ → List ℕ → List ℕ
-putNumbers out numbers = pick (ltb (length out) (length numbers)) out (written out 0 numbers)
+putNumbers out numbers = pick (ltb (length out) (length numbers)) out (overwritten out 0 numbers)

@@ -5,7 +5,7 @@ ghost use mathlib.Core.List.{[], _∷_, _++_};
 ghost use Prim.Native.Nat.{_+_, _%_, _^_, _≤_};
 ghost use lib.ListN.{length, getD};
 ghost use Rattle.format.specs.Limits.{smallFormat};
-ghost use Rattle.words.specs.Stream.{written};
+ghost use Rattle.words.specs.Stream.{overwritten};
 ghost use Rattle.words.specs.Word.{unsigned, bit};
 ghost use Rattle.arguments.specs.Argument.{scalarType};
 ghost use Rattle.reader.specs.Numbers.{textValues, threadValues, referentValues, providerValues, scalarValue, valueValues};
@@ -133,7 +133,7 @@ fn scalar_type(scalar: Scalar) -> u64
         Scalar::Pointer(_) => 7,
         Scalar::KernelObject(_) => 8,
         Scalar::Boolean(_) => 9,
-        Scalar::Unknown(kind) => kind as u64,
+        Scalar::Unknown(variant) => variant as u64,
     }
 }
 
@@ -158,7 +158,7 @@ fn scalar_value(scalar: Scalar) -> u64
 // Four numbers, put at a place. Every block is put by these.
 fn put_four(out: &mut [u64], at: usize, a: u64, b: u64, c: u64, d: u64)
     requires { ⌜ at + 4 ≤ length (now out) ⌝ }
-    ensures { λ _. ⌜ now (out .exit) ≡ written (now (out .entry)) at (a ∷ b ∷ c ∷ d ∷ []) ⌝ }
+    ensures { λ _. ⌜ now (out .exit) ≡ overwritten (now (out .entry)) at (a ∷ b ∷ c ∷ d ∷ []) ⌝ }
 {
     out[at] = a;
     out[at + 1] = b;
@@ -169,7 +169,7 @@ fn put_four(out: &mut [u64], at: usize, a: u64, b: u64, c: u64, d: u64)
 // A block of twenty with four values.
 fn put_short(out: &mut [u64], a: u64, b: u64, c: u64, d: u64)
     requires { ⌜ 20 ≤ length (now out) ⌝ }
-    ensures { λ _. ⌜ now (out .exit) ≡ written (now (out .entry)) 0 (block 20 (a ∷ b ∷ c ∷ d ∷ [])) ⌝ }
+    ensures { λ _. ⌜ now (out .exit) ≡ overwritten (now (out .entry)) 0 (block 20 (a ∷ b ∷ c ∷ d ∷ [])) ⌝ }
 {
     put_four(out, 0, a, b, c, d);
     put_four(out, 4, 0, 0, 0, 0);
@@ -181,7 +181,7 @@ fn put_short(out: &mut [u64], a: u64, b: u64, c: u64, d: u64)
 // The block of a record that refers to texts and threads.
 fn put_report(out: &mut [u64], report: ShownReport)
     requires { ⌜ 20 ≤ length (now out) ⌝ }
-    ensures { λ _. ⌜ now (out .exit) ≡ written (now (out .entry)) 0 (answerNumbers (Answer.Report report)) ⌝ }
+    ensures { λ _. ⌜ now (out .exit) ≡ overwritten (now (out .entry)) 0 (answerNumbers (Answer.Report report)) ⌝ }
 {
     let own = report.own;
     let shown_provider = report.provider;
@@ -209,7 +209,7 @@ fn put_report(out: &mut [u64], report: ShownReport)
 // The block of an answer.
 fn put_answer(out: &mut [u64], answer: Answer)
     requires { ⌜ 20 ≤ length (now out) ⌝ }
-    ensures { λ _. ⌜ now (out .exit) ≡ written (now (out .entry)) 0 (answerNumbers answer) ⌝ }
+    ensures { λ _. ⌜ now (out .exit) ≡ overwritten (now (out .entry)) 0 (answerNumbers answer) ⌝ }
 {
     match answer {
         Answer::End { number, place } => put_short(out, 1, number as u64, place as u64, 0),
@@ -235,7 +235,7 @@ fn wide(x: u32) -> u64
 // The numbers of a state, behind an answer's.
 fn put_state(out: &mut [u64], s: State)
     requires { ⌜ 32 ≤ length (now out) ⌝ }
-    ensures { λ _. ⌜ now (out .exit) ≡ written (now (out .entry)) 20 (stateNumbers s) ⌝ }
+    ensures { λ _. ⌜ now (out .exit) ≡ overwritten (now (out .entry)) 20 (stateNumbers s) ⌝ }
 {
     let ids = s.ids;
     put_four(out, 20, s.place as u64, s.rate, wide(ids[0]), wide(ids[1]));
@@ -273,7 +273,7 @@ fn put_reply(out: &mut [u64], answer: Answer, s: State) -> u64
 // The numbers of an argument's value, behind those of its name.
 fn put_value(out: &mut [u64], value: ShownValue)
     requires { ⌜ 20 ≤ length (now out) ⌝ }
-    ensures { λ _. ⌜ now (out .exit) ≡ written (now (out .entry)) 4 (valueValues value) ⌝ }
+    ensures { λ _. ⌜ now (out .exit) ≡ overwritten (now (out .entry)) 4 (valueValues value) ⌝ }
 {
     match value {
         ShownValue::Scalar(scalar) => {
@@ -289,7 +289,7 @@ fn put_value(out: &mut [u64], value: ShownValue)
 // The block of an argument.
 fn put_argument(out: &mut [u64], argument: ShownArgument)
     requires { ⌜ 20 ≤ length (now out) ⌝ }
-    ensures { λ _. ⌜ now (out .exit) ≡ written (now (out .entry)) 0 (askedNumbers (Asked.Argument argument)) ⌝ }
+    ensures { λ _. ⌜ now (out .exit) ≡ overwritten (now (out .entry)) 0 (askedNumbers (Asked.Argument argument)) ⌝ }
 {
     let shown_name = argument.name;
     let shown_value = argument.value;

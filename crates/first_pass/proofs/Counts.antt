@@ -78,13 +78,13 @@ counts-both f archive last slots us vs bad good bad′ good′ slots′ slots″
     }
 
 module _ (f : Format) (archive : List ℕ) (last : State) (few : last .count ≤ 8) (bytes : AllBytes archive) (provider : Option ℕ) (context : ℕ)
-    (here : contextIn last provider ≡ context) (low : context ≤ 8) (tables : List ℕ) (limit : ℕ) where
+    (here : contextIn last provider ≡ context) (low : context ≤ 8) (tables : List ℕ) (until : ℕ) where
   -- one reference
   lookup-counts : (slots : List ℕ) (l : Lookup) → LookupStands archive l
-      → Counts f archive last slots (lookupUses f archive tables provider context limit l) (unresolvedIn (lookedUp f archive tables context limit l))
-      (lookupGood f archive tables slots context limit l) (lookupSlots f archive tables slots context limit l)
+      → Counts f archive last slots (lookupUses f archive tables provider context until l) (unresolvedIn (lookedUp f archive tables context until l))
+      (lookupGood f archive tables slots context until l) (lookupSlots f archive tables slots context until l)
   lookup-counts slots =
-      on-lookup f archive bytes provider context tables limit slots (Counts f archive last slots) (record {
+      on-lookup f archive bytes provider context tables until slots (Counts f archive last slots) (record {
         missing = record {
           kept = kept-same f slots;
           counted = λ uses told short. told;
@@ -100,15 +100,15 @@ module _ (f : Format) (archive : List ℕ) (last : State) (few : last .count ≤
 
   -- references one after the other
   pub lookups-count : (ls : List Lookup) → LookupsStand archive ls → (slots : List ℕ)
-      → Counts f archive last slots (lookupsUses f archive tables provider context limit ls) (anyUnresolved f archive tables context limit ls)
-      (lookupsGood f archive tables slots context limit ls) (lookupsSlots f archive tables slots context limit ls)
+      → Counts f archive last slots (lookupsUses f archive tables provider context until ls) (anyUnresolved f archive tables context until ls)
+      (lookupsGood f archive tables slots context until ls) (lookupsSlots f archive tables slots context until ls)
   unfolding anyUnresolved lookupsGood lookupsSlots
   lookups-count [] stands slots = counts-none f archive last slots
   lookups-count (l ∷ more) stands slots =
-      counts-both f archive last slots (lookupUses f archive tables provider context limit l) (lookupsUses f archive tables provider context limit more)
-      (unresolvedIn (lookedUp f archive tables context limit l)) (lookupGood f archive tables slots context limit l)
-      (anyUnresolved f archive tables context limit more)
-      (lookupsGood f archive tables (lookupSlots f archive tables slots context limit l) context limit more)
-      (lookupSlots f archive tables slots context limit l)
-      (lookupsSlots f archive tables (lookupSlots f archive tables slots context limit l) context limit more) (lookup-counts slots l (stands .0))
-      (lookups-count more (stands .1) (lookupSlots f archive tables slots context limit l))
+      counts-both f archive last slots (lookupUses f archive tables provider context until l) (lookupsUses f archive tables provider context until more)
+      (unresolvedIn (lookedUp f archive tables context until l)) (lookupGood f archive tables slots context until l)
+      (anyUnresolved f archive tables context until more)
+      (lookupsGood f archive tables (lookupSlots f archive tables slots context until l) context until more)
+      (lookupSlots f archive tables slots context until l)
+      (lookupsSlots f archive tables (lookupSlots f archive tables slots context until l) context until more) (lookup-counts slots l (stands .0))
+      (lookups-count more (stands .1) (lookupSlots f archive tables slots context until l))

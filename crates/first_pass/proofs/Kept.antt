@@ -73,37 +73,37 @@ kept-clear h wide clear s low e =
     let first = clear s low (same .0) in
     (same .1 ∙ first .0, λ l. same .2 l ∙ first .1 l)
 
-module _ (archive : List ℕ) (stretch : ℕ) (table key : List ℕ) (place label most : ℕ) (some-place : 0 < place) (mark : label / 65536 < 18)
-    (wide : Wide stretch table) where
+module _ (archive : List ℕ) (stretch : ℕ) (slots key : List ℕ) (place label most : ℕ) (some-place : 0 < place) (mark : label / 65536 < 18)
+    (wide : Wide stretch slots) where
   -- taking a slot writes no word of one that stays free
-  filled-free : (x : ℕ) → x < stretch - 18 → (s : ℕ) → s < stretch → placeAt (filled stretch table place label x) s ≡ 0
-      → FreeSame stretch table (filled stretch table place label x) s
+  filled-free : (x : ℕ) → x < stretch - 18 → (s : ℕ) → s < stretch → placeAt (filled stretch slots place label x) s ≡ 0
+      → FreeSame stretch slots (filled stretch slots place label x) s
   filled-free x x-low s low e =
       let other : s ≡ x → ⊥ = λ same.
-      let none : placeAt (filled stretch table place label x) x ≡ 0 = ap (placeAt (filled stretch table place label x)) (sym same) ∙ e in
-      omega (arith, none, filled-place stretch table place label x x-low mark wide) in
-      let keep = filled-other stretch table place label x x-low mark in (
+      let none : placeAt (filled stretch slots place label x) x ≡ 0 = ap (placeAt (filled stretch slots place label x)) (sym same) ∙ e in
+      omega (arith, none, filled-place stretch slots place label x x-low mark wide) in
+      let keep = filled-other stretch slots place label x x-low mark in (
         sym (keep s other (λ z. omega arith) (λ z. omega arith) (λ z. omega (arith, wide .some))) ∙ e,
         keep (stretch + s) (λ z. omega arith) (λ z. other (omega arith)) (λ z. omega arith) (λ z. omega (arith, wide .some)),
         λ l. keep (2 * stretch + s) (λ z. omega arith) (λ z. omega arith) (λ z. other (omega arith)) (λ z. omega (arith, wide .some)),
       )
 
   -- neither does counting a use
-  added-free : (slot : Slot) → findOf archive stretch table key ≡ slot → (s : ℕ) → s < stretch
-      → placeAt (added stretch table place label most slot) s ≡ 0 → FreeSame stretch table (added stretch table place label most slot) s
+  added-free : (slot : Slot) → findOf archive stretch slots key ≡ slot → (s : ℕ) → s < stretch
+      → placeAt (added stretch slots place label most slot) s ≡ 0 → FreeSame stretch slots (added stretch slots place label most slot) s
   added-free (Here x) is s low e =
-      let v = raised (usesAt stretch table x) in
+      let v = raised (usesAt stretch slots x) in
       let i = 2 * stretch + x in
-      let was : placeAt table s ≡ 0 = sym (getD-set-other table i s v 0 (λ q. omega arith)) ∙ e in
-      let taken = here-key archive stretch table key (wide .some) x is .0 in
-      let other : s ≡ x → ⊥ = λ q. true≢false (sym (eq-eqb (placeAt table x) 0 (ap (placeAt table) (sym q) ∙ was)) ∙ taken) in (
+      let was : placeAt slots s ≡ 0 = sym (getD-set-other slots i s v 0 (λ q. omega arith)) ∙ e in
+      let taken = here-key archive stretch slots key (wide .some) x is .0 in
+      let other : s ≡ x → ⊥ = λ q. true≢false (sym (eq-eqb (placeAt slots x) 0 (ap (placeAt slots) (sym q) ∙ was)) ∙ taken) in (
         was,
-        getD-set-other table i (stretch + s) v 0 (λ q. omega arith),
-        λ l. getD-set-other table i (2 * stretch + s) v 0 (λ q. other (omega arith)),
+        getD-set-other slots i (stretch + s) v 0 (λ q. omega arith),
+        λ l. getD-set-other slots i (2 * stretch + s) v 0 (λ q. other (omega arith)),
       )
   added-free (Free x) is s low e =
-      cases (ltb (getD table (counterAt stretch (label / 65536)) 0) most)
-      (λ q. rw q (filled-free x (found-low archive stretch table key (wide .some) (Free x) is) s low (rw q at e)))
+      cases (ltb (getD slots (counterAt stretch (label / 65536)) 0) most)
+      (λ q. rw q (filled-free x (found-low archive stretch slots key (wide .some) (Free x) is) s low (rw q at e)))
       (λ q. rw q (rw q at e, refl, λ l. refl))
   added-free Full is s low e = (e, refl, λ l. refl)
 

@@ -37,7 +37,7 @@ use Rattle.records.proofs.Lookups.{onTexts, lookups-turn}
 use Rattle.tables.specs.Table.{tableWords, resolved, lookedUp}
 use Rattle.records.proofs.Bounds.{lengthOf, ContentShort, record-short}
 use Rattle.reader.proofs.Lookups.{record-whole, report-fits, LookupFits}
-use Rattle.reader.proofs.Changes.{Kind}
+use Rattle.reader.proofs.Changes.{IsTable}
 use Rattle.passes.proofs.Known.{thread-short}
 use Rattle.passes.proofs.Places.{report-bounds}
 use Rattle.first_pass.specs.Models.Count.{tablesIn, slotsIn, wordsIn, wordsRead, unresolvedIn, anyUnresolved, lookupGood, lookupSlots, lookupsGood, lookupsSlots}
@@ -68,64 +68,64 @@ part-ends archive from to l h = rw (length-take-le (to - from) (drop from archiv
 
 -- what is counted of references in a room: whether all is well, and the room after it
 abbrev pub Counted : Format → List ℕ → List ℕ → ℕ → ℕ → List Lookup → Bool → List ℕ → Type 0
-Counted f archive room context limit ls good after =
-    (good ≡ lookupsGood f archive (tablesIn f room) (slotsIn f room) context limit ls)
-    × (after ≡ tablesIn f room ++ lookupsSlots f archive (tablesIn f room) (slotsIn f room) context limit ls)
+Counted f archive room context until ls good after =
+    (good ≡ lookupsGood f archive (tablesIn f room) (slotsIn f room) context until ls)
+    × (after ≡ tablesIn f room ++ lookupsSlots f archive (tablesIn f room) (slotsIn f room) context until ls)
 
 -- no references
-pub counted-none : (f : Format) (archive room : List ℕ) (context limit : ℕ) → Counted f archive room context limit [] true room
+pub counted-none : (f : Format) (archive room : List ℕ) (context until : ℕ) → Counted f archive room context until [] true room
 unfolding lookupsGood lookupsSlots
-counted-none f archive room context limit = (refl, sym (take-append-drop (tableWords f) room))
+counted-none f archive room context until = (refl, sym (take-append-drop (tableWords f) room))
 
 -- one, and then others
-pub counted-then : (f : Format) (archive room : List ℕ) (context limit : ℕ) (l : Lookup) (more : List Lookup) → tableWords f ≤ length room
+pub counted-then : (f : Format) (archive room : List ℕ) (context until : ℕ) (l : Lookup) (more : List Lookup) → tableWords f ≤ length room
     → (good others : Bool) (after last : List ℕ)
-    → (good ≡ lookupGood f archive (tablesIn f room) (slotsIn f room) context limit l)
-    × (after ≡ tablesIn f room ++ lookupSlots f archive (tablesIn f room) (slotsIn f room) context limit l)
-    → Counted f archive after context limit more others last → Counted f archive room context limit (l ∷ more) (good && others) last
+    → (good ≡ lookupGood f archive (tablesIn f room) (slotsIn f room) context until l)
+    × (after ≡ tablesIn f room ++ lookupSlots f archive (tablesIn f room) (slotsIn f room) context until l)
+    → Counted f archive after context until more others last → Counted f archive room context until (l ∷ more) (good && others) last
 unfolding lookupsGood lookupsSlots
-counted-then f archive room context limit l more wide good others after last x y =
+counted-then f archive room context until l more wide good others after last x y =
     let r = room-after (tableWords f) room _ after wide (x .1) in
     let y′ = rw (r .tables, r .stand) at y in
     (rw (x .0, y′ .0), y′ .1)
 
-module _ (f : Format) (archive tables : List ℕ) (context limit : ℕ) where
+module _ (f : Format) (archive tables : List ℕ) (context until : ℕ) where
   -- references in two parts are counted one part after the other
   goods-both : (slots : List ℕ) (a b : List Lookup)
-      → lookupsGood f archive tables slots context limit (a ++ b)
-      ≡ (lookupsGood f archive tables slots context limit a
-      && lookupsGood f archive tables (lookupsSlots f archive tables slots context limit a) context limit b)
+      → lookupsGood f archive tables slots context until (a ++ b)
+      ≡ (lookupsGood f archive tables slots context until a
+      && lookupsGood f archive tables (lookupsSlots f archive tables slots context until a) context until b)
   unfolding lookupsGood lookupsSlots
   goods-both slots [] b = refl
   goods-both slots (l ∷ a) b =
-      rw (goods-both (lookupSlots f archive tables slots context limit l) a b)
-      (sym (and-assoc (lookupGood f archive tables slots context limit l) _ _))
+      rw (goods-both (lookupSlots f archive tables slots context until l) a b)
+      (sym (and-assoc (lookupGood f archive tables slots context until l) _ _))
 
   slots-both : (slots : List ℕ) (a b : List Lookup)
-      → lookupsSlots f archive tables slots context limit (a ++ b)
-      ≡ lookupsSlots f archive tables (lookupsSlots f archive tables slots context limit a) context limit b
+      → lookupsSlots f archive tables slots context until (a ++ b)
+      ≡ lookupsSlots f archive tables (lookupsSlots f archive tables slots context until a) context until b
   unfolding lookupsSlots
   slots-both slots [] b = refl
-  slots-both slots (l ∷ a) b = slots-both (lookupSlots f archive tables slots context limit l) a b
+  slots-both slots (l ∷ a) b = slots-both (lookupSlots f archive tables slots context until l) a b
 
   -- one turn of the walk over arguments that asks for unresolved references
   pub unresolved-turn : (n : ℕ) (rest : List ℕ) (place : ℕ) → 0 < n
-      → anyUnresolved f archive tables context limit (argumentLookups (argumentsRead f n rest place))
+      → anyUnresolved f archive tables context until (argumentLookups (argumentsRead f n rest place))
       ≡ onTexts (textsOf f rest place) false
-      (λ name value size. unresolvedIn (resolved f archive tables context 2 limit name)
-      || (unresolvedIn (resolved f archive tables context 2 limit value)
-      || anyUnresolved f archive tables context limit (argumentLookups (argumentsRead f (n - 1) (drop size rest) (place + size)))))
+      (λ name value size. unresolvedIn (resolved f archive tables context 2 until name)
+      || (unresolvedIn (resolved f archive tables context 2 until value)
+      || anyUnresolved f archive tables context until (argumentLookups (argumentsRead f (n - 1) (drop size rest) (place + size)))))
   unfolding anyUnresolved
-  unresolved-turn n rest place h = ap (anyUnresolved f archive tables context limit) (lookups-turn f n rest place h) ∙ go (textsOf f rest place)
+  unresolved-turn n rest place h = ap (anyUnresolved f archive tables context until) (lookups-turn f n rest place h) ∙ go (textsOf f rest place)
     where
       go : (x : Texts)
-          → anyUnresolved f archive tables context limit
+          → anyUnresolved f archive tables context until
           (onTexts x [] (λ name value size.
           textLookup name ∷ textLookup value ∷ argumentLookups (argumentsRead f (n - 1) (drop size rest) (place + size))))
           ≡ onTexts x false
-          (λ name value size. unresolvedIn (resolved f archive tables context 2 limit name)
-          || (unresolvedIn (resolved f archive tables context 2 limit value)
-          || anyUnresolved f archive tables context limit (argumentLookups (argumentsRead f (n - 1) (drop size rest) (place + size)))))
+          (λ name value size. unresolvedIn (resolved f archive tables context 2 until name)
+          || (unresolvedIn (resolved f archive tables context 2 until value)
+          || anyUnresolved f archive tables context until (argumentLookups (argumentsRead f (n - 1) (drop size rest) (place + size)))))
       go (TextsRefused number) = refl
       go (TextsRead name value size) = refl
 
@@ -172,26 +172,26 @@ read-turn f zero rest place h = absurd (omega arith)
 read-turn f (suc n) rest place h = let e : suc n - 1 ≡ n = omega arith in rw e
 
 -- where the walk stands: what is to be counted in all is what was counted and what is left
-pub record Walk (f : Format) (archive start : List ℕ) (context limit : ℕ) (all : List Argument) (end : ℕ) (room : List ℕ) (left : ℕ) (rest : List ℕ)
+pub record Walk (f : Format) (archive start : List ℕ) (context until : ℕ) (all : List Argument) (end : ℕ) (room : List ℕ) (left : ℕ) (rest : List ℕ)
     (at : ℕ) (good : Bool) (words most : ℕ)
     : Type 0 where
   pub tables : tablesIn f room ≡ tablesIn f start
   pub long : length room ≡ length start
-  pub goods : lookupsGood f archive (tablesIn f start) (slotsIn f start) context limit (argumentLookups all)
-      ≡ (good && lookupsGood f archive (tablesIn f start) (slotsIn f room) context limit (argumentLookups (argumentsRead f left rest at)))
-  pub slots : lookupsSlots f archive (tablesIn f start) (slotsIn f start) context limit (argumentLookups all)
-      ≡ lookupsSlots f archive (tablesIn f start) (slotsIn f room) context limit (argumentLookups (argumentsRead f left rest at))
+  pub goods : lookupsGood f archive (tablesIn f start) (slotsIn f start) context until (argumentLookups all)
+      ≡ (good && lookupsGood f archive (tablesIn f start) (slotsIn f room) context until (argumentLookups (argumentsRead f left rest at)))
+  pub slots : lookupsSlots f archive (tablesIn f start) (slotsIn f start) context until (argumentLookups all)
+      ≡ lookupsSlots f archive (tablesIn f start) (slotsIn f room) context until (argumentLookups (argumentsRead f left rest at))
   pub sum : wordsRead all ≡ words + wordsRead (argumentsRead f left rest at)
   pub inside : at + length rest ≡ end
   pub few : words + 2 * left ≤ 2 * most
 
-module _ (f : Format) (archive start : List ℕ) (context limit : ℕ) (all : List Argument) (end : ℕ) (room : List ℕ) (left : ℕ) (rest : List ℕ) (at : ℕ)
-    (good : Bool) (words most : ℕ) (w : Walk f archive start context limit all end room left rest at good words most) where
+module _ (f : Format) (archive start : List ℕ) (context until : ℕ) (all : List Argument) (end : ℕ) (room : List ℕ) (left : ℕ) (rest : List ℕ) (at : ℕ)
+    (good : Bool) (words most : ℕ) (w : Walk f archive start context until all end room left rest at good words most) where
   -- where nothing is left to read, all was counted
   pub walk-ends : argumentsRead f left rest at ≡ []
-      → (good ≡ lookupsGood f archive (tablesIn f start) (slotsIn f start) context limit (argumentLookups all))
+      → (good ≡ lookupsGood f archive (tablesIn f start) (slotsIn f start) context until (argumentLookups all))
       × ((words ≡ wordsRead all)
-      × (room ≡ tablesIn f start ++ lookupsSlots f archive (tablesIn f start) (slotsIn f start) context limit (argumentLookups all)))
+      × (room ≡ tablesIn f start ++ lookupsSlots f archive (tablesIn f start) (slotsIn f start) context until (argumentLookups all)))
   unfolding lookupsGood lookupsSlots wordsRead
   walk-ends none = (
     sym (w .goods ∙ rw none (and-true good)),
@@ -209,8 +209,8 @@ module _ (f : Format) (archive start : List ℕ) (context limit : ℕ) (all : Li
 
   -- an argument is counted, and the walk goes on behind it
   pub walk-turns : (a : Argument) (size : ℕ) (counted : Bool) (after : List ℕ) → 0 < left → argumentOf f rest at ≡ Read a size
-      → tableWords f ≤ length room → length after ≡ length room → Counted f archive room context limit (argumentLookups (a ∷ [])) counted after
-      → Walk f archive start context limit all end after (left - 1) (drop size rest) (at + size) (good && counted) (words + (1 + wordsIn (a .value))) most
+      → tableWords f ≤ length room → length after ≡ length room → Counted f archive room context until (argumentLookups (a ∷ [])) counted after
+      → Walk f archive start context until all end after (left - 1) (drop size rest) (at + size) (good && counted) (words + (1 + wordsIn (a .value))) most
   unfolding wordsRead
   walk-turns a size counted after h e wide long x =
       let own = argumentLookups (a ∷ []) in
@@ -223,9 +223,9 @@ module _ (f : Format) (archive start : List ℕ) (context limit : ℕ) (all : Li
         tables = r .tables ∙ w .tables;
         long = long ∙ w .long;
         goods = w .goods
-            ∙ (rw (turn, goods-both f archive (tablesIn f start) context limit (slotsIn f room) own (argumentLookups more), ← x′ .0, ← stand)
+            ∙ (rw (turn, goods-both f archive (tablesIn f start) context until (slotsIn f room) own (argumentLookups more), ← x′ .0, ← stand)
             (sym (and-assoc good counted _)));
-        slots = w .slots ∙ rw (turn, slots-both f archive (tablesIn f start) context limit (slotsIn f room) own (argumentLookups more), ← stand);
+        slots = w .slots ∙ rw (turn, slots-both f archive (tablesIn f start) context until (slotsIn f room) own (argumentLookups more), ← stand);
         sum = let s = rw turn at (w .sum) in omega (arith, s);
         inside = omega (arith, w .inside, argument-read f rest at a size e .inside, length-drop size rest);
         few = omega (arith, w .few, words-in-few (a .value));
@@ -262,13 +262,13 @@ pub record Countable (l : Lookup) : Type 0 where
 -- a reference that stands inside a record before such an end is one
 lookup-countable : (from to : ℕ) (l : Lookup) → LookupFits l → (l .table ≡ 2 → lengthOf (l .reference) < 65536) → Inside from to (l .reference)
     → to < 2 ^ 31 → Countable l
-lookup-countable from to l fit short i low = go (fit .kinds)
+lookup-countable from to l fit short i low = go (fit .table)
   where
     of-reference : (r : Reference) → lengthOf r < 65536 → Inside from to r → ReferenceFits r
     of-reference (Inline place long) s i = (omega (arith, i .1), s)
     of-reference (Index index) s i = tt
 
-    go : Kind (l .table) → Countable l
+    go : IsTable (l .table) → Countable l
     go (inl k) = record { least = omega (arith, k); most = omega (arith, k); fits = of-reference (l .reference) (short k) i }
     go (inr k) =
         record {

@@ -15,17 +15,17 @@ use Rattle.registering.proofs.Counting.{keys-prefix}
 use Rattle.format.specs.declared.Format.{Format}
 use Rattle.records.specs.Item.{Key, textKey, threadKey, Use}
 use Rattle.tables.specs.Table.{tableWords}
-use Rattle.rule.specs.Rule.{sameUse, sameProvider, sameKind}
+use Rattle.rule.specs.Rule.{sameUse, sameProvider, sameTable}
 use Rattle.rule.specs.Refusal.{alike, limitOf, passesLimit}
 use Rattle.rule.proofs.Uses.{same-use-eq, same-use-refl}
-use Rattle.passes.proofs.Codes.{kindMark}
+use Rattle.passes.proofs.Codes.{tableMark}
 
 -- the highest number of distinct keys of a mark: texts have even marks, threads odd ones
 abbrev pub limitsOf : Format → ℕ → ℕ
 limitsOf f mark = pick (eqb (mark % 2) 0) (f .highest) 255
 
 -- is the limit of the mark's keys
-pub mark-limit : (f : Format) (context : ℕ) (key : Key) → limitsOf f (2 * context + kindMark key) ≡ limitOf f key
+pub mark-limit : (f : Format) (context : ℕ) (key : Key) → limitsOf f (2 * context + tableMark key) ≡ limitOf f key
 mark-limit f context (textKey bytes) = rw (eq-eqb ((2 * context + 0) % 2) 0 (omega arith))
 mark-limit f context (threadKey t) = rw (ne-eqb ((2 * context + 1) % 2) 0 (λ z. omega arith))
 
@@ -40,13 +40,13 @@ either-true : (a : Bool) → (a || true) ≡ true
 either-true true = refl
 either-true false = refl
 
--- the keys of a use's context and kind, as a sum
+-- the keys of a use's context and table, as a sum
 alike-sum : (u : Use) (vs : List Use)
-    → alike u vs ≡ sumBy (λ v. cond (sameProvider (u .provider) (v .provider) && sameKind (u .key) (v .key)) 1 0) vs
+    → alike u vs ≡ sumBy (λ v. cond (sameProvider (u .provider) (v .provider) && sameTable (u .key) (v .key)) 1 0) vs
 alike-sum u [] = refl
 alike-sum u (v ∷ vs) = omega (arith, alike-sum u vs)
 
--- more uses have no fewer distinct keys of a use's context and kind
+-- more uses have no fewer distinct keys of a use's context and table
 alike-more : (u : Use) (us vs : List Use) → alike u (keys sameUse [] us) ≤ alike u (keys sameUse [] (us ++ vs))
 alike-more u us vs =
     omega (
@@ -54,7 +54,7 @@ alike-more u us vs =
       alike-sum u (keys sameUse [] us),
       alike-sum u (keys sameUse [] (us ++ vs)),
       keys-prefix sameUse same-use-eq same-use-refl
-          (λ v. cond (sameProvider (u .provider) (v .provider) && sameKind (u .key) (v .key)) 1 0) [] us vs,
+          (λ v. cond (sameProvider (u .provider) (v .provider) && sameTable (u .key) (v .key)) 1 0) [] us vs,
     )
 
 -- a limit that is passed by some uses is passed with more of them

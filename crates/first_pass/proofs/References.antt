@@ -32,7 +32,7 @@ use Rattle.arguments.specs.Argument.{argumentOf, onArgued, textIn, argumentsRea
 use Rattle.records.specs.declared.Lookup.{Lookup}
 use Rattle.records.specs.declared.Report.{Report as ReadReport}
 use Rattle.records.specs.Lookups.{argumentLookups, argumentsTo, reportLookups}
-use Rattle.records.specs.Item.{known, thread, Key, textKey, threadKey, Use, textUses, referentUses, valueUses, argumentsUses, report, usesOf, isUnresolved, referentUnresolved, valueUnresolved, argumentsUnresolved, ownWords, ownBehind}
+use Rattle.records.specs.Item.{known, thread, Key, textKey, threadKey, Use, textUses, referentUses, valueUses, argumentsUses, report, usesOf, isUnresolved, referentUnresolved, valueUnresolved, argumentsUnresolved, ownLayout}
 use Rattle.encoding.proofs.EncodedReports.{length-last, behind-few}
 use Rattle.contexts.specs.declared.State.{State}
 use Rattle.contexts.specs.Context.{providerOf}
@@ -41,7 +41,7 @@ use Rattle.tables.specs.declared.Resolved.the-variants.{Bad, Known, Unresolved}
 use Rattle.tables.specs.Table.{tableWords, highestOf, resolved, lookedUp}
 use Rattle.reader.specs.Shown.{shownText, shownThread, shownReferent, shownStream, shownValue}
 use Rattle.reader.specs.Reads.{textItem, referentItem, streamItem, providerItem, valueItem}
-use Rattle.reader.proofs.Changes.{Kind}
+use Rattle.reader.proofs.Changes.{IsTable}
 use Rattle.rule.specs.Refusal.{itemUnresolved, limitOf}
 use Rattle.passes.proofs.Places.{KnownStands, LookupStands, LookupsStand, lookup-known, part-inside}
 use Rattle.passes.proofs.Codes.{KeyPlain, UsesPlain, plain-both, text-code, thread-code}
@@ -51,13 +51,13 @@ use Rattle.first_pass.specs.Models.Count.{unresolvedIn, countGood, count
 
 -- the uses of what a reference stands for
 abbrev pub lookupUses : Format → List ℕ → List ℕ → Option ℕ → ℕ → ℕ → Lookup → List Use
-lookupUses f archive tables provider context limit l = referentUses provider (referentAt f archive tables context limit l)
+lookupUses f archive tables provider context until l = referentUses provider (referentAt f archive tables context until l)
 
 -- and of references one after the other
 abbrev pub lookupsUses : Format → List ℕ → List ℕ → Option ℕ → ℕ → ℕ → List Lookup → List Use
-lookupsUses f archive tables provider context limit [] = []
-lookupsUses f archive tables provider context limit (l ∷ more) =
-    lookupUses f archive tables provider context limit l ++ lookupsUses f archive tables provider context limit more
+lookupsUses f archive tables provider context until [] = []
+lookupsUses f archive tables provider context until (l ∷ more) =
+    lookupUses f archive tables provider context until l ++ lookupsUses f archive tables provider context until more
 
 -- a text that is not empty is one use
 text-use : (provider : Option ℕ) (bytes : List ℕ) → 0 < length bytes
@@ -135,43 +135,43 @@ module _ (f : Format) (archive : List ℕ) (bytes : AllBytes archive) (provider 
         behind = k .0 .behind (omega arith);
       }))
 
-  module _ (tables : List ℕ) (limit : ℕ) where
+  module _ (tables : List ℕ) (until : ℕ) where
     -- any reference
     pub on-lookup : (slots : List ℕ) (P : List Use → Bool → Bool → List ℕ → Type 0) → OfLookup f archive slots provider context P → (l : Lookup)
         → LookupStands archive l
-        → P (lookupUses f archive tables provider context limit l) (unresolvedIn (lookedUp f archive tables context limit l))
-        (lookupGood f archive tables slots context limit l) (lookupSlots f archive tables slots context limit l)
+        → P (lookupUses f archive tables provider context until l) (unresolvedIn (lookedUp f archive tables context until l))
+        (lookupGood f archive tables slots context until l) (lookupSlots f archive tables slots context until l)
     on-lookup slots P of l stands = go (stands .table)
       where
-        go : Kind (l .table) → Holds f archive slots provider context (l .table) (lookedUp f archive tables context limit l) P
+        go : IsTable (l .table) → Holds f archive slots provider context (l .table) (lookedUp f archive tables context until l) P
         go (inl k) =
-            rw k (on-text slots P of (resolved f archive tables context 2 limit (l .reference))
-            (λ place long e. lookup-known f archive tables context limit l place long stands (rw k e) .0))
+            rw k (on-text slots P of (resolved f archive tables context 2 until (l .reference))
+            (λ place long e. lookup-known f archive tables context until l place long stands (rw k e) .0))
         go (inr k) =
-            rw k (on-thread slots P of (resolved f archive tables context 3 limit (l .reference))
-            (λ place long e. let q = lookup-known f archive tables context limit l place long stands (rw k e) in (q .0, q .1 k)))
+            rw k (on-thread slots P of (resolved f archive tables context 3 until (l .reference))
+            (λ place long e. let q = lookup-known f archive tables context until l place long stands (rw k e) in (q .0, q .1 k)))
 
     -- references that stand in the archive have plain uses
-    pub lookups-plain : (ls : List Lookup) → LookupsStand archive ls → UsesPlain (lookupsUses f archive tables provider context limit ls)
+    pub lookups-plain : (ls : List Lookup) → LookupsStand archive ls → UsesPlain (lookupsUses f archive tables provider context until ls)
     lookups-plain [] stands = tt
     lookups-plain (l ∷ more) stands =
-        plain-both (lookupUses f archive tables provider context limit l) (lookupsUses f archive tables provider context limit more)
+        plain-both (lookupUses f archive tables provider context until l) (lookupsUses f archive tables provider context until more)
         (on-lookup [] (λ us bad good slots. UsesPlain us)
         (record { missing = tt; empty = tt; used = λ key place label most k. (k .plain, tt) }) l (stands .0))
         (lookups-plain more (stands .1))
 
     -- and one each at most
-    pub lookups-few : (ls : List Lookup) → LookupsStand archive ls → length (lookupsUses f archive tables provider context limit ls) ≤ length ls
+    pub lookups-few : (ls : List Lookup) → LookupsStand archive ls → length (lookupsUses f archive tables provider context until ls) ≤ length ls
     lookups-few [] stands = omega arith
     lookups-few (l ∷ more) stands =
-        let one : length (lookupUses f archive tables provider context limit l) ≤ 1 =
+        let one : length (lookupUses f archive tables provider context until l) ≤ 1 =
         on-lookup [] (λ us bad good slots. length us ≤ 1)
         (record { missing = omega arith; empty = omega arith; used = λ key place label most k. omega arith }) l (stands .0) in
         omega (
           arith,
           one,
           lookups-few more (stands .1),
-          length-append (lookupUses f archive tables provider context limit l) (lookupsUses f archive tables provider context limit more),
+          length-append (lookupUses f archive tables provider context until l) (lookupsUses f archive tables provider context until more),
         )
 
 -- ---- arguments as they are read
@@ -192,19 +192,19 @@ pub report-few : (f : Format) (archive : List ℕ) (r : ReadReport) (next : ℕ)
 report-few f archive r next low =
     omega (arith, low, arguments-few f (r .count) (take (next - r .arguments) (drop (r .arguments) archive)) (r .arguments))
 
-module _ (f : Format) (archive tables : List ℕ) (context limit : ℕ) where
+module _ (f : Format) (archive tables : List ℕ) (context until : ℕ) where
   -- a value's text is what its text reference stands for; a scalar has none
   value-uses : (provider : Option ℕ) (v : ReadValue)
-      → valueUses provider (valueItem archive (shownValue f archive tables context limit v))
-      ≡ textUses provider (textAt f archive tables context limit (textIn v))
+      → valueUses provider (valueItem archive (shownValue f archive tables context until v))
+      ≡ textUses provider (textAt f archive tables context until (textIn v))
   unfolding shownValue shownText resolved
   value-uses provider (ScalarValue s) = sym (no-use provider (partOf archive 0 0) (part-inside archive 0 0 (omega arith) .1))
   value-uses provider (TextValue r) = refl
 
   -- arguments use what their references do
   arguments-uses : (provider : Option ℕ) (l : List ReadArgument)
-      → argumentsUses provider (argumentsAt f archive tables context limit l)
-      ≡ lookupsUses f archive tables provider context limit (argumentLookups l)
+      → argumentsUses provider (argumentsAt f archive tables context until l)
+      ≡ lookupsUses f archive tables provider context until (argumentLookups l)
   unfolding shownReferent
   arguments-uses provider [] = refl
   arguments-uses provider (a ∷ l) = rw (value-uses provider (a .value), arguments-uses provider l)
@@ -217,10 +217,10 @@ module _ (f : Format) (archive tables : List ℕ) (context limit : ℕ) where
   text-unresolved (Unresolved index) = refl
 
   -- and so is whatever a record refers to
-  referent-unresolved : (l : Lookup) → referentUnresolved (referentAt f archive tables context limit l) ≡ unresolvedIn (lookedUp f archive tables context limit l)
+  referent-unresolved : (l : Lookup) → referentUnresolved (referentAt f archive tables context until l) ≡ unresolvedIn (lookedUp f archive tables context until l)
   unfolding shownReferent shownThread shownText unresolvedIn
-  referent-unresolved l = cases (eqb (l .table) 3) (λ e. rw e (of-thread (lookedUp f archive tables context limit l)))
-      (λ e. rw e (of-text (lookedUp f archive tables context limit l)))
+  referent-unresolved l = cases (eqb (l .table) 3) (λ e. rw e (of-thread (lookedUp f archive tables context until l)))
+      (λ e. rw e (of-text (lookedUp f archive tables context until l)))
     where
       of-thread : (r : Resolved) → referentUnresolved (referentItem archive (shownReferent archive 3 r)) ≡ unresolvedIn r
       of-thread Bad = refl
@@ -234,32 +234,32 @@ module _ (f : Format) (archive tables : List ℕ) (context limit : ℕ) where
 
   -- a value is unresolved where its text is; the empty text that stands for none is known
   value-unresolved : (v : ReadValue)
-      → valueUnresolved (valueItem archive (shownValue f archive tables context limit v))
-      ≡ unresolvedIn (resolved f archive tables context 2 limit (textIn v))
+      → valueUnresolved (valueItem archive (shownValue f archive tables context until v))
+      ≡ unresolvedIn (resolved f archive tables context 2 until (textIn v))
   unfolding shownValue resolved unresolvedIn
   value-unresolved (ScalarValue s) = refl
-  value-unresolved (TextValue reference) = text-unresolved (resolved f archive tables context 2 limit reference)
+  value-unresolved (TextValue reference) = text-unresolved (resolved f archive tables context 2 until reference)
 
   -- arguments are unresolved where one of their references is
   arguments-unresolved : (l : List ReadArgument)
-      → argumentsUnresolved (argumentsAt f archive tables context limit l) ≡ anyUnresolved f archive tables context limit (argumentLookups l)
+      → argumentsUnresolved (argumentsAt f archive tables context until l) ≡ anyUnresolved f archive tables context until (argumentLookups l)
   unfolding anyUnresolved
   arguments-unresolved [] = refl
   arguments-unresolved (a ∷ l) =
       rw (
-        text-unresolved (resolved f archive tables context 2 limit (a .name)),
+        text-unresolved (resolved f archive tables context 2 until (a .name)),
         value-unresolved (a .value),
         arguments-unresolved l,
       )
 
   -- the words of a value are those of what was read
-  value-words-at : (v : ReadValue) → valueWords (valueItem archive (shownValue f archive tables context limit v)) ≡ wordsIn v
+  value-words-at : (v : ReadValue) → valueWords (valueItem archive (shownValue f archive tables context until v)) ≡ wordsIn v
   unfolding shownValue wordsIn
   value-words-at (ScalarValue s) = refl
   value-words-at (TextValue reference) = refl
 
   -- and so are those of arguments
-  words-at : (l : List ReadArgument) → argumentsWords (argumentsAt f archive tables context limit l) ≡ wordsRead l
+  words-at : (l : List ReadArgument) → argumentsWords (argumentsAt f archive tables context until l) ≡ wordsRead l
   unfolding wordsRead
   words-at [] = refl
   words-at (a ∷ l) = rw (value-words-at (a .value), words-at l)
@@ -297,7 +297,7 @@ stream-words archive from to (Index index) i h = rw (part-inside archive 0 0 (om
 -- its words are those of its kind, of its stream and of its arguments
 pub report-words : (f : Format) (archive tables : List ℕ) (s : State) (r : ReadReport) (next from to : ℕ) → Inside from to (r .stream)
     → to ≤ length archive
-    → 1 + length (ownWords (r .own)) + inlineBytes (r .stream) / 8 + wordsRead (argumentsTo f archive r next) + ownBehind (r .own)
+    → 1 + length (ownLayout (r .own) .words) + inlineBytes (r .stream) / 8 + wordsRead (argumentsTo f archive r next) + ownLayout (r .own) .behind
     ≡ reportWords f archive tables s r next
 unfolding reportAt
 report-words f archive tables s r next from to i h =
@@ -305,5 +305,5 @@ report-words f archive tables s r next from to i h =
       arith,
       stream-words archive from to (r .stream) i h,
       words-at f archive tables (s .current) (s .place) (argumentsTo f archive r next),
-      length-last (ownBehind (r .own)) (r .last) (behind-few (r .own)),
+      length-last (ownLayout (r .own) .behind) (r .last) (behind-few (r .own)),
     )

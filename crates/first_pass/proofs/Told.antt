@@ -26,7 +26,7 @@ use Rattle.tally.specs.declared.Slot.{Slot}
 use Rattle.tally.specs.declared.Slot.the-variants.{Here, Free, Full}
 use Rattle.tally.proofs.Sums.{distinct-alike}
 use Rattle.tally.proofs.Tallied.{tally-alike, add-tally, added-within, not-added}
-use Rattle.passes.proofs.Codes.{KeyPlain, UsesPlain, plain-both, codes-both, codes-length, kindMark, code-mark, alike-distinct}
+use Rattle.passes.proofs.Codes.{KeyPlain, UsesPlain, plain-both, codes-both, codes-length, tableMark, code-mark, alike-distinct}
 use Rattle.first_pass.specs.Models.Left.{withinLimit}
 use Rattle.first_pass.proofs.References.{KeyStands}
 use Rattle.first_pass.proofs.Limits.{limitsOf, mark-limit, limits-sum, limit-more, limit-last}
@@ -43,22 +43,22 @@ open-both : (last : State) (us vs : List Use) → UsesOpen last us → UsesOpen 
 open-both last [] vs h k = k
 open-both last (u ∷ us) vs h k = (h .0, open-both last us vs (h .1) k)
 
--- a kind is one of two
-kind-low : (key : Key) → kindMark key < 2
-kind-low (textKey bytes) = omega arith
-kind-low (threadKey t) = omega arith
+-- a table is one of two
+table-low : (key : Key) → tableMark key < 2
+table-low (textKey bytes) = omega arith
+table-low (threadKey t) = omega arith
 
 -- the label of a key that stands in the archive has one of eighteen marks
 pub key-mark : {f : Format} {archive : List ℕ} {context : ℕ} {key : Key} {place label most : ℕ}
     → KeyStands f archive context key place label most → context ≤ 8 → label / 65536 < 18
 key-mark {context = context} {key = key} stands low =
     let same = ap (λ (k : List ℕ). getD k 0 0 / 65536) (stands .own) in
-    omega (arith, same, code-mark context key (stands .plain), kind-low key)
+    omega (arith, same, code-mark context key (stands .plain), table-low key)
 
 -- the mark of such a use is one of eighteen
 mark-low : (last : State) (u : Use) → KeyPlain (u .key) → contextIn last (u .provider) ≤ 8 → keyMark (codeIn last u) < 18
 mark-low last u plain known =
-    omega (arith, code-mark (contextIn last (u .provider)) (u .key) plain, kind-low (u .key))
+    omega (arith, code-mark (contextIn last (u .provider)) (u .key) plain, table-low (u .key))
 
 -- and so is that of every key that was used
 used-marks : (last : State) (us : List Use) → UsesPlain us → UsesOpen last us → (key : List ℕ) → 0 < count sameBytes key (codes last us)
@@ -84,11 +84,11 @@ pub record Outcome (f : Format) (archive : List ℕ) (last : State) (slots : Lis
   pub over : good ≡ false → bad ≡ false → passesLimit f uses uses ≡ true
 
 -- a use that is not counted leaves the slots
-not-added-same : (stretch : ℕ) (table : List ℕ) (place label most : ℕ) (slot : Slot) → isAdded stretch table label most slot ≡ false
-    → added stretch table place label most slot ≡ table
-not-added-same stretch table place label most (Here s) e = absurd (true≢false e)
-not-added-same stretch table place label most (Free s) e = rw e
-not-added-same stretch table place label most Full e = refl
+not-added-same : (stretch : ℕ) (slots : List ℕ) (place label most : ℕ) (slot : Slot) → isAdded stretch slots label most slot ≡ false
+    → added stretch slots place label most slot ≡ slots
+not-added-same stretch slots place label most (Here s) e = absurd (true≢false e)
+not-added-same stretch slots place label most (Free s) e = rw e
+not-added-same stretch slots place label most Full e = refl
 
 module _ (f : Format) (archive : List ℕ) (last : State) where
   -- nothing is counted

@@ -84,14 +84,14 @@ fn count_reference(
     context: usize,
     table: u64,
     reference: Reference,
-    limit: usize,
+    until: usize,
 ) -> bool
     requires { ⌜ CanCount f (now archive) (now room) context × (2 ≤ table) × (table ≤ 3) × ReferenceFits reference ⌝ }
-    ensures { λ r. ⌜ r ≡ lookupGood f (now (archive .entry)) (tablesIn f (now (room .entry))) (slotsIn f (now (room .entry))) context limit (record { table = table; reference = reference }) ⌝ }
-    ensures { λ _. ⌜ now (room .exit) ≡ tablesIn f (now (room .entry)) ++ lookupSlots f (now (archive .entry)) (tablesIn f (now (room .entry))) (slotsIn f (now (room .entry))) context limit (record { table = table; reference = reference }) ⌝ }
+    ensures { λ r. ⌜ r ≡ lookupGood f (now (archive .entry)) (tablesIn f (now (room .entry))) (slotsIn f (now (room .entry))) context until (record { table = table; reference = reference }) ⌝ }
+    ensures { λ _. ⌜ now (room .exit) ≡ tablesIn f (now (room .entry)) ++ lookupSlots f (now (archive .entry)) (tablesIn f (now (room .entry))) (slotsIn f (now (room .entry))) context until (record { table = table; reference = reference }) ⌝ }
 {
     let words = tables::table_words(f);
-    let resolved = tables::resolve(f, archive, &room[..words], context, table, reference, limit);
+    let resolved = tables::resolve(f, archive, &room[..words], context, table, reference, until);
     match resolved {
         Resolved::Bad => false,
         Resolved::Unresolved { index: _ } => false,
@@ -113,17 +113,17 @@ fn count_argument(
     room: &mut [u32],
     context: usize,
     argument: Argument,
-    limit: usize,
+    until: usize,
 ) -> bool
     requires { ⌜ CanCount f (now archive) (now room) context × ReferenceFits (argument .name) × ReferenceFits (textIn (argument .value)) ⌝ }
-    ensures { λ r. ⌜ r ≡ lookupsGood f (now (archive .entry)) (tablesIn f (now (room .entry))) (slotsIn f (now (room .entry))) context limit (argumentLookups (argument ∷ [])) ⌝ }
-    ensures { λ _. ⌜ now (room .exit) ≡ tablesIn f (now (room .entry)) ++ lookupsSlots f (now (archive .entry)) (tablesIn f (now (room .entry))) (slotsIn f (now (room .entry))) context limit (argumentLookups (argument ∷ [])) ⌝ }
+    ensures { λ r. ⌜ r ≡ lookupsGood f (now (archive .entry)) (tablesIn f (now (room .entry))) (slotsIn f (now (room .entry))) context until (argumentLookups (argument ∷ [])) ⌝ }
+    ensures { λ _. ⌜ now (room .exit) ≡ tablesIn f (now (room .entry)) ++ lookupsSlots f (now (archive .entry)) (tablesIn f (now (room .entry))) (slotsIn f (now (room .entry))) context until (argumentLookups (argument ∷ [])) ⌝ }
 {
     let name = argument.name;
     let value = argument.value;
     let text = passes::value_text(value);
-    let named = count_reference(f, archive, room, context, 2, name, limit);
-    let valued = count_reference(f, archive, room, context, 2, text, limit);
+    let named = count_reference(f, archive, room, context, 2, name, until);
+    let valued = count_reference(f, archive, room, context, 2, text, until);
     both(named, valued)
 }
 
@@ -139,15 +139,15 @@ fn count_arguments(
     archive: &[u8],
     room: &mut [u32],
     context: usize,
-    limit: usize,
+    until: usize,
     part: &[u8],
     place: usize,
     count: usize,
 ) -> Added
     requires { ⌜ CanCount f (now archive) (now room) context × (place + length (now part) < 2 ^ 31) × (count < 16) ⌝ }
-    ensures { λ r. ⌜ r .good ≡ lookupsGood f (now (archive .entry)) (tablesIn f (now (room .entry))) (slotsIn f (now (room .entry))) context limit (argumentLookups (argumentsRead f count (now (part .entry)) place)) ⌝ }
+    ensures { λ r. ⌜ r .good ≡ lookupsGood f (now (archive .entry)) (tablesIn f (now (room .entry))) (slotsIn f (now (room .entry))) context until (argumentLookups (argumentsRead f count (now (part .entry)) place)) ⌝ }
     ensures { λ r. ⌜ r .words ≡ wordsRead (argumentsRead f count (now (part .entry)) place) ⌝ }
-    ensures { λ _. ⌜ now (room .exit) ≡ tablesIn f (now (room .entry)) ++ lookupsSlots f (now (archive .entry)) (tablesIn f (now (room .entry))) (slotsIn f (now (room .entry))) context limit (argumentLookups (argumentsRead f count (now (part .entry)) place)) ⌝ }
+    ensures { λ _. ⌜ now (room .exit) ≡ tablesIn f (now (room .entry)) ++ lookupsSlots f (now (archive .entry)) (tablesIn f (now (room .entry))) (slotsIn f (now (room .entry))) context until (argumentLookups (argumentsRead f count (now (part .entry)) place)) ⌝ }
 {
     let mut rest = part;
     let mut at = place;
@@ -164,7 +164,7 @@ fn count_arguments(
                 let value = argument.value;
                 good = both(
                     good,
-                    count_argument(f, archive, room, context, argument, limit),
+                    count_argument(f, archive, room, context, argument, until),
                 );
                 words += 1 + value_words(value);
                 rest = &rest[size..];
@@ -238,12 +238,12 @@ fn is_unresolved(
     context: usize,
     table: u64,
     reference: Reference,
-    limit: usize,
+    until: usize,
 ) -> bool
     requires { ⌜ FormatFits f × (length (now archive) < 2 ^ 31) × (tableWords f ≤ length (now tables)) × (context ≤ 8) ⌝ }
-    ensures { λ r. ⌜ r ≡ unresolvedIn (resolved f (now (archive .entry)) (now (tables .entry)) context table limit reference) ⌝ }
+    ensures { λ r. ⌜ r ≡ unresolvedIn (resolved f (now (archive .entry)) (now (tables .entry)) context table until reference) ⌝ }
 {
-    let resolved = tables::resolve(f, archive, tables, context, table, reference, limit);
+    let resolved = tables::resolve(f, archive, tables, context, table, reference, until);
     match resolved {
         Resolved::Bad => true,
         Resolved::Unresolved { index: _ } => true,
@@ -260,13 +260,13 @@ fn arguments_unresolved(
     archive: &[u8],
     tables: &[u32],
     context: usize,
-    limit: usize,
+    until: usize,
     part: &[u8],
     place: usize,
     count: usize,
 ) -> bool
     requires { ⌜ FormatFits f × (length (now archive) < 2 ^ 31) × (tableWords f ≤ length (now tables)) × (context ≤ 8) × (place + length (now part) < 2 ^ 31) ⌝ }
-    ensures { λ r. ⌜ r ≡ anyUnresolved f (now (archive .entry)) (now (tables .entry)) context limit (argumentLookups (argumentsRead f count (now (part .entry)) place)) ⌝ }
+    ensures { λ r. ⌜ r ≡ anyUnresolved f (now (archive .entry)) (now (tables .entry)) context until (argumentLookups (argumentsRead f count (now (part .entry)) place)) ⌝ }
 {
     let mut rest = part;
     let mut at = place;
@@ -278,10 +278,10 @@ fn arguments_unresolved(
                 return false;
             }
             Texts::Texts { name, value, size } => {
-                if is_unresolved(f, archive, tables, context, 2, name, limit) {
+                if is_unresolved(f, archive, tables, context, 2, name, until) {
                     return true;
                 }
-                if is_unresolved(f, archive, tables, context, 2, value, limit) {
+                if is_unresolved(f, archive, tables, context, 2, value, until) {
                     return true;
                 }
                 rest = &rest[size..];

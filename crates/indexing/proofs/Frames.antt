@@ -19,110 +19,110 @@ use Rattle.indexing.specs.Models.Indexes.{choiceOf, chosenTo, withIndex,
 -- ---- the choices
 
 -- the choices keep the length of the table
-pub chosen-length : (stretch n : ℕ) (table : List ℕ) → length (chosenTo stretch n table) ≡ length table
+pub chosen-length : (stretch n : ℕ) (slots : List ℕ) → length (chosenTo stretch n slots) ≡ length slots
 unfolding chosenTo
-chosen-length stretch zero table = refl
-chosen-length stretch (suc s) table = simp length-set (chosen-length stretch s table)
+chosen-length stretch zero slots = refl
+chosen-length stretch (suc s) slots = simp length-set (chosen-length stretch s slots)
 
 -- and change no word behind the three stretches
-pub chosen-behind : (stretch n : ℕ) (table : List ℕ) → n ≤ stretch → drop (3 * stretch) (chosenTo stretch n table) ≡ drop (3 * stretch) table
+pub chosen-behind : (stretch n : ℕ) (slots : List ℕ) → n ≤ stretch → drop (3 * stretch) (chosenTo stretch n slots) ≡ drop (3 * stretch) slots
 unfolding chosenTo
-chosen-behind stretch zero table h = refl
-chosen-behind stretch (suc s) table h =
-    drop-set-lt (3 * stretch) (chosenTo stretch s table) (2 * stretch + s)
-    (choiceOf (placeAt table s) (labelAt stretch table s) (usesAt stretch table s)) (omega arith)
-    ∙ chosen-behind stretch s table (omega arith)
+chosen-behind stretch zero slots h = refl
+chosen-behind stretch (suc s) slots h =
+    drop-set-lt (3 * stretch) (chosenTo stretch s slots) (2 * stretch + s)
+    (choiceOf (placeAt slots s) (labelAt stretch slots s) (usesAt stretch slots s)) (omega arith)
+    ∙ chosen-behind stretch s slots (omega arith)
 
 -- and none outside the third
-pub chosen-other : (stretch n : ℕ) (table : List ℕ) (i : ℕ) → ((s : ℕ) → s < n → i ≡ 2 * stretch + s → ⊥)
-    → getD (chosenTo stretch n table) i 0 ≡ getD table i 0
+pub chosen-other : (stretch n : ℕ) (slots : List ℕ) (i : ℕ) → ((s : ℕ) → s < n → i ≡ 2 * stretch + s → ⊥)
+    → getD (chosenTo stretch n slots) i 0 ≡ getD slots i 0
 unfolding chosenTo
-chosen-other stretch zero table i h = refl
-chosen-other stretch (suc s) table i h =
-    getD-set-other (chosenTo stretch s table) (2 * stretch + s) i
-    (choiceOf (placeAt table s) (labelAt stretch table s) (usesAt stretch table s)) 0 (h s (omega arith))
-    ∙ chosen-other stretch s table i (λ x l. h x (omega arith))
+chosen-other stretch zero slots i h = refl
+chosen-other stretch (suc s) slots i h =
+    getD-set-other (chosenTo stretch s slots) (2 * stretch + s) i
+    (choiceOf (placeAt slots s) (labelAt stretch slots s) (usesAt stretch slots s)) 0 (h s (omega arith))
+    ∙ chosen-other stretch s slots i (λ x l. h x (omega arith))
 
 -- the words of the third stretch are choices
-pub chosen-own : (stretch n : ℕ) (table : List ℕ) → Wide stretch table → n ≤ stretch → (s : ℕ) → s < n
-    → usesAt stretch (chosenTo stretch n table) s ≡ choiceOf (placeAt table s) (labelAt stretch table s) (usesAt stretch table s)
+pub chosen-own : (stretch n : ℕ) (slots : List ℕ) → Wide stretch slots → n ≤ stretch → (s : ℕ) → s < n
+    → usesAt stretch (chosenTo stretch n slots) s ≡ choiceOf (placeAt slots s) (labelAt stretch slots s) (usesAt stretch slots s)
 unfolding chosenTo
-chosen-own stretch zero table wide h s l = absurd (omega arith)
-chosen-own stretch (suc n) table wide h s l =
+chosen-own stretch zero slots wide h s l = absurd (omega arith)
+chosen-own stretch (suc n) slots wide h s l =
     cases (eqb s n)
     (λ e. let i = eqb-true s n e in
     rw i
-    (getD-set-same (chosenTo stretch n table) (2 * stretch + n)
-    (choiceOf (placeAt table n) (labelAt stretch table n) (usesAt stretch table n)) 0 (omega (arith, chosen-length stretch n table))))
+    (getD-set-same (chosenTo stretch n slots) (2 * stretch + n)
+    (choiceOf (placeAt slots n) (labelAt stretch slots n) (usesAt stretch slots n)) 0 (omega (arith, chosen-length stretch n slots))))
     (λ e. let i = eqb-false s n e in
-    getD-set-other (chosenTo stretch n table) (2 * stretch + n) (2 * stretch + s)
-    (choiceOf (placeAt table n) (labelAt stretch table n) (usesAt stretch table n)) 0 (λ q. i (omega arith))
-    ∙ chosen-own stretch n table wide (omega arith) s (omega arith))
+    getD-set-other (chosenTo stretch n slots) (2 * stretch + n) (2 * stretch + s)
+    (choiceOf (placeAt slots n) (labelAt stretch slots n) (usesAt stretch slots n)) 0 (λ q. i (omega arith))
+    ∙ chosen-own stretch n slots wide (omega arith) s (omega arith))
 
 -- nothing is chosen at first
-pub chosen-none : (stretch : ℕ) (table : List ℕ) → table ≡ chosenTo stretch 0 table
+pub chosen-none : (stretch : ℕ) (slots : List ℕ) → slots ≡ chosenTo stretch 0 slots
 unfolding chosenTo
-chosen-none stretch table = refl
+chosen-none stretch slots = refl
 
 -- one turn of choosing: slot s is chosen by the words that the table has now
-pub chosen-turn : (stretch s : ℕ) (table now : List ℕ) (word : ℕ) → s < stretch → now ≡ chosenTo stretch s table
+pub chosen-turn : (stretch s : ℕ) (slots now : List ℕ) (word : ℕ) → s < stretch → now ≡ chosenTo stretch s slots
     → word ≡ choiceOf (placeAt now s) (labelAt stretch now s) (usesAt stretch now s)
-    → set now (2 * stretch + s) word ≡ chosenTo stretch (s + 1) table
+    → set now (2 * stretch + s) word ≡ chosenTo stretch (s + 1) slots
 unfolding chosenTo
-chosen-turn stretch s table now word below e q =
-    let place = chosen-other stretch s table s (λ x l w. omega arith) in
-    let label = chosen-other stretch s table (stretch + s) (λ x l w. omega arith) in
-    let uses = chosen-other stretch s table (2 * stretch + s) (λ x l w. omega arith) in
+chosen-turn stretch s slots now word below e q =
+    let place = chosen-other stretch s slots s (λ x l w. omega arith) in
+    let label = chosen-other stretch s slots (stretch + s) (λ x l w. omega arith) in
+    let uses = chosen-other stretch s slots (2 * stretch + s) (λ x l w. omega arith) in
     rw (q, e, add-one s, place, label, uses)
 
 -- ---- a given index
 
 -- an index is given: the counter of its mark is written
 abbrev withCounter : ℕ → List ℕ → ℕ → List ℕ
-withCounter stretch table label = set table (counterAt stretch (label / 65536)) (raised (countAt stretch table label))
+withCounter stretch slots label = set slots (counterAt stretch (label / 65536)) (raised (countAt stretch slots label))
 
 -- a given index keeps the length of the table
-pub indexed-length : (stretch : ℕ) (table : List ℕ) (label : ℕ) (slot : Slot) → length (indexed stretch table label slot) ≡ length table
-indexed-length stretch table label (Here s) = cases (eqb (usesAt stretch table s) 1) (λ e. rw e (simp length-set)) (λ e. rw e)
-indexed-length stretch table label (Free s) = refl
-indexed-length stretch table label Full = refl
+pub indexed-length : (stretch : ℕ) (slots : List ℕ) (label : ℕ) (slot : Slot) → length (indexed stretch slots label slot) ≡ length slots
+indexed-length stretch slots label (Here s) = cases (eqb (usesAt stretch slots s) 1) (λ e. rw e (simp length-set)) (λ e. rw e)
+indexed-length stretch slots label (Free s) = refl
+indexed-length stretch slots label Full = refl
 
 -- what stands in the words of a table after an index was given
-module _ (stretch : ℕ) (table : List ℕ) (label s : ℕ) (low : s < stretch - 18) (mark : label / 65536 < 18) where
+module _ (stretch : ℕ) (slots : List ℕ) (label s : ℕ) (low : s < stretch - 18) (mark : label / 65536 < 18) where
   -- no word behind the three stretches is changed
-  index-behind : drop (3 * stretch) (withIndex stretch table label s) ≡ drop (3 * stretch) table
+  index-behind : drop (3 * stretch) (withIndex stretch slots label s) ≡ drop (3 * stretch) slots
   index-behind =
-      drop-set-lt (3 * stretch) (withCounter stretch table label) (2 * stretch + s)
-      (raised (raised (countAt stretch table label))) (omega arith)
-      ∙ drop-set-lt (3 * stretch) table (counterAt stretch (label / 65536)) (raised (countAt stretch table label)) (omega arith)
+      drop-set-lt (3 * stretch) (withCounter stretch slots label) (2 * stretch + s)
+      (raised (raised (countAt stretch slots label))) (omega arith)
+      ∙ drop-set-lt (3 * stretch) slots (counterAt stretch (label / 65536)) (raised (countAt stretch slots label)) (omega arith)
 
   -- any other word is as it was
   pub index-other : (i : ℕ) → (i ≡ 2 * stretch + s → ⊥) → (i ≡ counterAt stretch (label / 65536) → ⊥)
-      → getD (withIndex stretch table label s) i 0 ≡ getD table i 0
+      → getD (withIndex stretch slots label s) i 0 ≡ getD slots i 0
   index-other i u c =
-      getD-set-other (withCounter stretch table label) (2 * stretch + s) i
-      (raised (raised (countAt stretch table label))) 0 u
-      ∙ getD-set-other table (counterAt stretch (label / 65536)) i (raised (countAt stretch table label)) 0 c
+      getD-set-other (withCounter stretch slots label) (2 * stretch + s) i
+      (raised (raised (countAt stretch slots label))) 0 u
+      ∙ getD-set-other slots (counterAt stretch (label / 65536)) i (raised (countAt stretch slots label)) 0 c
 
   -- the slot's third word is the one written
-  pub index-uses : Wide stretch table → usesAt stretch (withIndex stretch table label s) s ≡ raised (raised (countAt stretch table label))
+  pub index-uses : Wide stretch slots → usesAt stretch (withIndex stretch slots label s) s ≡ raised (raised (countAt stretch slots label))
   index-uses wide =
-      getD-set-same (withCounter stretch table label) (2 * stretch + s)
-      (raised (raised (countAt stretch table label))) 0
-      (omega (arith, length-set table (counterAt stretch (label / 65536)) (raised (countAt stretch table label))))
+      getD-set-same (withCounter stretch slots label) (2 * stretch + s)
+      (raised (raised (countAt stretch slots label))) 0
+      (omega (arith, length-set slots (counterAt stretch (label / 65536)) (raised (countAt stretch slots label))))
 
   -- so is the counter of its mark
-  pub index-counter : Wide stretch table → getD (withIndex stretch table label s) (counterAt stretch (label / 65536)) 0
-      ≡ raised (countAt stretch table label)
+  pub index-counter : Wide stretch slots → getD (withIndex stretch slots label s) (counterAt stretch (label / 65536)) 0
+      ≡ raised (countAt stretch slots label)
   index-counter wide =
-      getD-set-other (withCounter stretch table label) (2 * stretch + s) (counterAt stretch (label / 65536))
-      (raised (raised (countAt stretch table label))) 0 (λ q. omega arith)
-      ∙ getD-set-same table (counterAt stretch (label / 65536)) (raised (countAt stretch table label)) 0 (omega arith)
+      getD-set-other (withCounter stretch slots label) (2 * stretch + s) (counterAt stretch (label / 65536))
+      (raised (raised (countAt stretch slots label))) 0 (λ q. omega arith)
+      ∙ getD-set-same slots (counterAt stretch (label / 65536)) (raised (countAt stretch slots label)) 0 (omega arith)
 
 -- a given index changes no word behind the three stretches
-pub indexed-behind : (stretch : ℕ) (table : List ℕ) (label : ℕ) (slot : Slot) → label / 65536 < 18 → Low stretch slot
-    → drop (3 * stretch) (indexed stretch table label slot) ≡ drop (3 * stretch) table
-indexed-behind stretch table label (Here s) mark low =
-    cases (eqb (usesAt stretch table s) 1) (λ e. rw e (index-behind stretch table label s low mark)) (λ e. rw e)
-indexed-behind stretch table label (Free s) mark low = refl
-indexed-behind stretch table label Full mark low = refl
+pub indexed-behind : (stretch : ℕ) (slots : List ℕ) (label : ℕ) (slot : Slot) → label / 65536 < 18 → Low stretch slot
+    → drop (3 * stretch) (indexed stretch slots label slot) ≡ drop (3 * stretch) slots
+indexed-behind stretch slots label (Here s) mark low =
+    cases (eqb (usesAt stretch slots s) 1) (λ e. rw e (index-behind stretch slots label s low mark)) (λ e. rw e)
+indexed-behind stretch slots label (Free s) mark low = refl
+indexed-behind stretch slots label Full mark low = refl

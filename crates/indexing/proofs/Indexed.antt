@@ -30,48 +30,48 @@ unfolding choiceOf
 choice-free place label uses e = rw (eq-eqb place 0 e)
 
 -- the choice of a slot that holds a key with its uses is whether the key is registered
-choice-taken : (archive : List ℕ) (stretch : ℕ) (table : List ℕ) (s : ℕ) (key : List ℕ) (n : ℕ) → isFree table s ≡ false
-    → keyAt archive stretch table s ≡ key → usesAt stretch table s ≡ n
-    → choiceOf (placeAt table s) (labelAt stretch table s) (usesAt stretch table s) ≡ cond (registers (keyWords key) n) (1 + 0) 0
+choice-taken : (archive : List ℕ) (stretch : ℕ) (slots : List ℕ) (s : ℕ) (key : List ℕ) (n : ℕ) → isFree slots s ≡ false
+    → keyAt archive stretch slots s ≡ key → usesAt stretch slots s ≡ n
+    → choiceOf (placeAt slots s) (labelAt stretch slots s) (usesAt stretch slots s) ≡ cond (registers (keyWords key) n) (1 + 0) 0
 unfolding choiceOf
-choice-taken archive stretch table s key n f k u =
+choice-taken archive stretch slots s key n f k u =
     rw (f, u, ← k)
-    (cases (registers (keyWords (keyAt archive stretch table s)) n) (λ e. rw e) (λ e. rw e))
+    (cases (registers (keyWords (keyAt archive stretch slots s)) n) (λ e. rw e) (λ e. rw e))
 
 -- after the choices, a key is chosen by the rule, and no index is given yet
-pub choose-indexes : {archive : List ℕ} {stretch : ℕ} {table : List ℕ} {us : List (List ℕ)} → Tallies archive stretch table us
-    → Indexes archive stretch (chosenTo stretch stretch table) us (chosenKey us) (λ key. 0) (λ mark. 0)
-choose-indexes {archive} {stretch} {table} {us} T = record {
-  wide = record { some = T .wide .some; low = T .wide .low; long = rw (chosen-length stretch stretch table) (T .wide .long) };
+pub choose-indexes : {archive : List ℕ} {stretch : ℕ} {slots : List ℕ} {us : List (List ℕ)} → Tallies archive stretch slots us
+    → Indexes archive stretch (chosenTo stretch stretch slots) us (chosenKey us) (λ key. 0) (λ mark. 0)
+choose-indexes {archive} {stretch} {slots} {us} T = record {
+  wide = record { some = T .wide .some; low = T .wide .low; long = rw (chosen-length stretch stretch slots) (T .wide .long) };
   found = λ key h.
       let s = T .kept key h .0 in
       let e = T .kept key h .1 in
-      let low = found-low archive stretch table key (T .wide .some) (Here s) e in
-      let holds = here-key archive stretch table key (T .wide .some) s e in (
+      let low = found-low archive stretch slots key (T .wide .some) (Here s) e in
+      let holds = here-key archive stretch slots key (T .wide .some) s e in (
         s,
         low,
         searched key ∙ e,
-        chosen-own stretch stretch table (T .wide) (omega arith) s (omega arith)
-            ∙ choice-taken archive stretch table s key (count sameBytes key us) (holds .0) (holds .1) (here-used T key s e .0),
+        chosen-own stretch stretch slots (T .wide) (omega arith) s (omega arith)
+            ∙ choice-taken archive stretch slots s key (count sameBytes key us) (holds .0) (holds .1) (here-used T key s e .0),
       );
   missing = λ key none s e. let used = here-used T key s (sym (searched key) ∙ e) in omega (arith, used .1);
   apart = λ a b s e g.
-      sym (here-key archive stretch table a (T .wide .some) s (sym (searched a) ∙ e) .1)
-      ∙ here-key archive stretch table b (T .wide .some) s (sym (searched b) ∙ g) .1;
+      sym (here-key archive stretch slots a (T .wide .some) s (sym (searched a) ∙ e) .1)
+      ∙ here-key archive stretch slots b (T .wide .some) s (sym (searched b) ∙ g) .1;
   counters = λ mark l.
       let x = stretch - 18 + mark in
       let i : counterAt stretch mark ≡ 2 * stretch + x = omega (arith, T .wide .some) in
-      ap (λ (i : ℕ). getD (chosenTo stretch stretch table) i 0) i
-      ∙ chosen-own stretch stretch table (T .wide) (omega arith) x (omega (arith, T .wide .some))
-      ∙ choice-free (placeAt table x) (labelAt stretch table x) (usesAt stretch table x) (T .spare x (omega arith) (omega (arith, T .wide .some)));
+      ap (λ (i : ℕ). getD (chosenTo stretch stretch slots) i 0) i
+      ∙ chosen-own stretch stretch slots (T .wide) (omega arith) x (omega (arith, T .wide .some))
+      ∙ choice-free (placeAt slots x) (labelAt stretch slots x) (usesAt stretch slots x) (T .spare x (omega arith) (omega (arith, T .wide .some)));
 }
   where
-    searched : (key : List ℕ) → findOf archive stretch (chosenTo stretch stretch table) key ≡ findOf archive stretch table key
+    searched : (key : List ℕ) → findOf archive stretch (chosenTo stretch stretch slots) key ≡ findOf archive stretch slots key
     searched =
-        find-alike archive stretch table (chosenTo stretch stretch table) (T .wide .some)
+        find-alike archive stretch slots (chosenTo stretch stretch slots) (T .wide .some)
         (λ s l. (
-          chosen-other stretch stretch table s (λ x g q. omega arith),
-          chosen-other stretch stretch table (stretch + s) (λ x g q. omega arith),
+          chosen-other stretch stretch slots s (λ x g q. omega arith),
+          chosen-other stretch stretch slots (stretch + s) (λ x g q. omega arith),
         ))
 
 -- ---- what is found
@@ -84,21 +84,21 @@ first-index true i n h =
     (λ e. let z = eqb-false i 0 e in rw e (ne-eqb n 1 (λ q. z (omega arith))))
 first-index false i n h = rw h
 
-module _ {archive : List ℕ} {stretch : ℕ} {table : List ℕ} {us : List (List ℕ)} {chosen : List ℕ → Bool} {index : List ℕ → ℕ} {given : ℕ → ℕ}
-    (I : Indexes archive stretch table us chosen index given) where
+module _ {archive : List ℕ} {stretch : ℕ} {slots : List ℕ} {us : List (List ℕ)} {chosen : List ℕ → Bool} {index : List ℕ → ℕ} {given : ℕ → ℕ}
+    (I : Indexes archive stretch slots us chosen index given) where
   -- the index found of a key that was used is its own where it is chosen, else 0
-  pub index-found : (key : List ℕ) → 0 < count sameBytes key us → indexOf archive stretch table key ≡ cond (chosen key) (index key) 0
+  pub index-found : (key : List ℕ) → 0 < count sameBytes key us → indexOf archive stretch slots key ≡ cond (chosen key) (index key) 0
   unfolding indexOf
   index-found key h =
       let r = I .found key h in
       rw (r .2, r .3) (cases (chosen key) (λ e. rw e (omega arith)) (λ e. rw e))
 
   -- the index found of any other key is 0
-  pub index-missing : (key : List ℕ) → count sameBytes key us ≡ 0 → indexOf archive stretch table key ≡ 0
+  pub index-missing : (key : List ℕ) → count sameBytes key us ≡ 0 → indexOf archive stretch slots key ≡ 0
   unfolding indexOf
-  index-missing key none = go (findOf archive stretch table key) refl
+  index-missing key none = go (findOf archive stretch slots key) refl
     where
-      go : (slot : Slot) → findOf archive stretch table key ≡ slot → indexAt stretch table slot ≡ 0
+      go : (slot : Slot) → findOf archive stretch slots key ≡ slot → indexAt stretch slots slot ≡ 0
       go (Here s) e = absurd (I .missing key none s e)
       go (Free s) e = refl
       go Full e = refl
@@ -107,13 +107,13 @@ module _ {archive : List ℕ} {stretch : ℕ} {table : List ℕ} {us : List (Lis
 
   -- the counter of a mark, raised, is the next number of that mark
   next-number : (label : ℕ) → label / 65536 < 18 → given (label / 65536) < 2 ^ 32 - 1
-      → raised (countAt stretch table label) ≡ given (label / 65536) + 1
+      → raised (countAt stretch slots label) ≡ given (label / 65536) + 1
   next-number label mark few = rw (I .counters (label / 65536) mark) (raised-more (given (label / 65536)) few)
 
   -- an index written at the slot of a key that is chosen
   index-written : (key : List ℕ) (label s : ℕ) → label / 65536 < 18 → given (label / 65536) < 2 ^ 32 - 2 → s < stretch - 18
-      → findOf archive stretch table key ≡ Here s → chosen key ≡ true
-      → Indexes archive stretch (withIndex stretch table label s) us chosen
+      → findOf archive stretch slots key ≡ Here s → chosen key ≡ true
+      → Indexes archive stretch (withIndex stretch slots label s) us chosen
       (λ k. cond (sameBytes k key) (given (label / 65536) + 1) (index k))
       (λ m. cond (eqb m (label / 65536)) (given m + 1) (given m))
   index-written key label s mark few low e is-chosen = record {
@@ -124,14 +124,14 @@ module _ {archive : List ℕ} {stretch : ℕ} {table : List ℕ} {us : List (Lis
         (λ q. let same = same-true k key q in
         let now : cond (chosen k) (1 + cond (sameBytes k key) (given (label / 65536) + 1) (index k)) 0 ≡ 1 + (given (label / 65536) + 1) =
         rw (ap chosen same ∙ is-chosen, q) in
-        (s, low, searched k ∙ ap (findOf archive stretch table) same ∙ e, index-uses stretch table label s low mark (I .wide) ∙ twice ∙ sym now))
+        (s, low, searched k ∙ ap (findOf archive stretch slots) same ∙ e, index-uses stretch slots label s low mark (I .wide) ∙ twice ∙ sym now))
         (λ q. let n : r .0 ≡ s → ⊥ = λ i. true≢false (
         sym (same-refl key) ∙ ap (λ (x : List ℕ). sameBytes x key) (I .apart key k s e (r .2 ∙ ap Here i)) ∙ q
         ) in (
           r .0,
           r .1,
           searched k ∙ r .2,
-          index-other stretch table label s low mark (2 * stretch + r .0) (λ z. n (omega arith)) (λ z. omega (arith, r .1)) ∙ rw q (r .3),
+          index-other stretch slots label s low mark (2 * stretch + r .0) (λ z. n (omega arith)) (λ z. omega (arith, r .1)) ∙ rw q (r .3),
         ));
     missing = λ k none x p. I .missing k none x (sym (searched k) ∙ p);
     apart = λ a b x p q. I .apart a b x (sym (searched a) ∙ p) (sym (searched b) ∙ q);
@@ -139,36 +139,36 @@ module _ {archive : List ℕ} {stretch : ℕ} {table : List ℕ} {us : List (Lis
         cases (eqb m (label / 65536))
         (λ q. let i = eqb-true m (label / 65536) q in
         rw q
-        (ap (λ (x : ℕ). getD (withIndex stretch table label s) (counterAt stretch x) 0) i
-        ∙ index-counter stretch table label s low mark (I .wide) ∙ next-number label mark (omega arith) ∙ ap (λ (x : ℕ). given x + 1) (sym i)))
+        (ap (λ (x : ℕ). getD (withIndex stretch slots label s) (counterAt stretch x) 0) i
+        ∙ index-counter stretch slots label s low mark (I .wide) ∙ next-number label mark (omega arith) ∙ ap (λ (x : ℕ). given x + 1) (sym i)))
         (λ q. let n = eqb-false m (label / 65536) q in
         rw q
-        (index-other stretch table label s low mark (counterAt stretch m) (λ z. omega arith) (λ z. n (omega arith)) ∙ I .counters m l));
+        (index-other stretch slots label s low mark (counterAt stretch m) (λ z. omega arith) (λ z. n (omega arith)) ∙ I .counters m l));
   }
     where
-      long : length (withIndex stretch table label s) ≡ length table
+      long : length (withIndex stretch slots label s) ≡ length slots
       long = simp length-set
 
-      searched : (k : List ℕ) → findOf archive stretch (withIndex stretch table label s) k ≡ findOf archive stretch table k
+      searched : (k : List ℕ) → findOf archive stretch (withIndex stretch slots label s) k ≡ findOf archive stretch slots k
       searched =
-          find-alike archive stretch table (withIndex stretch table label s) (I .wide .some)
+          find-alike archive stretch slots (withIndex stretch slots label s) (I .wide .some)
           (λ x l. (
-            index-other stretch table label s low mark x (λ q. omega arith) (λ q. omega arith),
-            index-other stretch table label s low mark (stretch + x) (λ q. omega arith) (λ q. omega arith),
+            index-other stretch slots label s low mark x (λ q. omega arith) (λ q. omega arith),
+            index-other stretch slots label s low mark (stretch + x) (λ q. omega arith) (λ q. omega arith),
           ))
 
-      twice : raised (raised (countAt stretch table label)) ≡ 1 + (given (label / 65536) + 1)
+      twice : raised (raised (countAt stretch slots label)) ≡ 1 + (given (label / 65536) + 1)
       twice = ap raised (next-number label mark (omega arith)) ∙ raised-more (given (label / 65536) + 1) (omega arith) ∙ omega arith
 
   -- a key that was used and is chosen gets the next index of its mark where it has none; nothing else changes
   pub give-index : (key : List ℕ) (label : ℕ) → 0 < count sameBytes key us → label / 65536 < 18 → given (label / 65536) < 2 ^ 32 - 2
-      → (newIndex stretch table label (findOf archive stretch table key) ≡ cond (chosen key && eqb (index key) 0) (given (label / 65536) + 1) 0)
-      × Indexes archive stretch (indexed stretch table label (findOf archive stretch table key)) us chosen
+      → (newIndex stretch slots label (findOf archive stretch slots key) ≡ cond (chosen key && eqb (index key) 0) (given (label / 65536) + 1) 0)
+      × Indexes archive stretch (indexed stretch slots label (findOf archive stretch slots key)) us chosen
       (λ k. cond ((chosen key && eqb (index key) 0) && sameBytes k key) (given (label / 65536) + 1) (index k))
       (λ m. cond ((chosen key && eqb (index key) 0) && eqb m (label / 65536)) (given m + 1) (given m))
   give-index key label used mark few =
       let r = I .found key used in
-      let first = first-index (chosen key) (index key) (usesAt stretch table (r .0)) (r .3) in
+      let first = first-index (chosen key) (index key) (usesAt stretch slots (r .0)) (r .3) in
       rw (r .2, first)
       (cases (chosen key && eqb (index key) 0)
       (λ n. rw n (

@@ -14,26 +14,26 @@ use Rattle.tally.proofs.Laws.{here-below}
 use Rattle.indexing.specs.Models.Indexes.{newIndex, indexed, Settled}
 
 -- where no key below a slot waits, and its own does not, none below the next slot does
-pub none-waits : (stretch : ℕ) (table : List ℕ) (s : ℕ) → ((x : ℕ) → x < s → usesAt stretch table x ≡ 1 → ⊥) → (usesAt stretch table s ≡ 1 → ⊥)
-    → (x : ℕ) → x < s + 1 → usesAt stretch table x ≡ 1 → ⊥
-none-waits stretch table s below own x low one =
+pub none-waits : (stretch : ℕ) (slots : List ℕ) (s : ℕ) → ((x : ℕ) → x < s → usesAt stretch slots x ≡ 1 → ⊥) → (usesAt stretch slots s ≡ 1 → ⊥)
+    → (x : ℕ) → x < s + 1 → usesAt stretch slots x ≡ 1 → ⊥
+none-waits stretch slots s below own x low one =
     cases (eqb x s) (λ e. own (rw (eqb-true x s e) at one)) (λ e. let other = eqb-false x s e in below x (omega arith) one)
 
-module _ {stretch : ℕ} {table : List ℕ} (archive key : List ℕ) (label : ℕ) (wide : Wide stretch table) (settled : Settled stretch table) where
+module _ {stretch : ℕ} {slots : List ℕ} (archive key : List ℕ) (label : ℕ) (wide : Wide stretch slots) (settled : Settled stretch slots) where
   -- where none waits, no key gets an index
-  pub settled-index : newIndex stretch table label (findOf archive stretch table key) ≡ 0
-  settled-index = index (findOf archive stretch table key) refl
+  pub settled-index : newIndex stretch slots label (findOf archive stretch slots key) ≡ 0
+  settled-index = index (findOf archive stretch slots key) refl
     where
-      index : (slot : Slot) → slot ≡ findOf archive stretch table key → newIndex stretch table label slot ≡ 0
-      index (Here s) e = rw (ne-eqb (usesAt stretch table s) 1 (settled s (here-below archive key wide e refl)))
+      index : (slot : Slot) → slot ≡ findOf archive stretch slots key → newIndex stretch slots label slot ≡ 0
+      index (Here s) e = rw (ne-eqb (usesAt stretch slots s) 1 (settled s (here-below archive key wide e refl)))
       index (Free s) e = refl
       index Full e = refl
 
   -- and the table stays as it is
-  pub settled-table : indexed stretch table label (findOf archive stretch table key) ≡ table
-  settled-table = after (findOf archive stretch table key) refl
+  pub settled-table : indexed stretch slots label (findOf archive stretch slots key) ≡ slots
+  settled-table = after (findOf archive stretch slots key) refl
     where
-      after : (slot : Slot) → slot ≡ findOf archive stretch table key → indexed stretch table label slot ≡ table
-      after (Here s) e = rw (ne-eqb (usesAt stretch table s) 1 (settled s (here-below archive key wide e refl)))
+      after : (slot : Slot) → slot ≡ findOf archive stretch slots key → indexed stretch slots label slot ≡ slots
+      after (Here s) e = rw (ne-eqb (usesAt stretch slots s) 1 (settled s (here-below archive key wide e refl)))
       after (Free s) e = refl
       after Full e = refl

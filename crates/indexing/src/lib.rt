@@ -22,26 +22,26 @@ fn choice(place: u32, label: u32, uses: u32) -> u32
 }
 
 // The uses of each key become its choice; no slot stands at the counters, so they become 0.
-pub fn choose(table: &mut [u32], stretch: usize)
-    requires { ⌜ Wide stretch (now table) ⌝ }
-    ensures { λ _. ⌜ now (table .exit) ≡ chosenTo stretch stretch (now (table .entry)) ⌝ }
+pub fn choose(slots: &mut [u32], stretch: usize)
+    requires { ⌜ Wide stretch (now slots) ⌝ }
+    ensures { λ _. ⌜ now (slots .exit) ≡ chosenTo stretch stretch (now (slots .entry)) ⌝ }
 {
     let mut s = 0;
     while s < stretch {
-        table[2 * stretch + s] = choice(table[s], table[stretch + s], table[2 * stretch + s]);
+        slots[2 * stretch + s] = choice(slots[s], slots[stretch + s], slots[2 * stretch + s]);
         s += 1;
     }
 }
 
 // The index that a key was given, or 0 where it has none.
-pub fn index_of(archive: &[u8], table: &[u32], stretch: usize, place: usize, label: usize) -> usize
-    requires { ⌜ Wide stretch (now table) × (label < 2 ^ 32) ⌝ }
-    ensures { λ r. ⌜ r ≡ indexOf (now (archive .entry)) stretch (now (table .entry)) (keyOf (now (archive .entry)) place label) ⌝ }
+pub fn index_of(archive: &[u8], slots: &[u32], stretch: usize, place: usize, label: usize) -> usize
+    requires { ⌜ Wide stretch (now slots) × (label < 2 ^ 32) ⌝ }
+    ensures { λ r. ⌜ r ≡ indexOf (now (archive .entry)) stretch (now (slots .entry)) (keyOf (now (archive .entry)) place label) ⌝ }
 {
-    let slot = tally::find(archive, table, stretch, place, label);
+    let slot = tally::find(archive, slots, stretch, place, label);
     match slot {
         Slot::Here(s) => {
-            let word = table[2 * stretch + s];
+            let word = slots[2 * stretch + s];
             if word == 0 {
                 return 0;
             }
@@ -53,35 +53,35 @@ pub fn index_of(archive: &[u8], table: &[u32], stretch: usize, place: usize, lab
 }
 
 // The next index of a label's mark, given to the key of a slot.
-fn put_index(table: &mut [u32], stretch: usize, s: usize, label: usize) -> usize
-    requires { ⌜ Wide stretch (now table) × (s < stretch - 18) × (label < 18 * 65536) ⌝ }
-    ensures { λ r. ⌜ r ≡ raised (countAt stretch (now (table .entry)) label) ⌝ }
-    ensures { λ _. ⌜ now (table .exit) ≡ withIndex stretch (now (table .entry)) label s ⌝ }
+fn put_index(slots: &mut [u32], stretch: usize, s: usize, label: usize) -> usize
+    requires { ⌜ Wide stretch (now slots) × (s < stretch - 18) × (label < 18 * 65536) ⌝ }
+    ensures { λ r. ⌜ r ≡ raised (countAt stretch (now (slots .entry)) label) ⌝ }
+    ensures { λ _. ⌜ now (slots .exit) ≡ withIndex stretch (now (slots .entry)) label s ⌝ }
 {
     let given = 3 * stretch - 18 + label / 65536;
-    let index = tally::raise(table[given]);
-    table[given] = index;
-    table[2 * stretch + s] = tally::raise(index);
+    let index = tally::raise(slots[given]);
+    slots[given] = index;
+    slots[2 * stretch + s] = tally::raise(index);
     index as usize
 }
 
 // Gives a key that is to be registered the next index of its mark, where it has none yet; the index given, or 0.
 pub fn give_index(
     archive: &[u8],
-    table: &mut [u32],
+    slots: &mut [u32],
     stretch: usize,
     place: usize,
     label: usize,
 ) -> usize
-    requires { ⌜ Wide stretch (now table) × (label < 18 * 65536) ⌝ }
-    ensures { λ r. ⌜ r ≡ newIndex stretch (now (table .entry)) label (findOf (now (archive .entry)) stretch (now (table .entry)) (keyOf (now (archive .entry)) place label)) ⌝ }
-    ensures { λ _. ⌜ now (table .exit) ≡ indexed stretch (now (table .entry)) label (findOf (now (archive .entry)) stretch (now (table .entry)) (keyOf (now (archive .entry)) place label)) ⌝ }
+    requires { ⌜ Wide stretch (now slots) × (label < 18 * 65536) ⌝ }
+    ensures { λ r. ⌜ r ≡ newIndex stretch (now (slots .entry)) label (findOf (now (archive .entry)) stretch (now (slots .entry)) (keyOf (now (archive .entry)) place label)) ⌝ }
+    ensures { λ _. ⌜ now (slots .exit) ≡ indexed stretch (now (slots .entry)) label (findOf (now (archive .entry)) stretch (now (slots .entry)) (keyOf (now (archive .entry)) place label)) ⌝ }
 {
-    let slot = tally::find(archive, table, stretch, place, label);
+    let slot = tally::find(archive, slots, stretch, place, label);
     match slot {
         Slot::Here(s) => {
-            if table[2 * stretch + s] == 1 {
-                return put_index(table, stretch, s, label);
+            if slots[2 * stretch + s] == 1 {
+                return put_index(slots, stretch, s, label);
             }
             0
         }
@@ -91,13 +91,13 @@ pub fn give_index(
 }
 
 // The first slot whose key waits: it is to be registered and has no index yet. Where there is none, `stretch`.
-fn first_waiting(table: &[u32], stretch: usize) -> usize
-    requires { ⌜ Wide stretch (now table) ⌝ }
-    ensures { λ r. ⌜ Waiting stretch (now (table .entry)) r ⌝ }
+fn first_waiting(slots: &[u32], stretch: usize) -> usize
+    requires { ⌜ Wide stretch (now slots) ⌝ }
+    ensures { λ r. ⌜ Waiting stretch (now (slots .entry)) r ⌝ }
 {
     let mut s = 0;
     while s < stretch - 18 {
-        if table[2 * stretch + s] == 1 {
+        if slots[2 * stretch + s] == 1 {
             return s;
         }
         s += 1;
@@ -106,15 +106,15 @@ fn first_waiting(table: &[u32], stretch: usize) -> usize
 }
 
 // A slot whose key waits: the slot given where its key does, and `stretch` where none waits. No slot is read where none is given.
-pub fn waiting_slot(table: &[u32], stretch: usize, slot: usize) -> usize
-    requires { ⌜ Wide stretch (now table) × (slot < stretch → slot < stretch - 18) × (stretch ≤ slot → Settled stretch (now table)) ⌝ }
-    ensures { λ r. ⌜ Waiting stretch (now (table .entry)) r ⌝ }
+pub fn waiting_slot(slots: &[u32], stretch: usize, slot: usize) -> usize
+    requires { ⌜ Wide stretch (now slots) × (slot < stretch → slot < stretch - 18) × (stretch ≤ slot → Settled stretch (now slots)) ⌝ }
+    ensures { λ r. ⌜ Waiting stretch (now (slots .entry)) r ⌝ }
 {
     if stretch <= slot {
         return slot;
     }
-    if table[2 * stretch + slot] == 1 {
+    if slots[2 * stretch + slot] == 1 {
         return slot;
     }
-    first_waiting(table, stretch)
+    first_waiting(slots, stretch)
 }

@@ -10,8 +10,8 @@ use lib.ListN.{length, take, drop, set, getD, length-take, length-append}
 use lib.Dec.{leb}
 use lib.Seq.{length-take-le, take-nil, take-all, take-append-le, take-append-add, paste-suc}
 use borrow.Author.Tests.{leb-true, leb-false}
-use Rattle.words.specs.Stream.{written}
-use Rattle.words.proofs.Streams.{none-written, written-written, length-written}
+use Rattle.words.specs.Stream.{overwritten}
+use Rattle.words.proofs.Streams.{none-overwritten, overwritten-twice, length-overwritten}
 use Rattle.lines.specs.Put.{fitting, put, behind, Puts}
 
 -- a test decides between two cases
@@ -24,7 +24,7 @@ by-test {P} m n within over = go (leb m n) refl
 
 -- a loop that copies byte by byte: a turn's store writes one byte more
 pub more-copied : (out : List ℕ) (at : ℕ) (bytes : List ℕ) (i : ℕ) → at + i < length out → i < length bytes
-    → set (written out at (take i bytes)) (at + i) (getD bytes i 0) ≡ written out at (take (i + 1) bytes)
+    → set (overwritten out at (take i bytes)) (at + i) (getD bytes i 0) ≡ overwritten out at (take (i + 1) bytes)
 more-copied out at bytes i h l =
     rw (
       length-take-le i bytes (omega arith),
@@ -45,8 +45,8 @@ take-joined m a b =
     rw (take-all m a (omega arith)) (ap (λ (k : ℕ). take k (a ++ b)) e ∙ take-append-add a b (m - length a)))
 
 -- writing no bytes changes nothing
-written-none : (out : List ℕ) (at : ℕ) → written out at [] ≡ out
-written-none out at = sym (none-written out at [])
+overwritten-none : (out : List ℕ) (at : ℕ) → overwritten out at [] ≡ out
+overwritten-none out at = sym (none-overwritten out at [])
 
 -- where the place is past the buffer's end, nothing fits
 fitting-none : (out : List ℕ) (at : ℕ) (bytes : List ℕ) → length out < at → fitting out at bytes ≡ []
@@ -58,8 +58,8 @@ pub put-length : (out : List ℕ) (at : ℕ) (bytes : List ℕ) → length (put 
 unfolding put fitting
 put-length out at bytes =
     by-test at (length out)
-    (λ h. length-written out at (take (length out - at) bytes) (omega (arith, length-take (length out - at) bytes)))
-    (λ h. ap (λ (l : List ℕ). length (written out at l)) (fitting-none out at bytes h) ∙ ap length (written-none out at))
+    (λ h. length-overwritten out at (take (length out - at) bytes) (omega (arith, length-take (length out - at) bytes)))
+    (λ h. ap (λ (l : List ℕ). length (overwritten out at l)) (fitting-none out at bytes h) ∙ ap length (overwritten-none out at))
 
 -- putting a, and right behind it b, is putting a ++ b: the buffer
 pub put-put : (out : List ℕ) (at : ℕ) (a b : List ℕ) → put (put out at a) (behind out at a) b ≡ put out at (a ++ b)
@@ -67,14 +67,14 @@ unfolding put behind fitting
 put-put out at a b =
     let m = length out - at in
     by-test at (length out)
-    (λ h. let e : length (written out at (take m a)) - (at + length (take m a)) ≡ m - length (take m a) =
-    omega (arith, length-written out at (take m a) (omega (arith, length-take m a))) in
-    rw e (written-written out at (take m a) (take (m - length (take m a)) b) h ∙ ap (written out at) (sym (take-joined m a b))))
+    (λ h. let e : length (overwritten out at (take m a)) - (at + length (take m a)) ≡ m - length (take m a) =
+    omega (arith, length-overwritten out at (take m a) (omega (arith, length-take m a))) in
+    rw e (overwritten-twice out at (take m a) (take (m - length (take m a)) b) h ∙ ap (overwritten out at) (sym (take-joined m a b))))
     (λ h.
-    ap (λ (l : List ℕ). written (written out at l) (at + length l) (take (length (written out at l) - (at + length l)) b)) (fitting-none out at a h)
-    ∙ ap (λ (l : List ℕ). written l (at + 0) (take (length l - (at + 0)) b)) (written-none out at)
-    ∙ ap (λ (k : ℕ). written out k (take (length out - k) b)) (add-zero at)
-    ∙ ap (written out at) (fitting-none out at b h ∙ sym (fitting-none out at (a ++ b) h)))
+    ap (λ (l : List ℕ). overwritten (overwritten out at l) (at + length l) (take (length (overwritten out at l) - (at + length l)) b)) (fitting-none out at a h)
+    ∙ ap (λ (l : List ℕ). overwritten l (at + 0) (take (length l - (at + 0)) b)) (overwritten-none out at)
+    ∙ ap (λ (k : ℕ). overwritten out k (take (length out - k) b)) (add-zero at)
+    ∙ ap (overwritten out at) (fitting-none out at b h ∙ sym (fitting-none out at (a ++ b) h)))
 
 -- the place
 pub behind-behind : (out : List ℕ) (at : ℕ) (a b : List ℕ) → behind (put out at a) (behind out at a) b ≡ behind out at (a ++ b)
@@ -90,7 +90,7 @@ unfolding put behind fitting
 puts-none out at =
     record {
       place = rw (take-nil {A = ℕ} (length out - at)) (omega arith);
-      buffer = rw (take-nil {A = ℕ} (length out - at)) (sym (written-none out at));
+      buffer = rw (take-nil {A = ℕ} (length out - at)) (sym (overwritten-none out at));
     }
 
 -- a function that puts a and then b puts a ++ b
@@ -113,12 +113,12 @@ take-least m bytes =
 
 -- a copy of as many bytes as fit puts them
 pub puts-copied : (out : List ℕ) (at : ℕ) (bytes : List ℕ) (n : ℕ) {after : List ℕ} → n ≡ min (length out - at) (length bytes)
-    → after ≡ written out at (take n bytes) → Puts out at bytes (at + n) after
+    → after ≡ overwritten out at (take n bytes) → Puts out at bytes (at + n) after
 unfolding put behind fitting
 puts-copied out at bytes n fits copied =
     record {
       place = rw (length-take (length out - at) bytes) (omega arith);
-      buffer = copied ∙ rw fits (ap (written out at) (take-least (length out - at) bytes));
+      buffer = copied ∙ rw fits (ap (overwritten out at) (take-least (length out - at) bytes));
     }
 
 -- the same bytes, said otherwise

@@ -3,7 +3,7 @@ use Prim.Native.Nat.{ℕ, _+_, _-_}
 use mathlib.Core.Path.{_≡_}
 use mathlib.Core.List.{List}
 use lib.ListN.{length, take}
-use Rattle.words.specs.Stream.{written}
+use Rattle.words.specs.Stream.{overwritten}
 
 -- of these bytes the first, as many as the buffer holds from the place on
 unfoldable pub fitting : List ℕ → ℕ → List ℕ → List ℕ
@@ -11,7 +11,7 @@ fitting out at bytes = take (length out - at) bytes
 
 -- the buffer afterwards
 unfoldable pub put : List ℕ → ℕ → List ℕ → List ℕ
-put out at bytes = written out at (fitting out at bytes)
+put out at bytes = overwritten out at (fitting out at bytes)
 
 -- the place right behind what was put
 unfoldable pub behind : List ℕ → ℕ → List ℕ → ℕ

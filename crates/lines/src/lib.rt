@@ -9,7 +9,7 @@ ghost use Prim.Native.Nat.{_-_, _+_, _^_, _<_, _≤_, min};
 ghost use mathlib.Core.List.{_++_};
 ghost use lib.IntN.{negsuc};
 ghost use lib.ListN.{length, take};
-ghost use Rattle.words.specs.Stream.{written};
+ghost use Rattle.words.specs.Stream.{overwritten};
 ghost use Rattle.io.specs.Digits.{digits};
 ghost use Rattle.arguments.specs.Argument.{scalarType};
 ghost use Rattle.lines.specs.Put.{Puts};
@@ -37,7 +37,7 @@ fn fitting(length: usize, at: usize, n: usize) -> usize
 // Copies the first n of these bytes.
 fn copy(out: &mut [u8], at: usize, bytes: &[u8], n: usize)
     requires { ⌜ (n ≤ length (now out) - at) × (n ≤ length (now bytes)) ⌝ }
-    ensures { λ _. ⌜ now (out .exit) ≡ written (now (out .entry)) at (take n (now (bytes .entry))) ⌝ }
+    ensures { λ _. ⌜ now (out .exit) ≡ overwritten (now (out .entry)) at (take n (now (bytes .entry))) ⌝ }
 {
     let mut i = 0;
     while i < n {
@@ -217,7 +217,7 @@ fn scalar_type(scalar: Scalar) -> u64
         Scalar::Pointer(_) => 7,
         Scalar::KernelObject(_) => 8,
         Scalar::Boolean(_) => 9,
-        Scalar::Unknown(argument_type) => argument_type as u64,
+        Scalar::Unknown(variant) => variant as u64,
     }
 }
 

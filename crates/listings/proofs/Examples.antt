@@ -14,7 +14,7 @@ use Rattle.format.specs.Part.{takeWords, takeStream, takeText, takeThread, tabl
 use Rattle.arguments.specs.declared.Scalar.the-variants.{Null, Signed32, Double, Boolean, Unknown}
 use Rattle.arguments.specs.Argument.{headerScalar, holdsWord, wordScalar, argumentBody, argumentOf, argumentsOf, numberedOf, argumentsRead}
 use Rattle.arguments.specs.Models.Reading.{takeValue, textsOf, valueText}
-use Rattle.records.specs.Layout.{hasExtra, extraWords, isReport, layoutOf, ownOf, takeFields, lastWord, reportOf}
+use Rattle.records.specs.Layout.{hasExtra, extraWords, isEvent, layoutOf, ownOf, takeFields, lastWord, reportOf}
 use Rattle.records.specs.Record.{metadataOf, stringOf, contentOf, recordOf}
 use Rattle.records.specs.Effect.{effectOf}
 use Rattle.contexts.specs.Context.{belongsTo, findId, entering, providerOf}
@@ -76,7 +76,7 @@ pub record Table : Type 0 where
 pub table : Table
 unfolding little wordAt bytesOf magic startsWithMagic recordWords extentOf takeWords takeStream takeText takeThread tableOf takePart takeParts
     headerScalar holdsWord wordScalar takeValue argumentBody argumentOf textsOf valueText argumentsOf numberedOf
-    hasExtra extraWords isReport layoutOf ownOf takeFields lastWord reportOf metadataOf stringOf contentOf recordOf
+    hasExtra extraWords isEvent layoutOf ownOf takeFields lastWord reportOf metadataOf stringOf contentOf recordOf
     belongsTo providerOf highestOf position registrationOf registrationAt belonging entryAt resolved
     isBad shownText shownThread shownReferent shownStream shownReport noneBad shownValue
     openingNumber archiveNumber stopping reportAnswer plainAnswer effectDecision contentDecision followed followedEntered changeOf effectOf argumentsRead

@@ -11,7 +11,7 @@ use lib.ListN.{length, take, drop, length-append}
 use lib.Seq.{take-append-seam}
 use Rattle.words.proofs.Words.{AllBytes}
 use Rattle.words.specs.Word.{pick}
-use Rattle.words.specs.Stream.{startsWithMagic, written}
+use Rattle.words.specs.Stream.{startsWithMagic, overwritten}
 use Rattle.words.proofs.Tests.{on-pick}
 use Rattle.format.specs.declared.Format.{Format}
 use Rattle.format.specs.Limits.{smallFormat, longestArchive}
@@ -64,19 +64,19 @@ passed-reply f archive room output reply last after opens replied clear put = rw
 -- ---- what was written
 
 -- what is written at the start of an output are its first bytes
-written-first : (output bytes : List ℕ) → take (length bytes) (written output 0 bytes) ≡ bytes
-written-first output bytes = take-append-seam bytes (drop (0 + length bytes) output)
+overwritten-first : (output bytes : List ℕ) → take (length bytes) (overwritten output 0 bytes) ≡ bytes
+overwritten-first output bytes = take-append-seam bytes (drop (0 + length bytes) output)
 
 -- the bytes of an accepted archive, written at the start of an output that holds them, are the shortest
 written-shortest : (archive output : List ℕ) → AllBytes archive → Accepted smallFormat archive
-    → Shortest smallFormat archive (Written (writtenLength smallFormat archive)) (written output 0 (rule (itemsOf (runOf smallFormat archive))))
+    → Shortest smallFormat archive (Written (writtenLength smallFormat archive)) (overwritten output 0 (rule (itemsOf (runOf smallFormat archive))))
 written-shortest archive output bytes accepted =
     let items = itemsOf (runOf smallFormat archive) in (
       omega (arith, length-append (rule items) (drop (0 + length (rule items)) output)),
       (items, accepted-reads smallFormat archive accepted),
       (λ l reads.
           let same : rule items ≡ rule l = ap rule (run-items smallFormat archive l reads) in
-          let first : take (length (rule items)) (written output 0 (rule items)) ≡ rule l = written-first output (rule items) ∙ same in
+          let first : take (length (rule items)) (overwritten output 0 (rule items)) ≡ rule l = overwritten-first output (rule items) ∙ same in
           record {
             ruled = first;
             reads-back = rw first (reads-back archive l accepted bytes reads .0);

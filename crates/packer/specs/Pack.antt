@@ -6,7 +6,7 @@ use mathlib.Core.Option.{Option, none, some}
 use lib.ListN.{length, take}
 use lib.Dec.{eqb, ltb}
 use Rattle.words.specs.Word.{pick}
-use Rattle.words.specs.Stream.{written}
+use Rattle.words.specs.Stream.{overwritten}
 use Rattle.format.specs.declared.Format.{Format}
 use Rattle.records.specs.Item.{Item}
 use Rattle.tables.specs.Table.{tableWords, cleared}
@@ -50,7 +50,7 @@ packRoom f archive room = pick (eqb (packingNumber f archive (length room)) 0) (
 -- "Output past the written length is as it was", and all of it where the archive is refused
 abbrev pub outputOf : Packed → List ℕ → List ℕ → List ℕ
 outputOf (Refused number place) output bytes = output
-outputOf (Written long) output bytes = written output 0 bytes
+outputOf (Written long) output bytes = overwritten output 0 bytes
 
 unfoldable pub packOutput : Format → List ℕ → ℕ → List ℕ → List ℕ
 packOutput f archive room output = outputOf (packReply f archive room (length output)) output (rule (itemsOf (runOf f archive)))

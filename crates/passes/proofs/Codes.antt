@@ -29,7 +29,7 @@ use Rattle.contexts.proofs.Contexts.{found-lt, found-is, found-first, found-non
 use Rattle.reader.specs.Reads.{providerItem}
 use Rattle.reader.specs.Step.{stepReply, stepTables}
 use Rattle.reader.proofs.Runs.{Sound, step-sound, Grown, step-grows}
-use Rattle.rule.specs.Rule.{sameProvider, sameKind, sameUse}
+use Rattle.rule.specs.Rule.{sameProvider, sameTable, sameUse}
 use Rattle.rule.specs.Refusal.{alike}
 use Rattle.rule.proofs.Length.{inlineWords, registerWords, bestWords}
 use Rattle.rule.proofs.Uses.{same-use-eq, same-use-refl, same-provider-eq, same-provider-refl}
@@ -73,13 +73,13 @@ codes-length s (u ∷ us) = ap suc (codes-length s us)
 
 -- ---- what a code tells
 
--- the mark of a use's context and kind
-abbrev pub kindMark : Key → ℕ
-kindMark (textKey bytes) = 0
-kindMark (threadKey t) = 1
+-- the mark of a use's context and table
+abbrev pub tableMark : Key → ℕ
+tableMark (textKey bytes) = 0
+tableMark (threadKey t) = 1
 
 -- is the mark of its code
-pub code-mark : (context : ℕ) (key : Key) → KeyPlain key → keyMark (codeOf context key) ≡ 2 * context + kindMark key
+pub code-mark : (context : ℕ) (key : Key) → KeyPlain key → keyMark (codeOf context key) ≡ 2 * context + tableMark key
 code-mark context (textKey bytes) h = label-mark context 2 (length bytes) h
 code-mark context (threadKey (thread p t)) h = label-mark context 3 16 (omega arith)
 
@@ -231,15 +231,15 @@ module _ (s : State) (few : s .count ≤ 8) where
   sum-codes f g [] h k = refl
   sum-codes f g (u ∷ us) h k = omega (arith, k u (h .0), sum-codes f g us (h .1) k)
 
-  -- uses are of one context and kind exactly if the marks of their codes are equal
+  -- uses are of one context and table exactly if the marks of their codes are equal
   same-mark : (u v : Use) → KeyPlain (u .key) → KeyPlain (v .key)
-      → (sameProvider (u .provider) (v .provider) && sameKind (u .key) (v .key)) ≡ eqb (keyMark (codeIn s v)) (keyMark (codeIn s u))
+      → (sameProvider (u .provider) (v .provider) && sameTable (u .key) (v .key)) ≡ eqb (keyMark (codeIn s v)) (keyMark (codeIn s u))
   same-mark u v h k =
       rw (
         code-mark (contextIn s (v .provider)) (v .key) k,
         code-mark (contextIn s (u .provider)) (u .key) h,
         same-context (u .provider) (v .provider),
-      ) (of-kinds (contextIn s (u .provider)) (contextIn s (v .provider)) (u .key) (v .key))
+      ) (of-tables (contextIn s (u .provider)) (contextIn s (v .provider)) (u .key) (v .key))
     where
       of-numbers : (a b x y : ℕ) → x < 2 → y < 2 → (eqb a b && eqb x y) ≡ eqb (2 * b + y) (2 * a + x)
       of-numbers a b x y hx hy =
@@ -249,19 +249,19 @@ module _ (s : State) (few : s .count ≤ 8) where
           (λ q. rw q (sym (ne-eqb (2 * b + y) (2 * b + x) (λ z. eqb-false x y q (omega arith)))))))
           (λ e. rw e (sym (ne-eqb (2 * b + y) (2 * a + x) (λ z. eqb-false a b e (omega arith)))))
 
-      of-kinds : (a b : ℕ) (x y : Key) → (eqb a b && sameKind x y) ≡ eqb (2 * b + kindMark y) (2 * a + kindMark x)
-      of-kinds a b (textKey x) (textKey y) = of-numbers a b 0 0 (omega arith) (omega arith)
-      of-kinds a b (textKey x) (threadKey y) = of-numbers a b 0 1 (omega arith) (omega arith)
-      of-kinds a b (threadKey x) (textKey y) = of-numbers a b 1 0 (omega arith) (omega arith)
-      of-kinds a b (threadKey x) (threadKey y) = of-numbers a b 1 1 (omega arith) (omega arith)
+      of-tables : (a b : ℕ) (x y : Key) → (eqb a b && sameTable x y) ≡ eqb (2 * b + tableMark y) (2 * a + tableMark x)
+      of-tables a b (textKey x) (textKey y) = of-numbers a b 0 0 (omega arith) (omega arith)
+      of-tables a b (textKey x) (threadKey y) = of-numbers a b 0 1 (omega arith) (omega arith)
+      of-tables a b (threadKey x) (textKey y) = of-numbers a b 1 0 (omega arith) (omega arith)
+      of-tables a b (threadKey x) (threadKey y) = of-numbers a b 1 1 (omega arith) (omega arith)
 
-  -- the uses of a use's context and kind are the codes of its mark
+  -- the uses of a use's context and table are the codes of its mark
   alike-marks : (u : Use) (vs : List Use) → KeyPlain (u .key) → UsesPlain vs
       → alike u vs ≡ sumBy (λ key. cond (eqb (keyMark key) (keyMark (codeIn s u))) 1 0) (codes s vs)
   alike-marks u [] h k = refl
   alike-marks u (v ∷ vs) h k = rw (same-mark u v h (k .0), alike-marks u vs h (k .1))
 
-  -- the distinct uses of a use's context and kind are as many as the distinct codes of its mark
+  -- the distinct uses of a use's context and table are as many as the distinct codes of its mark
   pub alike-distinct : (u : Use) (us : List Use) → KeyPlain (u .key) → UsesPlain us
       → alike u (keys sameUse [] us) ≡ distinct (keyMark (codeIn s u)) (codes s us)
   alike-distinct u us h k =

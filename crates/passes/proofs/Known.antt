@@ -61,18 +61,18 @@ read-ends f archive place h = go (record-read f archive place)
     go (inr (size, s)) = omega (arith, s .next, s .inside)
 
 -- the bytes that a record registers stand behind its place and inside the archive, and are short; a thread's are 16
-pub record Registered (archive : List ℕ) (entry kind place long : ℕ) : Type 0 where
+pub record Registered (archive : List ℕ) (entry table place long : ℕ) : Type 0 where
   pub behind : entry ≤ place
   pub inside : place + long ≤ length archive
   pub short : long < 65536
-  pub sixteen : kind ≡ 3 → long ≡ 16
+  pub sixteen : table ≡ 3 → long ≡ 16
 
 -- those of every string or thread record do
-pub registered : (f : Format) (archive : List ℕ) (entry kind index place long : ℕ)
-    → registrationOf (recordAt f archive entry .content) ≡ Entry kind index place long → Registered archive entry kind place long
+pub registered : (f : Format) (archive : List ℕ) (entry table index place long : ℕ)
+    → registrationOf (recordAt f archive entry .content) ≡ Entry table index place long → Registered archive entry table place long
 unfolding registrationOf effectOf
-registered f archive entry kind index place long e =
-    let i = registered-inside f archive entry kind index place long e in
+registered f archive entry table index place long e =
+    let i = registered-inside f archive entry table index place long e in
     let l = lengths (recordAt f archive entry .content) (record-short f archive entry) e in
     record {
       behind = i .0;
@@ -83,14 +83,14 @@ registered f archive entry kind index place long e =
   where
     refused : (number : ℕ) → recordAt f archive entry .content ≡ Refused number → ⊥
     refused number q =
-        let k : Nothing ≡ Entry kind index place long = rw q at e in
+        let k : Nothing ≡ Entry table index place long = rw q at e in
         let z : _≡_ {A = ℕ} 0 1 = cc in
         omega arith
 
-    none : Nothing ≡ Entry kind index place long → (long < 65536) × (kind ≡ 3 → long ≡ 16)
+    none : Nothing ≡ Entry table index place long → (long < 65536) × (table ≡ 3 → long ≡ 16)
     none e = let z : _≡_ {A = ℕ} 0 1 = cc in absurd (omega arith)
 
-    lengths : (c : Content) → ContentShort c → registrationOf c ≡ Entry kind index place long → (long < 65536) × (kind ≡ 3 → long ≡ 16)
+    lengths : (c : Content) → ContentShort c → registrationOf c ≡ Entry table index place long → (long < 65536) × (table ≡ 3 → long ≡ 16)
     lengths (Refused number) h e = none e
     lengths Magic h e = none e
     lengths (ProviderInfo id at l) h e = none e
@@ -98,7 +98,7 @@ registered f archive entry kind index place long e =
     lengths (ProviderEvent id event) h e = none e
     lengths (Initialization rate) h e = none e
     lengths (String i at l) h e =
-        let same : l ≡ long = cc in let k : 2 ≡ kind = cc in (omega arith, λ z. absurd (omega arith))
+        let same : l ≡ long = cc in let k : 2 ≡ table = cc in (omega arith, λ z. absurd (omega arith))
     lengths (Thread i at) h e = let same : 16 ≡ long = cc in (omega arith, λ z. omega arith)
     lengths (ReportRead r) h e = none e
     lengths Ignored h e = none e
@@ -117,18 +117,18 @@ thread-short (Inline place long) h = omega arith
 thread-short (Index index) h = omega arith
 
 -- what a reference that fits stands for fits, whatever the tables hold
-pub reference-fits : (f : Format) (archive tables : List ℕ) (context kind limit : ℕ) (r : Reference) → ReferenceFits r → length archive < 2 ^ 31
-    → KnownFits (resolved f archive tables context kind limit r)
+pub reference-fits : (f : Format) (archive tables : List ℕ) (context table until : ℕ) (r : Reference) → ReferenceFits r → length archive < 2 ^ 31
+    → KnownFits (resolved f archive tables context table until r)
 unfolding resolved
-reference-fits f archive tables context kind limit (Inline place long) h low = h
-reference-fits f archive tables context kind limit (Index index) h low =
-    go (resolved f archive tables context kind limit (Index index)) refl
+reference-fits f archive tables context table until (Inline place long) h low = h
+reference-fits f archive tables context table until (Index index) h low =
+    go (resolved f archive tables context table until (Index index)) refl
   where
-    go : (x : Resolved) → resolved f archive tables context kind limit (Index index) ≡ x → KnownFits x
+    go : (x : Resolved) → resolved f archive tables context table until (Index index) ≡ x → KnownFits x
     go Bad e = tt
     go (Known place long) e =
-        let k = resolved-known f archive tables context kind index limit place long e .known in
-        let r = registered f archive (getD tables (position f context kind index) 0) kind index place long (k .registers) in
+        let k = resolved-known f archive tables context table index until place long e .known in
+        let r = registered f archive (getD tables (position f context table index) 0) table index place long (k .registers) in
         (omega (arith, r .inside), r .short)
     go (Unresolved number) e = tt
 

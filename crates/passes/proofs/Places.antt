@@ -43,7 +43,7 @@ use Rattle.format.specs.Header.{archiveNumber}
 use Rattle.format.specs.Limits.{longestArchive}
 use Rattle.records.specs.declared.Lookup.{Lookup}
 use mathlib.Core.Logic.{inl, inr}
-use Rattle.reader.proofs.Changes.{Kind}
+use Rattle.reader.proofs.Changes.{IsTable}
 use Rattle.passes.specs.Models.Known.{ReferenceFits}
 use Rattle.passes.proofs.Known.{Short, read-ends, registered, thread-short, argument-short}
 
@@ -61,32 +61,32 @@ ReferenceStands archive (Inline place long) = KnownStands archive place long
 ReferenceStands archive (Index index) = Unit {0}
 
 -- an index that is known stands for such bytes, whatever the tables hold; a thread's are 16
-index-stands : (f : Format) (archive tables : List ℕ) (context kind index limit place long : ℕ)
-    → resolved f archive tables context kind limit (Index index) ≡ Known place long → KnownStands archive place long × (kind ≡ 3 → long ≡ 16)
-index-stands f archive tables context kind index limit place long e =
-    let entry = getD tables (position f context kind index) 0 in
-    let k = resolved-known f archive tables context kind index limit place long e in
-    let r = registered f archive entry kind index place long (k .known .registers) in
+index-stands : (f : Format) (archive tables : List ℕ) (context table index until place long : ℕ)
+    → resolved f archive tables context table until (Index index) ≡ Known place long → KnownStands archive place long × (table ≡ 3 → long ≡ 16)
+index-stands f archive tables context table index until place long e =
+    let entry = getD tables (position f context table index) 0 in
+    let k = resolved-known f archive tables context table index until place long e in
+    let r = registered f archive entry table index place long (k .known .registers) in
     (record { inside = r .inside; behind = λ some. omega (arith, r .behind, k .is-set); short = r .short }, r .sixteen)
 
 -- what a reference that stands so stands for, where it is known
-pub known-stands : (f : Format) (archive tables : List ℕ) (context kind limit : ℕ) (r : Reference) (place long : ℕ) → ReferenceStands archive r
-    → resolved f archive tables context kind limit r ≡ Known place long → KnownStands archive place long
+pub known-stands : (f : Format) (archive tables : List ℕ) (context table until : ℕ) (r : Reference) (place long : ℕ) → ReferenceStands archive r
+    → resolved f archive tables context table until r ≡ Known place long → KnownStands archive place long
 unfolding resolved
-known-stands f archive tables context kind limit (Inline at n) place long h e =
+known-stands f archive tables context table until (Inline at n) place long h e =
     let p : at ≡ place = cc in
     let l : n ≡ long = cc in
     record { inside = omega (arith, h .inside); behind = λ some. let q = h .behind (omega arith) in omega arith; short = omega (arith, h .short) }
-known-stands f archive tables context kind limit (Index index) place long h e =
-    index-stands f archive tables context kind index limit place long e .0
+known-stands f archive tables context table until (Index index) place long h e =
+    index-stands f archive tables context table index until place long e .0
 
 -- a thread that is known has 16 bytes
-pub thread-sixteen : (f : Format) (archive tables : List ℕ) (context limit : ℕ) (r : Reference) (place long : ℕ) → ThreadReference r
-    → resolved f archive tables context 3 limit r ≡ Known place long → long ≡ 16
+pub thread-sixteen : (f : Format) (archive tables : List ℕ) (context until : ℕ) (r : Reference) (place long : ℕ) → ThreadReference r
+    → resolved f archive tables context 3 until r ≡ Known place long → long ≡ 16
 unfolding resolved
-thread-sixteen f archive tables context limit (Inline at n) place long h e = let l : n ≡ long = cc in omega arith
-thread-sixteen f archive tables context limit (Index index) place long h e =
-    index-stands f archive tables context 3 index limit place long e .1 refl
+thread-sixteen f archive tables context until (Inline at n) place long h e = let l : n ≡ long = cc in omega arith
+thread-sixteen f archive tables context until (Index index) place long h e =
+    index-stands f archive tables context 3 index until place long e .1 refl
 
 -- ---- the references of a record
 
@@ -102,7 +102,7 @@ stands-fit archive (Index index) low h = tt
 
 -- a reference of a record: its table is one of the two, its bytes stand in the archive, and a thread's are 16
 pub record LookupStands (archive : List ℕ) (l : Lookup) : Type 0 where
-  pub table : Kind (l .table)
+  pub table : IsTable (l .table)
   pub stands : ReferenceStands archive (l .reference)
   pub sixteen : l .table ≡ 3 → ThreadReference (l .reference)
 
@@ -116,11 +116,11 @@ pub lookup-fits : (archive : List ℕ) (l : Lookup) → length archive < 2 ^ 31 
 lookup-fits archive l low h = stands-fit archive (l .reference) low (h .stands)
 
 -- what such a reference stands for in any tables, where it is known: bytes that stand in the archive, a thread's 16
-pub lookup-known : (f : Format) (archive tables : List ℕ) (context limit : ℕ) (l : Lookup) (place long : ℕ) → LookupStands archive l
-    → lookedUp f archive tables context limit l ≡ Known place long → KnownStands archive place long × (l .table ≡ 3 → long ≡ 16)
-lookup-known f archive tables context limit l place long h e = (
-  known-stands f archive tables context (l .table) limit (l .reference) place long (h .stands) e,
-  λ k. thread-sixteen f archive tables context limit (l .reference) place long (h .sixteen k) (rw k at e),
+pub lookup-known : (f : Format) (archive tables : List ℕ) (context until : ℕ) (l : Lookup) (place long : ℕ) → LookupStands archive l
+    → lookedUp f archive tables context until l ≡ Known place long → KnownStands archive place long × (l .table ≡ 3 → long ≡ 16)
+lookup-known f archive tables context until l place long h e = (
+  known-stands f archive tables context (l .table) until (l .reference) place long (h .stands) e,
+  λ k. thread-sixteen f archive tables context until (l .reference) place long (h .sixteen k) (rw k at e),
 )
 
 -- a record that was read ends inside the archive
@@ -133,9 +133,9 @@ report-ends f archive place r k =
 lookup-stands : (archive : List ℕ) (from to : ℕ) (l : Lookup) → LookupFits l → (l .table ≡ 2 → lengthOf (l .reference) < 65536)
     → Inside from to (l .reference) → 0 < from → to ≤ length archive → LookupStands archive l
 lookup-stands archive from to l fit short i h e =
-    record { table = fit .kinds; stands = inside-stands archive from to (l .reference) i (of-table (fit .kinds)) h e; sixteen = fit .thread }
+    record { table = fit .table; stands = inside-stands archive from to (l .reference) i (of-table (fit .table)) h e; sixteen = fit .thread }
   where
-    of-table : Kind (l .table) → Short (l .reference)
+    of-table : IsTable (l .table) → Short (l .reference)
     of-table (inl k) = short k
     of-table (inr k) = thread-short (l .reference) (fit .thread k)
 

@@ -61,21 +61,21 @@ use Rattle.passes.specs.Models.Item.{argumentsAt, itemAt, reportAt, plai
 -- ---- the arguments of a record
 
 -- an entry that belongs, belongs at every later place and stands for the same
-resolved-later : (f : Format) (archive tables : List ℕ) (context kind limit later : ℕ) (r : Reference) → limit ≤ later
-    → isBad (resolved f archive tables context kind limit r) ≡ false
-    → resolved f archive tables context kind later r ≡ resolved f archive tables context kind limit r
+resolved-later : (f : Format) (archive tables : List ℕ) (context table until later : ℕ) (r : Reference) → until ≤ later
+    → isBad (resolved f archive tables context table until r) ≡ false
+    → resolved f archive tables context table later r ≡ resolved f archive tables context table until r
 unfolding resolved entryAt isBad
-resolved-later f archive tables context kind limit later (Inline place long) h = λ k. refl
-resolved-later f archive tables context kind limit later (Index index) h =
-    cases (ltb (highestOf f kind) index) (λ e k. rw e)
+resolved-later f archive tables context table until later (Inline place long) h = λ k. refl
+resolved-later f archive tables context table until later (Index index) h =
+    cases (ltb (highestOf f table) index) (λ e k. rw e)
     (λ e. cases (eqb entry 0) (λ z k. rw (e, z))
     (λ z. cases (eqb (entry % 8) 0)
-    (λ w. cases (ltb limit next) (λ l k. absurd (true≢false (rw (e, z, w, l) at k)))
-    (λ l k. rw (e, z, w, l, le-ltb later next (omega (arith, ltb-false limit next l)))))
+    (λ w. cases (ltb until next) (λ l k. absurd (true≢false (rw (e, z, w, l) at k)))
+    (λ l k. rw (e, z, w, l, le-ltb later next (omega (arith, ltb-false until next l)))))
     (λ w k. rw (e, z, w))))
   where
     entry : ℕ
-    entry = getD tables (position f context kind index) 0
+    entry = getD tables (position f context table index) 0
 
     next : ℕ
     next = recordAt f archive entry .next
@@ -252,7 +252,7 @@ module _ (f : Format) (archive tables : List ℕ) (s : State) (sound : Sound f a
   content-none-bad (ReportRead r) next is =
       let fits = report-fits f archive (s .place) r (ap (λ x. x .content) is) in
       none-bad f archive tables s (reportLookups f archive r next) sound
-      (fits .first .kinds, (fits .second .kinds, (fits .third .kinds, argument-tables (argumentsTo f archive r next))))
+      (fits .first .table, (fits .second .table, (fits .third .table, argument-tables (argumentsTo f archive r next))))
   content-none-bad Ignored next is = refl
   content-none-bad (Skipped type size) next is = refl
 

@@ -57,28 +57,28 @@ agree-at f t t′ i a l =
     sym (getD-take (tableWords f) t i 0 l) ∙ (ap (λ (w : List ℕ). getD w i 0) (a .same) ∙ getD-take (tableWords f) t′ i 0 l)
 
 -- a reference is shown the same
-pub resolved-behind : (f : Format) (archive t t′ : List ℕ) (context kind limit : ℕ) (r : Reference) → Agree f t t′ → context ≤ 8
-    → resolved f archive t context kind limit r ≡ resolved f archive t′ context kind limit r
+pub resolved-behind : (f : Format) (archive t t′ : List ℕ) (context table until : ℕ) (r : Reference) → Agree f t t′ → context ≤ 8
+    → resolved f archive t context table until r ≡ resolved f archive t′ context table until r
 unfolding resolved
-resolved-behind f archive t t′ context kind limit (Inline place long) a h = refl
-resolved-behind f archive t t′ context kind limit (Index index) a h =
-    cases (ltb (highestOf f kind) index) (λ e. rw e)
-    (λ e. rw (e, agree-at f t t′ (position f context kind index) a (position-lt f context kind index h (ltb-false (highestOf f kind) index e))))
+resolved-behind f archive t t′ context table until (Inline place long) a h = refl
+resolved-behind f archive t t′ context table until (Index index) a h =
+    cases (ltb (highestOf f table) index) (λ e. rw e)
+    (λ e. rw (e, agree-at f t t′ (position f context table index) a (position-lt f context table index h (ltb-false (highestOf f table) index e))))
 
 -- and so is a value
-value-behind : (f : Format) (archive t t′ : List ℕ) (context limit : ℕ) (v : Value) → Agree f t t′ → context ≤ 8
-    → shownValue f archive t context limit v ≡ shownValue f archive t′ context limit v
+value-behind : (f : Format) (archive t t′ : List ℕ) (context until : ℕ) (v : Value) → Agree f t t′ → context ≤ 8
+    → shownValue f archive t context until v ≡ shownValue f archive t′ context until v
 unfolding shownValue
-value-behind f archive t t′ context limit (ScalarValue x) a h = refl
-value-behind f archive t t′ context limit (TextValue r) a h = rw (resolved-behind f archive t t′ context 2 limit r a h)
+value-behind f archive t t′ context until (ScalarValue x) a h = refl
+value-behind f archive t t′ context until (TextValue r) a h = rw (resolved-behind f archive t t′ context 2 until r a h)
 
 -- the entries of a list of references are found bad or not alike
-bad-behind : (f : Format) (archive t t′ : List ℕ) (context limit : ℕ) (ls : List Lookup) → Agree f t t′ → context ≤ 8
-    → noneBad f archive t context limit ls ≡ noneBad f archive t′ context limit ls
+bad-behind : (f : Format) (archive t t′ : List ℕ) (context until : ℕ) (ls : List Lookup) → Agree f t t′ → context ≤ 8
+    → noneBad f archive t context until ls ≡ noneBad f archive t′ context until ls
 unfolding noneBad
-bad-behind f archive t t′ context limit [] a h = refl
-bad-behind f archive t t′ context limit (l ∷ more) a h =
-    rw (resolved-behind f archive t t′ context (l .table) limit (l .reference) a h, bad-behind f archive t t′ context limit more a h)
+bad-behind f archive t t′ context until [] a h = refl
+bad-behind f archive t t′ context until (l ∷ more) a h =
+    rw (resolved-behind f archive t t′ context (l .table) until (l .reference) a h, bad-behind f archive t t′ context until more a h)
 
 -- ---- a step
 

@@ -92,7 +92,7 @@ contexts-by-items f archive tables s =
     (λ id answer h. on-entering P s id next answer (λ t z. refl)
     (λ i e t z. again id i e ∙ names-enter f archive t z (contextsOf s) id answer h)
     (λ e n t z. new id e n ∙ names-enter f archive t z (contextsOf s) id answer h))
-    (λ kind index r t z. refl)
+    (λ table index r t z. refl)
     (λ e k. on-report P f archive tables s e next (λ t z. refl) (λ shown t z. report-keeps f archive t z (contextsOf s) shown))
     (stepTables f archive tables s) (stepReply f archive tables s .state)
   where

@@ -74,8 +74,8 @@ unfoldable pub enteringAs : State → Entered → Answer → Decision
 enteringAs s e answer = pick (e .ninth) (stopping s 9 (s .place)) (record { answer = answer; state = e .state; change = Keep })
 
 unfoldable pub registering : Format → State → ℕ → ℕ → ℕ → Decision
-registering f s kind index next =
-    record { answer = Nothing; state = moved s next; change = Set (position f (s .current) kind index) (s .place) }
+registering f s table index next =
+    record { answer = Nothing; state = moved s next; change = Set (position f (s .current) table index) (s .place) }
 
 -- a record that is refused stops the reading by its number
 pub stop-decided : (f : Format) (s : State) (number next : ℕ) (answer : Answer) → 5 ≤ number
@@ -89,18 +89,18 @@ pub entering-decided : (f : Format) (s : State) (id next : ℕ) (answer : Answer
 unfolding effectDecision followed followedEntered changeOf enteringAs
 entering-decided f s id next answer = cases (entering s id next .ninth) (λ e. rw e) (λ e. rw e)
 
--- the kinds of entries: the record types of strings and of threads
-abbrev pub Kind : ℕ → Type 0
-Kind kind = (kind ≡ 2) ⊎ (kind ≡ 3)
+-- the two tables, by the types of their records: strings and threads
+abbrev pub IsTable : ℕ → Type 0
+IsTable table = (table ≡ 2) ⊎ (table ≡ 3)
 
--- at a place stands a record that registers this kind and index
-pub record Registers (f : Format) (archive : List ℕ) (place kind index : ℕ) : Type 0 where
+-- at a place stands a record that registers this index in this table
+pub record Registers (f : Format) (archive : List ℕ) (place table index : ℕ) : Type 0 where
   pub at : ℕ
   pub long : ℕ
-  pub is : registrationOf (recordAt f archive place .content) ≡ Entry kind index at long
-  pub kinds : Kind kind
+  pub is : registrationOf (recordAt f archive place .content) ≡ Entry table index at long
+  pub is-table : IsTable table
   pub some : 0 < index
-  pub fits : index ≤ highestOf f kind
+  pub fits : index ≤ highestOf f table
 
 -- what holds of an end or a refusal, and of whatever a record makes of a state, holds of every step's decision; number 4 is answered
 -- for a state that does not belong, and else by events alone
@@ -109,7 +109,7 @@ pub on-decision : (P : Decision → Type 0) (f : Format) (archive tables : List 
     → ((answer : Answer) → Plain answer → P (showing s answer (recordAt f archive (s .place) .next)))
     → ((rate : ℕ) → P (record { answer = InitializationShown rate; state = rated s rate (recordAt f archive (s .place) .next); change = Keep }))
     → ((id : ℕ) (answer : Answer) → Names id answer → P (enteringAs s (entering s id (recordAt f archive (s .place) .next)) answer))
-    → ((kind index : ℕ) → Registers f archive (s .place) kind index → P (registering f s kind index (recordAt f archive (s .place) .next)))
+    → ((table index : ℕ) → Registers f archive (s .place) table index → P (registering f s table index (recordAt f archive (s .place) .next)))
     → ((e : Report) → recordAt f archive (s .place) .content ≡ ReportRead e
     → P (contentDecision f archive tables s (ReportRead e) (recordAt f archive (s .place) .next)))
     → P (decisionOf f archive tables s)
@@ -143,9 +143,9 @@ on-decision P f archive tables s stop show rate enter register event =
     of-content (ProviderEvent id n) e h = show (ProviderEventShown id n) tt
     of-content (Initialization r) e h = rate r
     of-content (String index at long) e h =
-        register 2 index (record { at = at; long = long; is = rw e; kinds = inl refl; some = h .0; fits = h .1 })
+        register 2 index (record { at = at; long = long; is = rw e; is-table = inl refl; some = h .0; fits = h .1 })
     of-content (Thread index at) e h =
-        register 3 index (record { at = at; long = 16; is = rw e; kinds = inr refl; some = h .0; fits = h .1 })
+        register 3 index (record { at = at; long = 16; is = rw e; is-table = inr refl; some = h .0; fits = h .1 })
     of-content (ReportRead ev) e h = event ev e
     of-content Ignored e h = show Nothing tt
     of-content (Skipped type size) e h = show (SkippedShown type size) tt
@@ -174,12 +174,12 @@ on-report P f archive tables s e next bad good =
 
 -- ---- the one table word that a step can change
 
--- a step sets an entry of the current context to the place of its record, which registers that kind and index
+-- a step sets an entry of the current context to the place of its record, which registers that index in that table
 pub record Sets (f : Format) (archive tables : List ℕ) (s : State) (after : List ℕ) : Type 0 where
-  pub kind : ℕ
+  pub table : ℕ
   pub index : ℕ
-  pub registers : Registers f archive (s .place) kind index
-  pub is : after ≡ set tables (position f (s .current) kind index) (s .place)
+  pub registers : Registers f archive (s .place) table index
+  pub is : after ≡ set tables (position f (s .current) table index) (s .place)
 
 -- a step leaves the tables as they are, or sets one entry of the current context
 pub own-context : (f : Format) (archive tables : List ℕ) (s : State)
@@ -188,7 +188,7 @@ unfolding changed stopping registering
 own-context f archive tables s =
     on-decision P f archive tables s (λ number place h. inl refl) (λ answer h. inl refl) (λ rate. inl refl)
     (λ id answer h. on-entering P s id next answer (inl refl) (λ i e. inl refl) (λ e z. inl refl))
-    (λ kind index r. inr (record { kind = kind; index = index; registers = r; is = refl }))
+    (λ table index r. inr (record { table = table; index = index; registers = r; is = refl }))
     (λ e k. on-report P f archive tables s e next (inl refl) (λ shown. inl refl))
   where
     next : ℕ
@@ -198,15 +198,15 @@ own-context f archive tables s =
     P d = (changed tables (d .change) ≡ tables) ⊎ Sets f archive tables s (changed tables (d .change))
 
 -- so no entry of another context changes
-pub others-keep : (f : Format) (archive tables : List ℕ) (s : State) (context kind index : ℕ) → (context ≡ s .current → ⊥) → Kind kind
-    → index ≤ highestOf f kind
-    → getD (stepTables f archive tables s) (position f context kind index) 0 ≡ getD tables (position f context kind index) 0
-others-keep f archive tables s context kind index h k l = go (stepTables f archive tables s) (own-context f archive tables s)
+pub others-keep : (f : Format) (archive tables : List ℕ) (s : State) (context table index : ℕ) → (context ≡ s .current → ⊥) → IsTable table
+    → index ≤ highestOf f table
+    → getD (stepTables f archive tables s) (position f context table index) 0 ≡ getD tables (position f context table index) 0
+others-keep f archive tables s context table index h k l = go (stepTables f archive tables s) (own-context f archive tables s)
   where
     go : (after : List ℕ) → (after ≡ tables) ⊎ Sets f archive tables s after
-        → getD after (position f context kind index) 0 ≡ getD tables (position f context kind index) 0
+        → getD after (position f context table index) 0 ≡ getD tables (position f context table index) 0
     go after (inl e) = rw e
     go after (inr c) =
         rw (c .is)
-        (getD-set-other tables (position f (s .current) (c .kind) (c .index)) (position f context kind index) (s .place) 0
-        (λ e. h (position-apart f context kind index (s .current) (c .kind) (c .index) k (c .registers .kinds) l (c .registers .fits) e .0)))
+        (getD-set-other tables (position f (s .current) (c .table) (c .index)) (position f context table index) (s .place) 0
+        (λ e. h (position-apart f context table index (s .current) (c .table) (c .index) k (c .registers .is-table) l (c .registers .fits) e .0)))

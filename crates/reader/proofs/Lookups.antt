@@ -28,7 +28,7 @@ use Rattle.records.specs.declared.Record.{Record}
 use Rattle.records.specs.Layout.{layoutOf}
 use Rattle.records.specs.Record.{contentOf, recordOf, recordAt}
 use Rattle.records.specs.Models.Bounds.{ContentInside}
-use Rattle.records.proofs.Passes.{RecordNumber, ThreadReference, table-kind}
+use Rattle.records.proofs.Passes.{RecordNumber, ThreadReference, is-table}
 use Rattle.records.proofs.Contents.{ContentIs, refused as isRefused, magic as isMagic, providerInfo as isProviderInfo, section as isSection, providerEvent as isProviderEvent, initialization as isInitialization}
 use Rattle.records.proofs.Contents.{string as isString, thread as isThread, report as isReport, ignored as isIgnored, skipped as isSkipped, content-is, RecordStands, record-stands}
 use Rattle.tables.specs.declared.Resolved.{Resolved}
@@ -43,7 +43,7 @@ use Rattle.effects.specs.Models.Bounds.{EffectFits}
 
 -- a reference of a record: its table is one of the two, and a thread's reference is an index, or 16 bytes
 pub record LookupFits (s : Lookup) : Type 0 where
-  pub kinds : (s .table ≡ 2) ⊎ (s .table ≡ 3)
+  pub table : (s .table ≡ 2) ⊎ (s .table ≡ 3)
   pub thread : s .table ≡ 3 → ThreadReference (s .reference)
 
 -- a record that refers to texts and threads: references that fit, and arguments that are all read
@@ -80,9 +80,9 @@ is-fits f source place _ (isThread t some room) = (some, omega arith)
 is-fits f source place _ (isReport a b c s first at last list is) =
     let l = layoutOf (wordAt source 0) in
     record {
-      first = record { kinds = table-kind (l .first); thread = is .shapes .0 };
-      second = record { kinds = table-kind (l .second); thread = is .shapes .1 };
-      third = record { kinds = table-kind (l .third); thread = is .shapes .2 };
+      first = record { table = is-table (l .first); thread = is .shapes .0 };
+      second = record { table = is-table (l .second); thread = is .shapes .1 };
+      third = record { table = is-table (l .third); thread = is .shapes .2 };
       read = rw (is .read) tt;
     }
 is-fits f source place _ isIgnored = tt
@@ -188,14 +188,14 @@ pub report-fits : (f : Format) (archive : List ℕ) (place : ℕ) (r : Report) �
 report-fits f archive place r k =
     subst (ContentFits f (take (recordAt f archive place .next - place) (drop place archive)) place) k (record-whole f archive place .holds)
 
--- an entry of a thread stands in a record that ends at or before the limit
-entry-inside : (f : Format) (archive : List ℕ) (index entry limit n : ℕ) → limit ≤ n
-    → ThreadInside n (entryAt f archive 3 index entry limit)
+-- an entry of a thread stands in a record that ends at or before `until`
+entry-inside : (f : Format) (archive : List ℕ) (index entry until n : ℕ) → until ≤ n
+    → ThreadInside n (entryAt f archive 3 index entry until)
 unfolding entryAt registrationOf effectOf
-entry-inside f archive index entry limit n h =
+entry-inside f archive index entry until n h =
     on-pick (ThreadInside n) (eqb (entry % 8) 0) _ _
-    (λ e. on-pick (ThreadInside n) (ltb limit next) _ _ (λ e. tt)
-    (λ e. of-content (recordAt f archive entry .content) (ltb-false limit next e) (record-whole f archive entry .inside)))
+    (λ e. on-pick (ThreadInside n) (ltb until next) _ _ (λ e. tt)
+    (λ e. of-content (recordAt f archive entry .content) (ltb-false until next e) (record-whole f archive entry .inside)))
     (λ e. tt)
   where
     next : ℕ
@@ -204,7 +204,7 @@ entry-inside f archive index entry limit n h =
     known : ℕ → ℕ → ℕ → ℕ → Resolved
     known k i place long = pick (eqb k 3) (pick (eqb i index) (Known place long) Bad) Bad
 
-    of-content : (c : Content) → next ≤ limit → ContentInside entry next c → ThreadInside n (onRegistration (registrationOf c) Bad known)
+    of-content : (c : Content) → next ≤ until → ContentInside entry next c → ThreadInside n (onRegistration (registrationOf c) Bad known)
     of-content (Refused number) l i = tt
     of-content Magic l i = tt
     of-content (ProviderInfo id at long) l i = tt
@@ -218,13 +218,13 @@ entry-inside f archive index entry limit n h =
     of-content (Skipped type size) l i = tt
 
 -- a thread that is found stands inside the archive
-pub thread-inside : (f : Format) (archive tables : List ℕ) (context limit : ℕ) (reference : Reference) → limit ≤ length archive
-    → ThreadFits (length archive) reference → ThreadInside (length archive) (resolved f archive tables context 3 limit reference)
+pub thread-inside : (f : Format) (archive tables : List ℕ) (context until : ℕ) (reference : Reference) → until ≤ length archive
+    → ThreadFits (length archive) reference → ThreadInside (length archive) (resolved f archive tables context 3 until reference)
 unfolding resolved
-thread-inside f archive tables context limit (Inline place long) h i = i
-thread-inside f archive tables context limit (Index index) h i =
+thread-inside f archive tables context until (Inline place long) h i = i
+thread-inside f archive tables context until (Index index) h i =
     on-pick P (ltb (highestOf f 3) index) _ _ (λ e. tt)
-    (λ e. on-pick P (eqb entry 0) _ _ (λ e. tt) (λ e. entry-inside f archive index entry limit (length archive) h))
+    (λ e. on-pick P (eqb entry 0) _ _ (λ e. tt) (λ e. entry-inside f archive index entry until (length archive) h))
   where
     P : Resolved → Type 0
     P = ThreadInside (length archive)
@@ -233,25 +233,25 @@ thread-inside f archive tables context limit (Index index) h i =
     entry = getD tables (position f context 3 index) 0
 
 -- a reference that is looked up as a thread stands inside the archive
-referent-inside : (f : Format) (archive tables : List ℕ) (context limit from to : ℕ) (s : Lookup) → limit ≤ length archive → LookupFits s
+referent-inside : (f : Format) (archive tables : List ℕ) (context until from to : ℕ) (s : Lookup) → until ≤ length archive → LookupFits s
     → Inside from to (s .reference) → to ≤ length archive
-    → ReferentInside (length archive) (s .table) (resolved f archive tables context (s .table) limit (s .reference))
-referent-inside f archive tables context limit from to s h fit i l e =
-    rw e (thread-inside f archive tables context limit (s .reference) h
+    → ReferentInside (length archive) (s .table) (resolved f archive tables context (s .table) until (s .reference))
+referent-inside f archive tables context until from to s h fit i l e =
+    rw e (thread-inside f archive tables context until (s .reference) h
     (thread-reference-fits from to (length archive) (s .reference) (fit .thread e) i l))
 
 -- so do the references of a record
-pub referents-inside : (f : Format) (archive tables : List ℕ) (context limit place : ℕ) (r : Report) → place ≤ length archive
-    → limit ≤ length archive → recordAt f archive place .content ≡ ReportRead r
-    → ReferentInside (length archive) (r .first .table) (resolved f archive tables context (r .first .table) limit (r .first .reference))
-    × ReferentInside (length archive) (r .second .table) (resolved f archive tables context (r .second .table) limit (r .second .reference))
-    × ReferentInside (length archive) (r .third .table) (resolved f archive tables context (r .third .table) limit (r .third .reference))
-referents-inside f archive tables context limit place r h l k =
+pub referents-inside : (f : Format) (archive tables : List ℕ) (context until place : ℕ) (r : Report) → place ≤ length archive
+    → until ≤ length archive → recordAt f archive place .content ≡ ReportRead r
+    → ReferentInside (length archive) (r .first .table) (resolved f archive tables context (r .first .table) until (r .first .reference))
+    × ReferentInside (length archive) (r .second .table) (resolved f archive tables context (r .second .table) until (r .second .reference))
+    × ReferentInside (length archive) (r .third .table) (resolved f archive tables context (r .third .table) until (r .third .reference))
+referents-inside f archive tables context until place r h l k =
     let next = recordAt f archive place .next in
     let whole = record-whole f archive place in
     let i = subst (ContentInside place next) k (whole .inside) in
     let fit = report-fits f archive place r k in (
-      referent-inside f archive tables context limit place next (r .first) l (fit .first) (i .first) (whole .before h),
-      referent-inside f archive tables context limit place next (r .second) l (fit .second) (i .second) (whole .before h),
-      referent-inside f archive tables context limit place next (r .third) l (fit .third) (i .third) (whole .before h),
+      referent-inside f archive tables context until place next (r .first) l (fit .first) (i .first) (whole .before h),
+      referent-inside f archive tables context until place next (r .second) l (fit .second) (i .second) (whole .before h),
+      referent-inside f archive tables context until place next (r .third) l (fit .third) (i .third) (whole .before h),
     )

@@ -43,48 +43,48 @@ use Rattle.reader.specs.Step.{openingNumber, stopping, decisionOf, stepR
 use Rattle.reader.specs.Ask.{shownArgument, askedReport, askedPlace, argumentReply}
 use Rattle.reader.specs.Reads.{prepend as prependItem, argumentItems, reportItem, itemOf}
 use Rattle.reader.proofs.Lookups.{record-whole, ReportFits, report-fits}
-use Rattle.reader.proofs.Changes.{Plain, Names, Kind, on-decision, on-entering, showing, registering}
+use Rattle.reader.proofs.Changes.{Plain, Names, IsTable, on-decision, on-entering, showing, registering}
 use Rattle.reader.proofs.Runs.{Held, Sound, step-sound, Run, run-sound}
 
 -- ---- no looked-up entry is bad
 
 -- an entry that is set is found
-held-found : (f : Format) (archive : List ℕ) (limit kind index entry : ℕ) → Held f archive limit kind index entry
-    → isBad (entryAt f archive kind index entry limit) ≡ false
+held-found : (f : Format) (archive : List ℕ) (until table index entry : ℕ) → Held f archive until table index entry
+    → isBad (entryAt f archive table index entry until) ≡ false
 unfolding entryAt isBad
-held-found f archive limit kind index entry h =
+held-found f archive until table index entry h =
     rw (
       eq-eqb (entry % 8) 0 (h .whole),
-      le-ltb limit (recordAt f archive entry .next) (h .ends),
+      le-ltb until (recordAt f archive entry .next) (h .ends),
       h .registers .is,
-      eq-eqb kind kind refl,
+      eq-eqb table table refl,
       eq-eqb index index refl,
     )
 
 -- in a sound state no looked-up entry is bad
-pub never-bad : (f : Format) (archive tables : List ℕ) (s : State) (kind : ℕ) (reference : Reference) → Sound f archive s tables → Kind kind
-    → isBad (resolved f archive tables (s .current) kind (s .place) reference) ≡ false
+pub never-bad : (f : Format) (archive tables : List ℕ) (s : State) (table : ℕ) (reference : Reference) → Sound f archive s tables → IsTable table
+    → isBad (resolved f archive tables (s .current) table (s .place) reference) ≡ false
 unfolding resolved isBad
-never-bad f archive tables s kind (Inline place long) h k = refl
-never-bad f archive tables s kind (Index index) h k =
-    on-pick P (ltb (highestOf f kind) index) _ _ (λ e. refl)
+never-bad f archive tables s table (Inline place long) h k = refl
+never-bad f archive tables s table (Index index) h k =
+    on-pick P (ltb (highestOf f table) index) _ _ (λ e. refl)
     (λ e. on-pick P (eqb entry 0) _ _ (λ z. refl)
-    (λ z. set z (h .entries (s .current) kind index (omega (arith, h .current, h .count)) k (ltb-false (highestOf f kind) index e))))
+    (λ z. set z (h .entries (s .current) table index (omega (arith, h .current, h .count)) k (ltb-false (highestOf f table) index e))))
   where
     P : Resolved → Type 0
     P r = isBad r ≡ false
 
     entry : ℕ
-    entry = getD tables (position f (s .current) kind index) 0
+    entry = getD tables (position f (s .current) table index) 0
 
-    set : eqb entry 0 ≡ false → (entry ≡ 0) ⊎ Held f archive (s .place) kind index entry → P (entryAt f archive kind index entry (s .place))
+    set : eqb entry 0 ≡ false → (entry ≡ 0) ⊎ Held f archive (s .place) table index entry → P (entryAt f archive table index entry (s .place))
     set z (inl e) = absurd (eqb-false entry 0 z e)
-    set z (inr q) = held-found f archive (s .place) kind index entry q
+    set z (inr q) = held-found f archive (s .place) table index entry q
 
 -- every reference of a list is looked up in one of the two tables
 abbrev pub Tabled : List Lookup → Type 0
 Tabled [] = Unit {0}
-Tabled (l ∷ more) = Kind (l .table) × Tabled more
+Tabled (l ∷ more) = IsTable (l .table) × Tabled more
 
 -- those of arguments are
 pub argument-tables : (l : List Argument) → Tabled (argumentLookups l)
@@ -151,7 +151,7 @@ unfolding contentDecision effectDecision reportAnswer followed changeOf effectOf
 report-shown f archive tables s e h k =
     let fits = report-fits f archive (s .place) e k in
     rw (none-bad f archive tables s (reportLookups f archive e (recordAt f archive (s .place) .next)) h
-    (fits .first .kinds, (fits .second .kinds, (fits .third .kinds, argument-tables (argumentsTo f archive e (recordAt f archive (s .place) .next))))))
+    (fits .first .table, (fits .second .table, (fits .third .table, argument-tables (argumentsTo f archive e (recordAt f archive (s .place) .next))))))
 
 -- a sound state belongs to its archive
 pub sound-belongs : (f : Format) (archive tables : List ℕ) (s : State) → Sound f archive s tables → belongsTo s (length archive) ≡ true
@@ -168,7 +168,7 @@ never-four f archive tables s h =
     (λ answer k place e. subst Plain e k) (λ rate place e. let z : _≡_ {A = ℕ} 0 1 = cc in omega arith)
     (λ id answer k. on-entering P s id next answer (λ place e. let z : _≡_ {A = ℕ} 9 4 = cc in omega arith)
     (λ i q place e. subst (Names id) e k) (λ q z place e. subst (Names id) e k))
-    (λ kind index r place e. let z : _≡_ {A = ℕ} 0 1 = cc in omega arith)
+    (λ table index r place e. let z : _≡_ {A = ℕ} 0 1 = cc in omega arith)
     (λ ev k. rw (report-shown f archive tables s ev h k) (λ place e. let z : _≡_ {A = ℕ} 0 1 = cc in omega arith))
   where
     next : ℕ
@@ -201,7 +201,7 @@ report-step f archive tables s e h =
     (λ answer k q. absurd (subst Plain q k)) (λ rate q. let z : _≡_ {A = ℕ} 0 1 = cc in absurd (omega arith))
     (λ id answer k. on-entering P s id next answer (λ q. let z : _≡_ {A = ℕ} 0 1 = cc in absurd (omega arith))
     (λ i n q. absurd (subst (Names id) q k)) (λ n z q. absurd (subst (Names id) q k)))
-    (λ kind index r q. let z : _≡_ {A = ℕ} 0 1 = cc in absurd (omega arith))
+    (λ table index r q. let z : _≡_ {A = ℕ} 0 1 = cc in absurd (omega arith))
     (λ ev k. rw (report-shown f archive tables s ev h k)
     (λ q. let e′ : shownAt f archive tables s ev ≡ e = cc in
     record {

@@ -69,7 +69,7 @@ stopped-keeps f archive tables s n =
     (λ rate e. absurd (none-some refl e))
     (λ id answer h. on-entering P s id next answer (λ e. (refl, refl)) (λ i q e. absurd (subst (Names id) (answer-end answer n e .1) h))
     (λ q z e. absurd (subst (Names id) (answer-end answer n e .1) h)))
-    (λ kind index r e. absurd (none-some refl e))
+    (λ table index r e. absurd (none-some refl e))
     (λ ev k. on-report P f archive tables s ev next (λ e. (refl, refl)) (λ shown e. absurd (none-some refl e)))
   where
     next : ℕ

@@ -1,5 +1,5 @@
 -- The law of the tables: along any run from opening every state belongs, its ids are distinct, and each entry is 0 or the place of a record
--- of that kind and index that was read in that very context. Assumes nothing.
+-- of that table and index that was read in that very context. Assumes nothing.
 use Prim.Native.Nat.{ℕ, _+_, _-_, _%_, _≤_, _<_}
 use mathlib.Core.Path.{_≡_, refl, sym, _∙_}
 use mathlib.Core.List.{[], List, _∷_}
@@ -29,17 +29,17 @@ use Rattle.reader.specs.Reads.{itemOf, Reads, ends, passes, shows}
 use Rattle.tables.proofs.Tables.{position-lt, position-apart, cleared-zero, length-cleared}
 use Rattle.reader.proofs.Steps.{admitted}
 use Rattle.reader.proofs.Lookups.{RecordFits, record-whole}
-use Rattle.reader.proofs.Changes.{Kind, Registers, Sets, on-decision, on-entering, on-report, own-context, registering}
+use Rattle.reader.proofs.Changes.{IsTable, Registers, Sets, on-decision, on-entering, on-report, own-context, registering}
 use Rattle.records.specs.Effect.{effectOf}
 
 -- ---- what is true of a state and its tables along a run
 
--- an entry that is set: the place, a multiple of 8, of a record of that kind and index that ends at or before a state's place
-pub record Held (f : Format) (archive : List ℕ) (limit kind index entry : ℕ) : Type 0 where
+-- an entry that is set: the place, a multiple of 8, of a record of that table and index that ends at or before a state's place
+pub record Held (f : Format) (archive : List ℕ) (until table index entry : ℕ) : Type 0 where
   pub whole : entry % 8 ≡ 0
-  pub before : entry < limit
-  pub ends : recordAt f archive entry .next ≤ limit
-  pub registers : Registers f archive entry kind index
+  pub before : entry < until
+  pub ends : recordAt f archive entry .next ≤ until
+  pub registers : Registers f archive entry table index
 
 -- the state belongs to the archive, its ids are distinct, its tables are long enough, each entry is 0 or such a place, and
 -- those of contexts that are not open are 0
@@ -51,11 +51,11 @@ pub record Sound (f : Format) (archive : List ℕ) (s : State) (tables : List �
   pub current : s .current ≤ s .count
   pub apart : (i j : ℕ) → i < s .count → j < s .count → getD (s .ids) i 0 ≡ getD (s .ids) j 0 → i ≡ j
   pub room : tableWords f ≤ length tables
-  pub entries : (context kind index : ℕ) → context ≤ 8 → Kind kind → index ≤ highestOf f kind
-      → (getD tables (position f context kind index) 0 ≡ 0)
-      ⊎ Held f archive (s .place) kind index (getD tables (position f context kind index) 0)
-  pub unopened : (context kind index : ℕ) → s .count < context → context ≤ 8 → Kind kind → index ≤ highestOf f kind
-      → getD tables (position f context kind index) 0 ≡ 0
+  pub entries : (context table index : ℕ) → context ≤ 8 → IsTable table → index ≤ highestOf f table
+      → (getD tables (position f context table index) 0 ≡ 0)
+      ⊎ Held f archive (s .place) table index (getD tables (position f context table index) 0)
+  pub unopened : (context table index : ℕ) → s .count < context → context ≤ 8 → IsTable table → index ≤ highestOf f table
+      → getD tables (position f context table index) 0 ≡ 0
 
 -- ---- opening
 
@@ -70,8 +70,8 @@ zeros-sound f archive tables h z =
       current = omega arith;
       apart = λ i j l l′ e. absurd (omega arith);
       room = h;
-      entries = λ context kind index l k i. inl (z (position f context kind index) (position-lt f context kind index l i));
-      unopened = λ context kind index o l k i. z (position f context kind index) (position-lt f context kind index l i);
+      entries = λ context table index l k i. inl (z (position f context table index) (position-lt f context table index l i));
+      unopened = λ context table index o l k i. z (position f context table index) (position-lt f context table index l i);
     }
 
 -- what opening hands back is sound
@@ -94,22 +94,22 @@ fresh-sound f archive =
 -- ---- a step
 
 -- an entry that is set stays so for a later place
-held-later : (f : Format) (archive : List ℕ) (limit later kind index entry : ℕ) → limit ≤ later
-    → (entry ≡ 0) ⊎ Held f archive limit kind index entry → (entry ≡ 0) ⊎ Held f archive later kind index entry
-held-later f archive limit later kind index entry h (inl e) = inl e
-held-later f archive limit later kind index entry h (inr k) =
+held-later : (f : Format) (archive : List ℕ) (until later table index entry : ℕ) → until ≤ later
+    → (entry ≡ 0) ⊎ Held f archive until table index entry → (entry ≡ 0) ⊎ Held f archive later table index entry
+held-later f archive until later table index entry h (inl e) = inl e
+held-later f archive until later table index entry h (inr k) =
     inr (record { whole = k .whole; before = omega (arith, k .before); ends = omega (arith, k .ends); registers = k .registers })
 
 -- a record that registers something has a word at least
-registers-some : (f : Format) (archive : List ℕ) (place kind index : ℕ) → Registers f archive place kind index
+registers-some : (f : Format) (archive : List ℕ) (place table index : ℕ) → Registers f archive place table index
     → place < recordAt f archive place .next
 unfolding registrationOf effectOf
-registers-some f archive place kind index r = go (record-whole f archive place .some)
+registers-some f archive place table index r = go (record-whole f archive place .some)
   where
     go : ((number : ℕ) × (recordAt f archive place .content ≡ Refused number)) ⊎ (place + 8 ≤ recordAt f archive place .next)
         → place < recordAt f archive place .next
     go (inl (number, e)) =
-        let k : NoEntry ≡ Entry kind index (r .at) (r .long) = rw e at (r .is) in
+        let k : NoEntry ≡ Entry table index (r .at) (r .long) = rw e at (r .is) in
         let z : _≡_ {A = ℕ} 0 1 = cc in
         absurd (omega arith)
     go (inr l) = omega arith
@@ -131,8 +131,8 @@ sound-next f archive tables s rate current h l =
       current = l;
       apart = h .apart;
       room = h .room;
-      entries = λ context kind index l k i. held-later f archive (s .place) (recordAt f archive (s .place) .next) kind index
-          (getD tables (position f context kind index) 0) (r .behind) (h .entries context kind index l k i);
+      entries = λ context table index l k i. held-later f archive (s .place) (recordAt f archive (s .place) .next) table index
+          (getD tables (position f context table index) 0) (r .behind) (h .entries context table index l k i);
       unopened = h .unopened;
     }
   where
@@ -177,7 +177,7 @@ sound-new f archive tables s id h m z =
       apart = new-apart (s .ids) (s .count) id (omega (arith, h .eight, below)) m (h .apart);
       room = h .room;
       entries = n .entries;
-      unopened = λ context kind index o l k i. h .unopened context kind index (omega arith) l k i;
+      unopened = λ context table index o l k i. h .unopened context table index (omega arith) l k i;
     }
   where
     n : Sound f archive (moved s (recordAt f archive (s .place) .next)) tables
@@ -188,10 +188,10 @@ sound-new f archive tables s id h m z =
         (λ q. absurd (z (omega (arith, h .count, ltb-false (s .count) 8 q))))
 
 -- a sound state stays sound behind a record that registers something
-sound-registered : (f : Format) (archive tables : List ℕ) (s : State) (kind index : ℕ) → Sound f archive s tables
-    → Registers f archive (s .place) kind index
-    → Sound f archive (moved s (recordAt f archive (s .place) .next)) (set tables (position f (s .current) kind index) (s .place))
-sound-registered f archive tables s kind index h r =
+sound-registered : (f : Format) (archive tables : List ℕ) (s : State) (table index : ℕ) → Sound f archive s tables
+    → Registers f archive (s .place) table index
+    → Sound f archive (moved s (recordAt f archive (s .place) .next)) (set tables (position f (s .current) table index) (s .place))
+sound-registered f archive tables s table index h r =
     record {
       whole = n .whole;
       before = n .before;
@@ -201,36 +201,36 @@ sound-registered f archive tables s kind index h r =
       apart = n .apart;
       room = omega (arith, h .room, length-set tables here (s .place));
       entries = entry;
-      unopened = λ context kind′ index′ o l k i.
-          getD-set-other tables here (position f context kind′ index′) (s .place) 0
-          (λ e. let c = position-apart f context kind′ index′ (s .current) kind index k (r .kinds) i (r .fits) e .0 in omega (arith, c, o, h .current))
-          ∙ h .unopened context kind′ index′ o l k i;
+      unopened = λ context table′ index′ o l k i.
+          getD-set-other tables here (position f context table′ index′) (s .place) 0
+          (λ e. let c = position-apart f context table′ index′ (s .current) table index k (r .is-table) i (r .fits) e .0 in omega (arith, c, o, h .current))
+          ∙ h .unopened context table′ index′ o l k i;
     }
   where
     here : ℕ
-    here = position f (s .current) kind index
+    here = position f (s .current) table index
 
     n : Sound f archive (moved s (recordAt f archive (s .place) .next)) tables
     n = sound-next f archive tables s (s .rate) (s .current) h (h .current)
 
-    now : Held f archive (recordAt f archive (s .place) .next) kind index (s .place)
-    now = record { whole = h .whole; before = registers-some f archive (s .place) kind index r; ends = omega arith; registers = r }
+    now : Held f archive (recordAt f archive (s .place) .next) table index (s .place)
+    now = record { whole = h .whole; before = registers-some f archive (s .place) table index r; ends = omega arith; registers = r }
 
-    entry : (context kind′ index′ : ℕ) → context ≤ 8 → Kind kind′ → index′ ≤ highestOf f kind′
-        → (getD (set tables here (s .place)) (position f context kind′ index′) 0 ≡ 0)
-        ⊎ Held f archive (recordAt f archive (s .place) .next) kind′ index′ (getD (set tables here (s .place)) (position f context kind′ index′) 0)
-    entry context kind′ index′ l k i =
-        cases (eqb (position f context kind′ index′) here)
-        (λ e. let e′ = eqb-true (position f context kind′ index′) here e in
-        let a = position-apart f context kind′ index′ (s .current) kind index k (r .kinds) i (r .fits) e′ in
+    entry : (context table′ index′ : ℕ) → context ≤ 8 → IsTable table′ → index′ ≤ highestOf f table′
+        → (getD (set tables here (s .place)) (position f context table′ index′) 0 ≡ 0)
+        ⊎ Held f archive (recordAt f archive (s .place) .next) table′ index′ (getD (set tables here (s .place)) (position f context table′ index′) 0)
+    entry context table′ index′ l k i =
+        cases (eqb (position f context table′ index′) here)
+        (λ e. let e′ = eqb-true (position f context table′ index′) here e in
+        let a = position-apart f context table′ index′ (s .current) table index k (r .is-table) i (r .fits) e′ in
         rw (
           e′,
-          getD-set-same tables here (s .place) 0 (omega (arith, h .room, position-lt f (s .current) kind index (omega (arith, h .current, h .count)) (r .fits))),
+          getD-set-same tables here (s .place) 0 (omega (arith, h .room, position-lt f (s .current) table index (omega (arith, h .current, h .count)) (r .fits))),
           a .1,
           a .2,
         ) (inr now))
-        (λ e. rw (getD-set-other tables here (position f context kind′ index′) (s .place) 0 (eqb-false (position f context kind′ index′) here e))
-        (n .entries context kind′ index′ l k i))
+        (λ e. rw (getD-set-other tables here (position f context table′ index′) (s .place) 0 (eqb-false (position f context table′ index′) here e))
+        (n .entries context table′ index′ l k i))
 
 -- a step from a sound state leads to a sound state
 pub step-sound : (f : Format) (archive tables : List ℕ) (s : State) → Sound f archive s tables
@@ -241,7 +241,7 @@ step-sound f archive tables s h =
     (λ id answer k. on-entering P s id next answer h
     (λ i e. sound-next f archive tables s (s .rate) (i + 1) h (omega (arith, found-lt (s .ids) (s .count) id i e)))
     (λ e z. sound-new f archive tables s id h e z))
-    (λ kind index r. sound-registered f archive tables s kind index h r)
+    (λ table index r. sound-registered f archive tables s table index h r)
     (λ e k. on-report P f archive tables s e next h (λ shown. moves))
   where
     next : ℕ
@@ -288,9 +288,9 @@ pub opened-sound : (f : Format) (archive tables : List ℕ) {items : List Item} 
     → openingNumber f archive (length tables) ≡ 0 → Run f archive opening (openTables f archive tables) items s′ tables′ → Sound f archive s′ tables′
 opened-sound f archive tables h r = run-sound f archive r (opening-sound f archive tables h)
 
--- an entry was set along a run: at a state of it that stood at the entry's place in the entry's very context, where a record of its kind
+-- an entry was set along a run: at a state of it that stood at the entry's place in the entry's very context, where a record of its table
 -- and index was read
-pub record ReadIn (f : Format) (archive : List ℕ) (s : State) (tables : List ℕ) (s′ : State) (tables′ : List ℕ) (context kind index entry : ℕ)
+pub record ReadIn (f : Format) (archive : List ℕ) (s : State) (tables : List ℕ) (s′ : State) (tables′ : List ℕ) (context table index entry : ℕ)
     : Type 0 where
   pub state : State
   pub before : List ℕ
@@ -300,26 +300,26 @@ pub record ReadIn (f : Format) (archive : List ℕ) (s : State) (tables : List �
   pub rest : Run f archive (stepReply f archive before state .state) (stepTables f archive before state) later s′ tables′
   pub here : state .place ≡ entry
   pub own : state .current ≡ context
-  pub registers : Registers f archive entry kind index
+  pub registers : Registers f archive entry table index
 
 -- one step leaves an entry, or sets it so
-step-entries : (f : Format) (archive tables : List ℕ) (s : State) (context kind index : ℕ) → Sound f archive s tables → Kind kind
-    → index ≤ highestOf f kind
-    → (getD (stepTables f archive tables s) (position f context kind index) 0 ≡ getD tables (position f context kind index) 0)
-    ⊎ ((getD (stepTables f archive tables s) (position f context kind index) 0 ≡ s .place) × (s .current ≡ context)
-    × Registers f archive (s .place) kind index)
-step-entries f archive tables s context kind index h k i = go (stepTables f archive tables s) (own-context f archive tables s)
+step-entries : (f : Format) (archive tables : List ℕ) (s : State) (context table index : ℕ) → Sound f archive s tables → IsTable table
+    → index ≤ highestOf f table
+    → (getD (stepTables f archive tables s) (position f context table index) 0 ≡ getD tables (position f context table index) 0)
+    ⊎ ((getD (stepTables f archive tables s) (position f context table index) 0 ≡ s .place) × (s .current ≡ context)
+    × Registers f archive (s .place) table index)
+step-entries f archive tables s context table index h k i = go (stepTables f archive tables s) (own-context f archive tables s)
   where
     p : ℕ
-    p = position f context kind index
+    p = position f context table index
 
     go : (after : List ℕ) → (after ≡ tables) ⊎ Sets f archive tables s after
-        → (getD after p 0 ≡ getD tables p 0) ⊎ ((getD after p 0 ≡ s .place) × (s .current ≡ context) × Registers f archive (s .place) kind index)
+        → (getD after p 0 ≡ getD tables p 0) ⊎ ((getD after p 0 ≡ s .place) × (s .current ≡ context) × Registers f archive (s .place) table index)
     go after (inl e) = inl (rw e)
     go after (inr c) =
         cases (eqb p here)
         (λ e. let e′ = eqb-true p here e in
-        let a = position-apart f context kind index (s .current) (c .kind) (c .index) k (c .registers .kinds) i (c .registers .fits) e′ in
+        let a = position-apart f context table index (s .current) (c .table) (c .index) k (c .registers .is-table) i (c .registers .fits) e′ in
         inr (
           rw (c .is, e′) (getD-set-same tables here (s .place) 0 inside),
           sym (a .0),
@@ -328,31 +328,31 @@ step-entries f archive tables s context kind index h k i = go (stepTables f arch
         (λ e. inl (rw (c .is) (getD-set-other tables here p (s .place) 0 (eqb-false p here e))))
       where
         here : ℕ
-        here = position f (s .current) (c .kind) (c .index)
+        here = position f (s .current) (c .table) (c .index)
 
         inside : here < length tables
-        inside = omega (arith, h .room, position-lt f (s .current) (c .kind) (c .index) (omega (arith, h .current, h .count)) (c .registers .fits))
+        inside = omega (arith, h .room, position-lt f (s .current) (c .table) (c .index) (omega (arith, h .current, h .count)) (c .registers .fits))
 
 behind-step : (f : Format) (archive : List ℕ) (s : State) (tables : List ℕ) (later : List Item) (s′ : State) (tables′ : List ℕ)
-    (context kind index : ℕ)
+    (context table index : ℕ)
     → ((shown : List Item) (s″ : State) (tables″ : List ℕ)
     → Run f archive (stepReply f archive tables s .state) (stepTables f archive tables s) shown s″ tables″
     → (l : List Item) × Run f archive s tables l s″ tables″)
     → Run f archive (stepReply f archive tables s .state) (stepTables f archive tables s) later s′ tables′
-    → Sound f archive s tables → Kind kind → index ≤ highestOf f kind
-    → (getD tables′ (position f context kind index) 0 ≡ getD (stepTables f archive tables s) (position f context kind index) 0)
-    ⊎ ReadIn f archive (stepReply f archive tables s .state) (stepTables f archive tables s) s′ tables′ context kind index
-    (getD tables′ (position f context kind index) 0)
-    → (getD tables′ (position f context kind index) 0 ≡ getD tables (position f context kind index) 0)
-    ⊎ ReadIn f archive s tables s′ tables′ context kind index (getD tables′ (position f context kind index) 0)
-behind-step f archive s tables later s′ tables′ context kind index ahead r h k i (inl e) = go (step-entries f archive tables s context kind index h k i)
+    → Sound f archive s tables → IsTable table → index ≤ highestOf f table
+    → (getD tables′ (position f context table index) 0 ≡ getD (stepTables f archive tables s) (position f context table index) 0)
+    ⊎ ReadIn f archive (stepReply f archive tables s .state) (stepTables f archive tables s) s′ tables′ context table index
+    (getD tables′ (position f context table index) 0)
+    → (getD tables′ (position f context table index) 0 ≡ getD tables (position f context table index) 0)
+    ⊎ ReadIn f archive s tables s′ tables′ context table index (getD tables′ (position f context table index) 0)
+behind-step f archive s tables later s′ tables′ context table index ahead r h k i (inl e) = go (step-entries f archive tables s context table index h k i)
   where
     p : ℕ
-    p = position f context kind index
+    p = position f context table index
 
     go : (getD (stepTables f archive tables s) p 0 ≡ getD tables p 0)
-        ⊎ ((getD (stepTables f archive tables s) p 0 ≡ s .place) × (s .current ≡ context) × Registers f archive (s .place) kind index)
-        → (getD tables′ p 0 ≡ getD tables p 0) ⊎ ReadIn f archive s tables s′ tables′ context kind index (getD tables′ p 0)
+        ⊎ ((getD (stepTables f archive tables s) p 0 ≡ s .place) × (s .current ≡ context) × Registers f archive (s .place) table index)
+        → (getD tables′ p 0 ≡ getD tables p 0) ⊎ ReadIn f archive s tables s′ tables′ context table index (getD tables′ p 0)
     go (inl q) = inl (e ∙ q)
     go (inr q) =
         inr (rw (e ∙ q .0) (record {
@@ -366,7 +366,7 @@ behind-step f archive s tables later s′ tables′ context kind index ahead r h
           own = q .1;
           registers = q .2;
         }))
-behind-step f archive s tables later s′ tables′ context kind index ahead r h k i (inr q) =
+behind-step f archive s tables later s′ tables′ context table index ahead r h k i (inr q) =
     let a = ahead (q .shown) (q .state) (q .before) (q .run) in
     inr (record {
       state = q .state;
@@ -380,38 +380,38 @@ behind-step f archive s tables later s′ tables′ context kind index ahead r h
       registers = q .registers;
     })
 
--- along a run an entry is what it was, or the place of a record of its kind and index that was read in that very context
+-- along a run an entry is what it was, or the place of a record of its table and index that was read in that very context
 pub run-entries : (f : Format) (archive : List ℕ) {s : State} {tables : List ℕ} {items : List Item} {s′ : State} {tables′ : List ℕ}
-    → Run f archive s tables items s′ tables′ → Sound f archive s tables → (context kind index : ℕ) → Kind kind → index ≤ highestOf f kind
-    → (getD tables′ (position f context kind index) 0 ≡ getD tables (position f context kind index) 0)
-    ⊎ ReadIn f archive s tables s′ tables′ context kind index (getD tables′ (position f context kind index) 0)
-run-entries f archive (still s tables) h context kind index k i = inl refl
-run-entries f archive (passing s tables items s′ tables′ e r) h context kind index k i =
-    behind-step f archive s tables items s′ tables′ context kind index (λ l s″ t″ q. (l, passing s tables l s″ t″ e q)) r h k i
-    (run-entries f archive r (step-sound f archive tables s h) context kind index k i)
-run-entries f archive (showing s tables it items s′ tables′ e r) h context kind index k i =
-    behind-step f archive s tables items s′ tables′ context kind index (λ l s″ t″ q. (it ∷ l, showing s tables it l s″ t″ e q)) r h k i
-    (run-entries f archive r (step-sound f archive tables s h) context kind index k i)
+    → Run f archive s tables items s′ tables′ → Sound f archive s tables → (context table index : ℕ) → IsTable table → index ≤ highestOf f table
+    → (getD tables′ (position f context table index) 0 ≡ getD tables (position f context table index) 0)
+    ⊎ ReadIn f archive s tables s′ tables′ context table index (getD tables′ (position f context table index) 0)
+run-entries f archive (still s tables) h context table index k i = inl refl
+run-entries f archive (passing s tables items s′ tables′ e r) h context table index k i =
+    behind-step f archive s tables items s′ tables′ context table index (λ l s″ t″ q. (l, passing s tables l s″ t″ e q)) r h k i
+    (run-entries f archive r (step-sound f archive tables s h) context table index k i)
+run-entries f archive (showing s tables it items s′ tables′ e r) h context table index k i =
+    behind-step f archive s tables items s′ tables′ context table index (λ l s″ t″ q. (it ∷ l, showing s tables it l s″ t″ e q)) r h k i
+    (run-entries f archive r (step-sound f archive tables s h) context table index k i)
 
--- the law of the tables: along a run from opening each entry is 0, or the place of a record of its kind and index that was read in that very context
+-- the law of the tables: along a run from opening each entry is 0, or the place of a record of its table and index that was read in that very context
 pub opened-entries : (f : Format) (archive : List ℕ) {tables : List ℕ} {items : List Item} {s′ : State} {tables′ : List ℕ}
-    → Run f archive opening tables items s′ tables′ → Sound f archive opening tables → (context kind index : ℕ) → context ≤ 8 → Kind kind
-    → index ≤ highestOf f kind
-    → (getD tables′ (position f context kind index) 0 ≡ 0)
-    ⊎ ReadIn f archive opening tables s′ tables′ context kind index (getD tables′ (position f context kind index) 0)
-opened-entries f archive {tables = tables} {s′ = s′} {tables′ = tables′} r h context kind index l k i =
-    go (run-entries f archive r h context kind index k i)
+    → Run f archive opening tables items s′ tables′ → Sound f archive opening tables → (context table index : ℕ) → context ≤ 8 → IsTable table
+    → index ≤ highestOf f table
+    → (getD tables′ (position f context table index) 0 ≡ 0)
+    ⊎ ReadIn f archive opening tables s′ tables′ context table index (getD tables′ (position f context table index) 0)
+opened-entries f archive {tables = tables} {s′ = s′} {tables′ = tables′} r h context table index l k i =
+    go (run-entries f archive r h context table index k i)
   where
     p : ℕ
-    p = position f context kind index
+    p = position f context table index
 
-    none-before : (getD tables p 0 ≡ 0) ⊎ Held f archive 0 kind index (getD tables p 0) → getD tables p 0 ≡ 0
+    none-before : (getD tables p 0 ≡ 0) ⊎ Held f archive 0 table index (getD tables p 0) → getD tables p 0 ≡ 0
     none-before (inl e) = e
     none-before (inr q) = absurd (omega (arith, q .before))
 
-    go : (getD tables′ p 0 ≡ getD tables p 0) ⊎ ReadIn f archive opening tables s′ tables′ context kind index (getD tables′ p 0)
-        → (getD tables′ p 0 ≡ 0) ⊎ ReadIn f archive opening tables s′ tables′ context kind index (getD tables′ p 0)
-    go (inl e) = inl (e ∙ none-before (h .entries context kind index l k i))
+    go : (getD tables′ p 0 ≡ getD tables p 0) ⊎ ReadIn f archive opening tables s′ tables′ context table index (getD tables′ p 0)
+        → (getD tables′ p 0 ≡ 0) ⊎ ReadIn f archive opening tables s′ tables′ context table index (getD tables′ p 0)
+    go (inl e) = inl (e ∙ none-before (h .entries context table index l k i))
     go (inr q) = inr q
 
 -- ---- places and ids only grow
@@ -428,7 +428,7 @@ step-grows f archive tables s =
     on-decision P f archive tables s (λ number place k. same) (λ answer k. on) (λ rate. on)
     (λ id answer k. on-entering P s id next answer same (λ i e. on)
     (λ e z. record { place = behind; count = omega arith; ids = λ i l. getD-set-other (s .ids) (s .count) i id 0 (λ q. omega arith) }))
-    (λ kind index r. on) (λ e k. on-report P f archive tables s e next same (λ shown. on))
+    (λ table index r. on) (λ e k. on-report P f archive tables s e next same (λ shown. on))
   where
     next : ℕ
     next = recordAt f archive (s .place) .next

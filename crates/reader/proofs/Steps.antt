@@ -49,26 +49,26 @@ admitted f archive room = go (ltb longestArchive (length archive)) refl (startsW
     go false e false few k z = absurd (omega arith)
 
 -- one turn of the walk over arguments whose entries are looked up
-pub found-turn : (f : Format) (archive tables : List ℕ) (context limit n : ℕ) (rest : List ℕ) (place : ℕ) → 0 < n
-    → noneBad f archive tables context limit (argumentLookups (argumentsRead f n rest place))
+pub found-turn : (f : Format) (archive tables : List ℕ) (context until n : ℕ) (rest : List ℕ) (place : ℕ) → 0 < n
+    → noneBad f archive tables context until (argumentLookups (argumentsRead f n rest place))
     ≡ onTexts (textsOf f rest place) true
     (λ name value size.
-    pick (isBad (resolved f archive tables context 2 limit name)) false
-    (pick (isBad (resolved f archive tables context 2 limit value)) false
-    (noneBad f archive tables context limit (argumentLookups (argumentsRead f (n - 1) (drop size rest) (place + size))))))
+    pick (isBad (resolved f archive tables context 2 until name)) false
+    (pick (isBad (resolved f archive tables context 2 until value)) false
+    (noneBad f archive tables context until (argumentLookups (argumentsRead f (n - 1) (drop size rest) (place + size))))))
 unfolding noneBad
-found-turn f archive tables context limit n rest place h =
-    ap (noneBad f archive tables context limit) (lookups-turn f n rest place h) ∙ go (textsOf f rest place)
+found-turn f archive tables context until n rest place h =
+    ap (noneBad f archive tables context until) (lookups-turn f n rest place h) ∙ go (textsOf f rest place)
   where
     more : ℕ → List Lookup
     more size = argumentLookups (argumentsRead f (n - 1) (drop size rest) (place + size))
 
     go : (x : Texts)
-        → noneBad f archive tables context limit (onTexts x [] (λ name value size. textLookup name ∷ textLookup value ∷ more size))
+        → noneBad f archive tables context until (onTexts x [] (λ name value size. textLookup name ∷ textLookup value ∷ more size))
         ≡ onTexts x true
         (λ name value size.
-        pick (isBad (resolved f archive tables context 2 limit name)) false
-        (pick (isBad (resolved f archive tables context 2 limit value)) false (noneBad f archive tables context limit (more size))))
+        pick (isBad (resolved f archive tables context 2 until name)) false
+        (pick (isBad (resolved f archive tables context 2 until value)) false (noneBad f archive tables context until (more size))))
     go (TextsRefused number) = refl
     go (TextsRead name value size) = refl
 

@@ -73,10 +73,10 @@ shownReport archive s r a b c =
 
 -- whether no entry that a record is looked up in is bad
 unfoldable pub noneBad : Format → List ℕ → List ℕ → ℕ → ℕ → List Lookup → Bool
-noneBad f archive tables context limit [] = true
-noneBad f archive tables context limit (l ∷ more) =
-    pick (isBad (lookedUp f archive tables context limit l)) false (noneBad f archive tables context limit more)
+noneBad f archive tables context until [] = true
+noneBad f archive tables context until (l ∷ more) =
+    pick (isBad (lookedUp f archive tables context until l)) false (noneBad f archive tables context until more)
 
 unfoldable pub shownValue : Format → List ℕ → List ℕ → ℕ → ℕ → Value → ShownValue
-shownValue f archive tables context limit (Scalar s) = ScalarShown s
-shownValue f archive tables context limit (ValueText reference) = TextShown (shownText (resolved f archive tables context 2 limit reference))
+shownValue f archive tables context until (Scalar s) = ScalarShown s
+shownValue f archive tables context until (ValueText reference) = TextShown (shownText (resolved f archive tables context 2 until reference))

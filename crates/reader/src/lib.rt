@@ -180,13 +180,13 @@ fn arguments_found(
     archive: &[u8],
     tables: &[u32],
     context: usize,
-    limit: usize,
+    until: usize,
     part: &[u8],
     place: usize,
     count: usize,
 ) -> bool
     requires { ⌜ FormatFits f × (length (now archive) < 2 ^ 62) × (tableWords f ≤ length (now tables)) × (context ≤ 8) × (place + length (now part) < 2 ^ 63) ⌝ }
-    ensures { λ r. ⌜ r ≡ noneBad f (now (archive .entry)) (now (tables .entry)) context limit (argumentLookups (argumentsRead f count (now (part .entry)) place)) ⌝ }
+    ensures { λ r. ⌜ r ≡ noneBad f (now (archive .entry)) (now (tables .entry)) context until (argumentLookups (argumentsRead f count (now (part .entry)) place)) ⌝ }
 {
     let mut rest = part;
     let mut at = place;
@@ -198,10 +198,10 @@ fn arguments_found(
                 return true;
             }
             Texts::Texts { name, value, size } => {
-                if is_bad(tables::resolve(f, archive, tables, context, 2, name, limit)) {
+                if is_bad(tables::resolve(f, archive, tables, context, 2, name, until)) {
                     return false;
                 }
-                if is_bad(tables::resolve(f, archive, tables, context, 2, value, limit)) {
+                if is_bad(tables::resolve(f, archive, tables, context, 2, value, until)) {
                     return false;
                 }
                 rest = &rest[size..];

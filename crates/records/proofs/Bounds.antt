@@ -1,7 +1,7 @@
 -- What is read of a record of bytes fits the fields that it is read from, and has the size that its layout says: ids, rates, lengths of texts, numbers
 -- of arguments. What is asked of a kind of record, read or written, is `OwnSuits`. Assumes nothing.
 use Prim.Native.Nat.{ℕ, _+_, _-_, _*_, _^_, _≤_, _<_}
-use mathlib.Core.Path.{_≡_, refl, sym, subst}
+use mathlib.Core.Path.{_≡_, refl, sym, subst, _∙_}
 use mathlib.Core.List.{[], List, _∷_}
 use mathlib.Core.Bool.{true, true≢false}
 use native.Mathlib.Omega.{arith}
@@ -36,9 +36,11 @@ use Rattle.records.specs.declared.Last.{Last}
 use Rattle.records.specs.declared.Last.the-variants.{Refused as LastRefused, Word}
 use Rattle.records.specs.declared.Content.{Content}
 use Rattle.records.specs.declared.Content.the-variants.{Refused, Magic, ProviderInfo, Section, ProviderEvent, Initialization, String, Thread, Report as ReportRead, Ignored, Skipped}
-use Rattle.records.specs.Layout.{isReport, layoutOf, layoutParts, ownOf, fieldsOf, takeFields, lastWord, reportRead}
+use Rattle.records.specs.Layout.{isEvent, layoutOf, layoutParts, ownOf, fieldsOf, takeFields, lastWord, reportRead}
 use Rattle.records.specs.Record.{contentOf, onExtent, recordOf, recordAt}
-use Rattle.records.specs.Item.{ownWords, ownBehind}
+use Rattle.records.specs.Item.{ownLayout}
+use Rattle.records.specs.Models.Layouts.{ReferenceFits, StreamFits}
+use Rattle.records.proofs.Layouts.{layout-fits}
 use Rattle.records.proofs.Contents.{ReportIs, ContentIs, refused as isRefused, magic as isMagic, providerInfo as isProviderInfo, section as isSection, providerEvent as isProviderEvent}
 use Rattle.records.proofs.Contents.{initialization as isInitialization, string as isString, thread as isThread, report as isReportRead, ignored as isIgnored, skipped as isSkipped, content-is}
 
@@ -156,6 +158,45 @@ pub record OwnSuits (own : Event) (a b c long count : ℕ) : Type 0 where
   pub stream : long ≡ 0
   pub few : count ≤ 15
 
+-- the length that a layout says of its stream
+abbrev StreamLong : Part → ℕ → Type 0
+StreamLong (words n) long = ⊥
+StreamLong (stream n) long = long ≡ n
+StreamLong (text r) long = ⊥
+StreamLong (thread r) long = ⊥
+
+-- what a kind has to show of a record that is read: it suits, with a stream of the length that its layout says, and its own words, and those behind
+-- its arguments, are as many as its layout says
+pub record OwnRead (source : List ℕ) (l : Layout) (own : Event) : Type 0 where
+  pub suits : AllBytes source → (long : ℕ) → StreamLong (l .stream) long
+      → OwnSuits own (tableOf (l .first)) (tableOf (l .second)) (tableOf (l .third)) long (l .count)
+  pub words : length (ownLayout own .words) ≡ l .words
+  pub behind : ownLayout own .behind ≡ l .behind
+
+-- an event
+low-type : (header : ℕ) → isEvent header ≡ true → field 16 19 header ≤ 10
+unfolding isEvent
+low-type header e = cases (eqb (field 0 3 header) 4) (λ q. leb-true (field 16 19 header) 10 (rw q at e)) (λ q. absurd (true≢false (sym (rw q at e))))
+
+own-read : (source : List ℕ) → layoutOf (wordAt source 0) .read ≡ true → OwnRead source (layoutOf (wordAt source 0)) (ownOf source)
+unfolding layoutOf ownOf tableOf
+own-read source e =
+    record {
+      suits = λ bytes long is. record {
+        type = low-type (wordAt source 0) e;
+        timestamp = wordAt-lt source 8 bytes;
+        first = refl;
+        second = refl;
+        third = refl;
+        stream = is;
+        few = omega arith;
+      };
+      words = refl;
+      behind = refl;
+    }
+
+-- ---- any kind
+
 -- what is known of a record that refers to texts and threads
 pub record ReportBound (f : Format) (r : Report) : Type 0 where
   pub suits : OwnSuits (r .own) (r .first .table) (r .second .table) (r .third .table) (lengthOf (r .stream)) (r .count)
@@ -164,7 +205,7 @@ pub record ReportBound (f : Format) (r : Report) : Type 0 where
   pub third : r .third .table ≡ 2 → TextShort f (r .third .reference)
   pub stream : lengthOf (r .stream) ≤ f .longest
   pub last : r .last < 2 ^ 64
-  pub no-last : ownBehind (r .own) ≡ 0 → r .last ≡ 0
+  pub no-last : ownLayout (r .own) .behind ≡ 0 → r .last ≡ 0
 
 -- what a record holds fits the fields that it is read from
 abbrev pub ContentBound : Format → Content → Type 0
@@ -179,11 +220,6 @@ ContentBound f (Thread index at) = Unit {0}
 ContentBound f (ReportRead r) = ReportBound f r
 ContentBound f Ignored = Unit {0}
 ContentBound f (Skipped type size) = Unit {0}
-
--- an event
-low-type : (header : ℕ) → isReport header ≡ true → field 16 19 header ≤ 10
-unfolding isReport
-low-type header e = cases (eqb (field 0 3 header) 4) (λ q. leb-true (field 16 19 header) 10 (rw q at e)) (λ q. absurd (true≢false (sym (rw q at e))))
 
 -- the lengths of the texts that a record refers to inline, and of a string record's text, have 16 bits; a record has 15 arguments at most
 pub record ReportShort (r : Report) : Type 0 where
@@ -205,8 +241,15 @@ ContentShort (ReportRead r) = ReportShort r
 ContentShort Ignored = Unit {0}
 ContentShort (Skipped type size) = Unit {0}
 
+-- a text that is read for a reference that fits has at most 16 bits
+short-reference : (f : Format) (p : Part) (x : Reference) → ReferenceFits p → PartShort f p x → tableOf p ≡ 2 → lengthOf x < 65536
+unfolding tableOf
+short-reference f (words n) x h k e = absurd h
+short-reference f (stream n) x h k e = absurd h
+short-reference f (text r) x h k e = omega (arith, k .1)
+short-reference f (thread r) x h k e = absurd (omega (arith, e))
+
 is-short : (f : Format) (source : List ℕ) (place : ℕ) (c : Content) → ContentIs f source place c → ContentShort c
-unfolding layoutOf tableOf
 is-short f source place _ (isRefused number n) = tt
 is-short f source place _ (isMagic e) = tt
 is-short f source place _ (isProviderInfo t k short room) = tt
@@ -216,9 +259,15 @@ is-short f source place _ (isInitialization t room) = tt
 is-short f source place _ (isString t one low short room) = omega arith
 is-short f source place _ (isThread t one room) = tt
 is-short f source place _ (isReportRead a b c s first at last list is) =
-    let h = wordAt source 0 in
-    let k = subst (FieldsBound f (layoutOf h)) (is .fields) (fields-bound f (layoutOf h) (place + 8) (place + length source)) in
-    record { first = λ e. absurd (omega (arith, e)); second = λ e. omega (arith, k .1 .1); third = λ e. omega (arith, k .2 .1); few = omega arith }
+    let l = layoutOf (wordAt source 0) in
+    let fits = layout-fits (wordAt source 0) in
+    let k = subst (FieldsBound f l) (is .fields) (fields-bound f l (place + 8) (place + length source)) in
+    record {
+      first = short-reference f (l .first) a (fits .first) (k .0);
+      second = short-reference f (l .second) b (fits .second) (k .1);
+      third = short-reference f (l .third) c (fits .third) (k .2);
+      few = fits .few;
+    }
 is-short f source place _ isIgnored = tt
 is-short f source place _ (isSkipped type small) = tt
 
@@ -238,29 +287,38 @@ record-short f archive place = go (extentOf (drop place archive)) refl
         is-short f source place (contentOf f source place)
         (content-is f source place (omega (arith, w .some, length-take-le size (drop place archive) (w .inside))))
 
+-- a text that is read for a reference that fits is short enough
+text-reference : (f : Format) (p : Part) (x : Reference) → ReferenceFits p → PartShort f p x → tableOf p ≡ 2 → TextShort f x
+unfolding tableOf
+text-reference f (words n) x h k e = absurd h
+text-reference f (stream n) x h k e = absurd h
+text-reference f (text r) x h k e = k .0
+text-reference f (thread r) x h k e = absurd (omega (arith, e))
+
+-- a stream that is read has the length that its layout says, and is short enough
+stream-read : (f : Format) (p : Part) (x : Reference) → StreamFits p → PartShort f p x → StreamLong p (lengthOf x) × (lengthOf x ≤ f .longest)
+stream-read f (words n) x h k = absurd h
+stream-read f (stream n) x h k = (k .0, omega (arith, k))
+stream-read f (text r) x h k = absurd h
+stream-read f (thread r) x h k = absurd h
+
 report-bound : (f : Format) (source : List ℕ) (place : ℕ) → AllBytes source → (a b c s : Reference) (first at last : ℕ) (list : List Argument)
     → ReportIs f source place a b c s first at last list → ReportBound f (reportRead (layoutOf (wordAt source 0)) source a b c s first last)
-unfolding layoutOf ownOf tableOf
 report-bound f source place bytes a b c s first at last list is =
-    let h = wordAt source 0 in
-    let k = subst (FieldsBound f (layoutOf h)) (is .fields) (fields-bound f (layoutOf h) (place + 8) (place + length source)) in
-    let z = subst (LastBound (layoutOf h .behind)) (is .last-is) (last-bound source place at (layoutOf h .behind) bytes) in
+    let l = layoutOf (wordAt source 0) in
+    let fits = layout-fits (wordAt source 0) in
+    let own = own-read source (is .is-report) in
+    let k = subst (FieldsBound f l) (is .fields) (fields-bound f l (place + 8) (place + length source)) in
+    let read = stream-read f (l .stream) s (fits .stream) (k .3) in
+    let z = subst (LastBound (l .behind)) (is .last-is) (last-bound source place at (l .behind) bytes) in
     record {
-      suits = record {
-        type = low-type h (is .kind);
-        timestamp = wordAt-lt source 8 bytes;
-        first = refl;
-        second = refl;
-        third = refl;
-        stream = k .3 .0;
-        few = omega arith;
-      };
-      first = λ e. absurd (omega (arith, e));
-      second = λ e. k .1 .0;
-      third = λ e. k .2 .0;
-      stream = omega (arith, k .3);
+      suits = own .suits bytes (lengthOf s) (read .0);
+      first = text-reference f (l .first) a (fits .first) (k .0);
+      second = text-reference f (l .second) b (fits .second) (k .1);
+      third = text-reference f (l .third) c (fits .third) (k .2);
+      stream = read .1;
       last = z .0;
-      no-last = z .1;
+      no-last = λ e. z .1 (sym (own .behind) ∙ e);
     }
 
 -- every content of a record of bytes is so
@@ -308,12 +366,11 @@ SizeShown source (Initialization rate) = Unit {0}
 SizeShown source (String index at long) = Unit {0}
 SizeShown source (Thread index at) = Unit {0}
 SizeShown source (ReportRead r) =
-    (length (ownWords (r .own)) ≡ layoutOf (wordAt source 0) .words) × (ownBehind (r .own) ≡ layoutOf (wordAt source 0) .behind)
+    (length (ownLayout (r .own) .words) ≡ layoutOf (wordAt source 0) .words) × (ownLayout (r .own) .behind ≡ layoutOf (wordAt source 0) .behind)
 SizeShown source Ignored = Unit {0}
 SizeShown source (Skipped type size) = size ≡ recordWords (wordAt source 0)
 
 is-size : (f : Format) (source : List ℕ) (place : ℕ) (c : Content) → ContentIs f source place c → SizeShown source c
-unfolding layoutOf ownOf
 is-size f source place _ (isRefused number n) = tt
 is-size f source place _ (isMagic e) = tt
 is-size f source place _ (isProviderInfo t k short room) = tt
@@ -322,7 +379,8 @@ is-size f source place _ (isProviderEvent t k) = tt
 is-size f source place _ (isInitialization t room) = tt
 is-size f source place _ (isString t one low short room) = tt
 is-size f source place _ (isThread t one room) = tt
-is-size f source place _ (isReportRead a b c s first at last list is) = (refl, refl)
+is-size f source place _ (isReportRead a b c s first at last list is) =
+    let own = own-read source (is .is-report) in (own .words, own .behind)
 is-size f source place _ isIgnored = tt
 is-size f source place _ (isSkipped type small) = refl
 

@@ -34,7 +34,7 @@ use Rattle.records.specs.declared.Last.the-variants.{Refused as LastRefu
 use Rattle.records.specs.declared.Content.{Content}
 use Rattle.records.specs.declared.Content.the-variants.{Refused, Magic, ProviderInfo, Section, ProviderEvent, Initialization, String, Thread, Report as ReportRead, Ignored, Skipped}
 use Rattle.records.specs.declared.Record.{Record}
-use Rattle.records.specs.Layout.{isReport, layoutOf, takeFields, lastWord, onFields, onWalked, onLast, reportRead, reportOf}
+use Rattle.records.specs.Layout.{isEvent, layoutOf, takeFields, lastWord, onFields, onWalked, onLast, reportRead, reportOf}
 use Rattle.records.specs.Models.Layouts.{reportArguments}
 use Rattle.records.specs.Record.{providerInfoOf, metadataOf, initializationOf, stringOf, threadOf, contentOf, recordOf, recordAt}
 use Rattle.records.specs.Models.Bounds.{ContentInside}
@@ -45,7 +45,7 @@ use Rattle.records.proofs.Layouts.{Stand, fields-stand, FieldsStand}
 
 -- a record that refers to texts and threads: the steps by which it was read, and where its parts stand
 pub record ReportIs (f : Format) (source : List ℕ) (place : ℕ) (a b c s : Reference) (first at last : ℕ) (list : List Argument) : Type 0 where
-  pub kind : isReport (wordAt source 0) ≡ true
+  pub is-report : layoutOf (wordAt source 0) .read ≡ true
   pub fields : takeFields f (layoutOf (wordAt source 0)) (place + 8) (place + length source) ≡ FieldsRead a b c s first
   pub shapes : Shape (layoutOf (wordAt source 0) .first) a × Shape (layoutOf (wordAt source 0) .second) b × Shape (layoutOf (wordAt source 0) .third) c
   pub stand : Stand (layoutOf (wordAt source 0)) (place + 8) (place + length source) a b c s first
@@ -145,7 +145,7 @@ module _ (f : Format) (source : List ℕ) (place : ℕ) where
       (λ e. on-pick (LastIs at) (eqb (l .behind) 0) _ _ (λ _. ltb-false (place + length source) (at + 8 * l .behind) e)
       (λ _. ltb-false (place + length source) (at + 8 * l .behind) e))
 
-  report-read : isReport (wordAt source 0) ≡ true → 8 ≤ length source → Is (reportOf f source place)
+  report-read : layoutOf (wordAt source 0) .read ≡ true → 8 ≤ length source → Is (reportOf f source place)
   unfolding reportOf
   report-read k h = of-fields (takeFields f l (place + 8) end) refl (fields-stand f l (place + 8) end (omega arith)) (fields-pass f l (place + 8) end)
     where
@@ -160,7 +160,7 @@ module _ (f : Format) (source : List ℕ) (place : ℕ) where
           → Is (onLast x Refused (λ last. ReportRead (reportRead l source a b c s first last)))
       of-last a b c s first at list e st sh q fit (LastRefused number) g r = refused number r
       of-last a b c s first at list e st sh q fit (Word last) g r =
-          report a b c s first at last list (record { kind = k; fields = e; shapes = sh; stand = st; read = q; fit = fit; last-is = g; room = r })
+          report a b c s first at last list (record { is-report = k; fields = e; shapes = sh; stand = st; read = q; fit = fit; last-is = g; room = r })
 
       of-arguments : (a b c s : Reference) (first : ℕ) → takeFields f l (place + 8) end ≡ FieldsRead a b c s first
           → Stand l (place + 8) end a b c s first → Shape (l .first) a × Shape (l .second) b × Shape (l .third) c → ArgumentsPass (argumentsOf f (l .count) (drop (first - place) source) first)
@@ -186,7 +186,7 @@ module _ (f : Format) (source : List ℕ) (place : ℕ) where
   unfolding contentOf
   content-is h =
       let type = field 0 3 (wordAt source 0) in
-      on-pick Is (isReport (wordAt source 0)) _ _ (λ k. report-read k h)
+      on-pick Is (layoutOf (wordAt source 0) .read) _ _ (λ k. report-read k h)
       (λ _. on-pick Is (eqb type 0) _ _ (λ e. metadata-is (eqb-true type 0 e))
       (λ _. on-pick Is (eqb type 1) _ _ (λ e. initialization-is (eqb-true type 1 e))
       (λ _. on-pick Is (eqb type 2) _ _ (λ e. string-is (eqb-true type 2 e))
@@ -196,12 +196,12 @@ module _ (f : Format) (source : List ℕ) (place : ℕ) where
 -- a record of type 2 is a string record, one of type 3 a thread record
 pub content-string : (f : Format) (source : List ℕ) (place : ℕ) → field 0 3 (wordAt source 0) ≡ 2
     → contentOf f source place ≡ stringOf f (wordAt source 0) place (place + length source)
-unfolding contentOf isReport
+unfolding contentOf layoutOf isEvent
 content-string f source place e = rw e
 
 pub content-thread : (f : Format) (source : List ℕ) (place : ℕ) → field 0 3 (wordAt source 0) ≡ 3
     → contentOf f source place ≡ threadOf f (wordAt source 0) place (place + length source)
-unfolding contentOf isReport
+unfolding contentOf layoutOf isEvent
 content-thread f source place e = rw e
 
 -- ---- where the content of a record stands, and what it costs

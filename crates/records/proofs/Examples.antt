@@ -16,7 +16,7 @@ use Rattle.arguments.specs.Argument.{headerScalar, holdsWord, wordScalar, argum
 use Rattle.arguments.specs.Loss.{valueBytes, reservedBits, valuePaddingZero, argumentKeeps, argumentsKeep}
 use Rattle.records.specs.declared.Report.{Report}
 use Rattle.records.specs.declared.Content.the-variants.{Magic, String, Report as ReportRead}
-use Rattle.records.specs.Layout.{hasExtra, extraWords, isReport, layoutOf, ownOf, takeFields, lastWord, reportOf}
+use Rattle.records.specs.Layout.{hasExtra, extraWords, isEvent, layoutOf, ownOf, takeFields, lastWord, reportOf}
 use Rattle.records.specs.Models.Layouts.{reportArguments}
 use Rattle.records.specs.Record.{providerInfoOf, metadataOf, initializationOf, stringOf, threadOf, contentOf, recordOf, recordAt}
 use Rattle.records.specs.Loss.{wordsKeep, streamKeeps, reportKeeps, recordKeeps}
@@ -54,7 +54,7 @@ pub record Table : Type 0 where
 pub table : Table
 unfolding little wordAt bytesOf magic startsWithMagic recordWords extentOf takeWords takeStream takeText takeThread takePart takeParts paddingZero
     headerScalar holdsWord wordScalar argumentBody argumentOf argumentsOf valueBytes reservedBits valuePaddingZero argumentKeeps argumentsKeep
-    hasExtra extraWords isReport layoutOf ownOf tableOf takeFields lastWord reportOf providerInfoOf metadataOf initializationOf stringOf threadOf
+    hasExtra extraWords isEvent layoutOf ownOf tableOf takeFields lastWord reportOf providerInfoOf metadataOf initializationOf stringOf threadOf
     contentOf recordOf wordsKeep streamKeeps reportKeeps recordKeeps
 table =
     record {

@@ -12,10 +12,10 @@ use Rattle.format.specs.declared.Format.{Format}
 use Rattle.format.specs.declared.Reference.{Reference}
 use Rattle.format.specs.declared.Reference.the-variants.{Inline}
 use Rattle.format.specs.declared.Part.{Part}
-use Rattle.format.specs.declared.Part.the-variants.{Words as words}
+use Rattle.format.specs.declared.Part.the-variants.{Words as words, Stream as stream, Text as text, Thread as thread}
 use Rattle.format.specs.declared.Taken.the-variants.{Part as PartRead, Refused as PartRefused}
 use Rattle.format.specs.Part.{takePart, takeWords, Body, refused, body, prepend, onTaken, takeParts, inlineBytes}
-use Rattle.format.specs.Models.Bounds.{Inside}
+use Rattle.format.specs.Models.Bounds.{PartFits, Inside}
 use Rattle.format.proofs.Parts.{inside-wider, Moves, part-taken, Ends, parts-end, Counted, parts-counted}
 use Rattle.arguments.specs.declared.Walked.{Walked}
 use Rattle.arguments.specs.declared.Walked.the-variants.{Refused as WalkRefused, End}
@@ -29,7 +29,7 @@ use Rattle.records.specs.declared.Fields.the-variants.{Refused as Fields
 use Rattle.records.specs.declared.Last.the-variants.{Word}
 use Rattle.records.specs.declared.Content.the-variants.{Report as ReportRead}
 use Rattle.records.specs.Layout.{hasExtra, extraWords, layoutOf, fieldsOf, takeFields, lastWord, reportRead, reportOf}
-use Rattle.records.specs.Models.Layouts.{LayoutFits, takePair, onPair, pairOf}
+use Rattle.records.specs.Models.Layouts.{ReferenceFits, StreamFits, LayoutFits, takePair, onPair, pairOf}
 
 -- an event has at most one word behind its arguments
 pub extra-few : (type : ℕ) → extraWords type ≤ 1
@@ -46,10 +46,25 @@ layout-fits header =
       second = omega arith;
       third = omega arith;
       stream = omega arith;
+      few = omega arith;
       behind = extra-few (field 16 19 header);
     }
 
 -- ---- any kind
+
+-- a reference that fits is a part that fits
+pub reference-fits : (p : Part) → ReferenceFits p → PartFits p
+reference-fits (words n) h = absurd h
+reference-fits (stream n) h = absurd h
+reference-fits (text r) h = h
+reference-fits (thread r) h = h
+
+-- and so is a stream that fits
+pub stream-fits : (p : Part) → StreamFits p → PartFits p
+stream-fits (words n) h = absurd h
+stream-fits (stream n) h = h
+stream-fits (text r) h = absurd h
+stream-fits (thread r) h = absurd h
 
 -- the parts of a layout from `place` to `end`: where its arguments start, behind its words and what its parts have inline
 pub record Stand (l : Layout) (place end : ℕ) (a b c s : Reference) (next : ℕ) : Type 0 where

@@ -129,12 +129,12 @@ ThreadReference (Inline place long) = long ≡ 16
 ThreadReference (Index index) = Unit {0}
 
 -- a part is looked up in one of two tables
-pub table-kind : (p : Part) → (tableOf p ≡ 2) ⊎ (tableOf p ≡ 3)
+pub is-table : (p : Part) → (tableOf p ≡ 2) ⊎ (tableOf p ≡ 3)
 unfolding tableOf
-table-kind (words n) = inl refl
-table-kind (stream n) = inl refl
-table-kind (text reference) = inl refl
-table-kind (thread reference) = inr refl
+is-table (words n) = inl refl
+is-table (stream n) = inl refl
+is-table (text reference) = inl refl
+is-table (thread reference) = inr refl
 
 -- what is taken for a part that is looked up as a thread is a thread's reference
 abbrev pub Shape : Part → Reference → Type 0

@@ -37,18 +37,9 @@ pub data Referent : Type 0 where
   textReferent : Text → Referent
   threadReferent : Shown Thread → Referent
 
--- the table that it is looked up in
-abbrev pub referentTable : Referent → ℕ
-referentTable (textReferent t) = 2
-referentTable (threadReferent t) = 3
-
--- what stands for a reference that a kind has not: the empty text
-abbrev pub absent : Referent
-absent = textReferent (known [])
-
 -- "An event item holds its provider id or none, type, timestamp, the rate in force, process and thread (or unresolved), category, name,
 -- arguments, and extra word": type and timestamp are its own, its references are thread, category and name, its last word is the extra word,
--- 0 where the type has none, and it has no stream.
+-- 0 where the type has none, and it has no stream. A reference that a kind has not is the empty text.
 pub record Report : Type 0 where
   pub provider : Option ℕ
   pub rate : ℕ
@@ -88,19 +79,23 @@ pub record ItemLayout : Type 0 where
   pub arguments : List Argument
   pub last : List ℕ
 
--- an event: its type of record, its header behind that and the size, from its count, its three references and the length of its stream, its leading
--- words, and how many words stand behind its arguments
-abbrev pub ownType : Event → ℕ
-ownType e = 4
+-- what is particular to a kind, as it is laid out: the type of its records, their header behind that and the size, from the count of arguments,
+-- the three references and the length of the stream, their leading words, and how many words stand behind the arguments
+pub record OwnLayout : Type 0 where
+  pub type : ℕ
+  pub header : (count first second third long : ℕ) → List Field
+  pub words : List ℕ
+  pub behind : ℕ
 
-abbrev pub ownHeader : Event → ℕ → ℕ → ℕ → ℕ → ℕ → List Field
-ownHeader e count first second third long = e .variant of 4 ∷ count of 4 ∷ first of 8 ∷ second of 16 ∷ third of 16 ∷ []
-
-abbrev pub ownWords : Event → List ℕ
-ownWords e = e .timestamp ∷ []
-
-abbrev pub ownBehind : Event → ℕ
-ownBehind e = extraWords (e .variant)
+-- an event
+abbrev pub ownLayout : Event → OwnLayout
+ownLayout e =
+    record {
+      type = 4;
+      header = λ count first second third long. e .variant of 4 ∷ count of 4 ∷ first of 8 ∷ second of 16 ∷ third of 16 ∷ [];
+      words = e .timestamp ∷ [];
+      behind = extraWords (e .variant);
+    }
 
 abbrev pub lastWords : ℕ → ℕ → List ℕ
 lastWords behind last = pick (eqb behind 0) [] (last ∷ [])
@@ -109,13 +104,13 @@ lastWords behind last = pick (eqb behind 0) [] (last ∷ [])
 abbrev pub reportLayout : Report → ItemLayout
 reportLayout r =
     record {
-      type = ownType (r .own);
+      type = ownLayout (r .own) .type;
       provider = r .provider;
-      fields = λ given. ownHeader (r .own) (length (r .arguments)) (given (refers (r .first))) (given (refers (r .second)))
+      fields = λ given. ownLayout (r .own) .header (length (r .arguments)) (given (refers (r .first))) (given (refers (r .second)))
           (given (refers (r .third))) (given (stream (r .stream)));
-      pieces = words (ownWords (r .own)) ∷ refers (r .first) ∷ refers (r .second) ∷ refers (r .third) ∷ stream (r .stream) ∷ [];
+      pieces = words (ownLayout (r .own) .words) ∷ refers (r .first) ∷ refers (r .second) ∷ refers (r .third) ∷ stream (r .stream) ∷ [];
       arguments = r .arguments;
-      last = lastWords (ownBehind (r .own)) (r .last);
+      last = lastWords (ownLayout (r .own) .behind) (r .last);
     }
 
 -- a record that refers to nothing
@@ -194,8 +189,6 @@ layoutUses l = piecesUses (l .provider) (l .pieces) (argumentsUses (l .provider)
 
 abbrev pub usesOf : Item → List Use
 usesOf i = layoutUses (layoutOfItem i)
-
--- ---- words
 
 -- ---- unresolved references
 

@@ -1,6 +1,6 @@
 -- Records that refer to texts and threads: which records are read so, how each kind is laid out, and what is read of any of them.
 -- A body is leading words, three references, a stream that is no reference, arguments, and words behind them; what a kind has not, takes no bytes.
--- A kind is `isReport`, its layout and what is particular to it; all else is the same for all kinds.
+-- A kind is its layout and what is particular to it; all else is the same for all kinds.
 use Prim.Native.Nat.{ℕ, _+_, _-_, _*_}
 use mathlib.Core.List.{[], List, _∷_}
 use mathlib.Core.Bool.{Bool, true, false}
@@ -36,15 +36,16 @@ hasExtra type = pick (eqb type 1) true (ltb 3 type)
 unfoldable pub extraWords : ℕ → ℕ
 extraWords type = pick (hasExtra type) 1 0
 
--- whether the record of a header is read so: events of types 0 to 10
-unfoldable pub isReport : ℕ → Bool
-isReport header = pick (eqb (field 0 3 header) 4) (leb (field 16 19 header) 10) false
+-- an event of a type that is read, 0 to 10
+unfoldable pub isEvent : ℕ → Bool
+isEvent header = pick (eqb (field 0 3 header) 4) (leb (field 16 19 header) 10) false
 
 -- "Event (4): event type [16..19], argument count [20..23], thread [24..31], category [32..47], name [48..63];
--- then timestamp, inline process and thread, inline category, inline name, arguments, and one more word"
+-- then timestamp, inline process and thread, inline category, inline name, arguments, and one more word". No other record is read so.
 unfoldable pub layoutOf : ℕ → Layout
 layoutOf header =
     record {
+      read = isEvent header;
       words = 1;
       first = thread (field 24 31 header);
       second = text (field 32 47 header);

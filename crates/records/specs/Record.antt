@@ -16,7 +16,7 @@ use Rattle.format.specs.Part.{takeParts, onBody}
 use Rattle.records.specs.declared.Content.{Content}
 use Rattle.records.specs.declared.Content.the-variants.{Refused, Magic, ProviderInfo, Section, ProviderEvent, Initialization, String, Thread, Ignored, Skipped}
 use Rattle.records.specs.declared.Record.{Record}
-use Rattle.records.specs.Layout.{isReport, reportOf}
+use Rattle.records.specs.Layout.{layoutOf, reportOf}
 
 -- "Kind 1, provider info: id [20..51], name length [52..59], name stream."
 unfoldable pub providerInfoOf : Format → ℕ → ℕ → ℕ → Content
@@ -61,7 +61,7 @@ unfoldable pub contentOf : Format → List ℕ → ℕ → Content
 contentOf f source place =
     let header = wordAt source 0 in
     let end = place + length source in
-    pick (isReport header) (reportOf f source place)
+    pick (layoutOf header .read) (reportOf f source place)
     (pick (eqb (field 0 3 header) 0) (metadataOf f source place)
     (pick (eqb (field 0 3 header) 1) (initializationOf f source place)
     (pick (eqb (field 0 3 header) 2) (stringOf f header place end)

@@ -5,11 +5,11 @@ ghost use lib.ListN.{length};
 ghost use Rattle.words.specs.Word.{wordAt};
 ghost use Rattle.format.specs.Models.Bounds.{PartFits};
 ghost use Rattle.words.specs.Stream.{streamWords};
-ghost use Rattle.records.specs.Layout.{hasExtra, extraWords, isReport, layoutOf, ownOf, takeFields, lastWord, reportOf};
+ghost use Rattle.records.specs.Layout.{hasExtra, extraWords, isEvent, layoutOf, ownOf, takeFields, lastWord, reportOf};
 ghost use Rattle.records.specs.Models.Layouts.{LayoutFits, takePair};
 ghost use Rattle.records.specs.Record.{providerInfoOf, metadataOf, initializationOf, stringOf, threadOf, contentOf, recordAt};
 ghost use Rattle.records.specs.Effect.{effectOf};
-ghost use Rattle.records.specs.Item.{ownWords, ownBehind};
+ghost use Rattle.records.specs.Item.{ownLayout};
 ghost use Rattle.records.specs.Loss.{wordsKeep, streamKeeps, reportKeeps, recordKeeps};
 ghost use Rattle.records.specs.Models.Bounds.{ReportInside, ContentInside};
 use arguments::Walked;
@@ -48,8 +48,9 @@ pub struct Report {
     pub last: u64,
 }
 
-// How such a record is laid out: words, three references and a stream, arguments, and words behind them; its reserved bits.
+// Whether a record is read so, and how it is laid out: words, three references and a stream, arguments, and words behind them; its reserved bits.
 pub struct Layout {
+    pub read: bool,
     pub words: usize,
     pub first: Part,
     pub second: Part,
@@ -159,6 +160,16 @@ pub fn has_extra(variant: u64) -> bool
     3 < variant
 }
 
+// Whether this is the header of an event that is read.
+fn is_event(header: u64) -> bool
+    ensures { λ r. ⌜ r ≡ isEvent header ⌝ }
+{
+    if words::field(header, 0, 3) == 4 {
+        return words::field(header, 16, 19) <= 10;
+    }
+    false
+}
+
 // How many words an event of this type has behind its arguments.
 fn extra_words(variant: u64) -> usize
     ensures { λ r. ⌜ r ≡ extraWords variant ⌝ }
@@ -169,21 +180,12 @@ fn extra_words(variant: u64) -> usize
     0
 }
 
-// Whether the record of this header refers to texts and threads, and is read.
-pub fn is_report(header: u64) -> bool
-    ensures { λ r. ⌜ r ≡ isReport header ⌝ }
-{
-    if words::field(header, 0, 3) == 4 {
-        return words::field(header, 16, 19) <= 10;
-    }
-    false
-}
-
-// The layout of such a record.
+// Whether the record of this header refers to texts and threads, and how it is laid out then.
 pub fn layout_of(header: u64) -> Layout
     ensures { λ r. ⌜ r ≡ layoutOf header ⌝ }
 {
     Layout {
+        read: is_event(header),
         words: 1,
         first: Part::Thread(words::field(header, 24, 31)),
         second: Part::Text(words::field(header, 32, 47)),
@@ -376,16 +378,16 @@ fn metadata_of(f: Format, source: &[u8], place: usize) -> Content
     ensures { λ r. ⌜ r ≡ metadataOf f (now (source .entry)) place ⌝ }
 {
     let header = words::word(source, 0);
-    let kind = words::field(header, 16, 19);
-    if kind == 1 {
+    let metadata_type = words::field(header, 16, 19);
+    if metadata_type == 1 {
         return provider_info_of(f, header, place, place + source.len());
     }
-    if kind == 2 {
+    if metadata_type == 2 {
         return Content::Section {
             id: words::field(header, 20, 51) as u32,
         };
     }
-    if kind == 3 {
+    if metadata_type == 3 {
         return Content::ProviderEvent {
             id: words::field(header, 20, 51) as u32,
             event: words::field(header, 52, 55) as u8,
@@ -473,7 +475,8 @@ pub fn content_of(f: Format, source: &[u8], place: usize) -> Content
 {
     let header = words::word(source, 0);
     let record_type = words::field(header, 0, 3);
-    if is_report(header) {
+    let layout = layout_of(header);
+    if layout.read {
         return report_of(f, source, place);
     }
     if record_type == 2 {
@@ -496,14 +499,14 @@ pub fn content_of(f: Format, source: &[u8], place: usize) -> Content
 
 // How many words of its own a record that refers to texts and threads has before its references.
 pub fn own_words(own: Event) -> usize
-    ensures { λ r. ⌜ r ≡ length (ownWords own) ⌝ }
+    ensures { λ r. ⌜ r ≡ length (ownLayout own .words) ⌝ }
 {
     1
 }
 
 // How many words it has behind its arguments.
 pub fn own_behind(own: Event) -> usize
-    ensures { λ r. ⌜ r ≡ ownBehind own ⌝ }
+    ensures { λ r. ⌜ r ≡ ownLayout own .behind ⌝ }
 {
     extra_words(own.variant as u64)
 }

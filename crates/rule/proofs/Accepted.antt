@@ -31,7 +31,7 @@ use Rattle.reader.proofs.Runs.{Sound, fresh-sound, step-sound}
 use Rattle.reader.proofs.Steps.{admitted}
 use Rattle.effects.specs.declared.Change.{Change}
 use Rattle.format.specs.Header.{archiveNumber}
-use Rattle.rule.specs.Rule.{usesAll, Entry, indexIn, nextIndex, withUse, tableAfter, chosenIn, rule}
+use Rattle.rule.specs.Rule.{usesAll, Entry, indexIn, nextIndex, withUse, entriesAfter, chosenIn, rule}
 use Rattle.rule.specs.Refusal.{keepsAt, runFrom, runOf, Refusal, refusal, lossRefusal, unresolvedRefusal, itemUnresolved, Accepted}
 use Rattle.rule.proofs.Fitting.{GoodItem, step-good}
 use Rattle.rule.proofs.Items.{ShownAs, item-shown}
@@ -47,23 +47,23 @@ abbrev pub AllPlain : Format → List Item → Type 0
 AllPlain f [] = Unit {0}
 AllPlain f (i ∷ items) = ItemPlain f i × AllPlain f items
 
-uses-fit : (chosen : Use → Bool) (table : List Entry) (us : List Use) → KeysPlain us → UsesLow smallFormat chosen table us
-    → UsesFit smallFormat chosen table us
-uses-fit chosen table [] k l = tt
-uses-fit chosen table (u ∷ us) k l =
-    ((λ e. k .0 (nextIndex table u) (l .0 e .0) (l .0 e .1)), uses-fit chosen (withUse chosen table u) us (k .1) (l .1))
+uses-fit : (chosen : Use → Bool) (entries : List Entry) (us : List Use) → KeysPlain us → UsesLow smallFormat chosen entries us
+    → UsesFit smallFormat chosen entries us
+uses-fit chosen entries [] k l = tt
+uses-fit chosen entries (u ∷ us) k l =
+    ((λ e. k .0 (nextIndex entries u) (l .0 e .0) (l .0 e .1)), uses-fit chosen (withUse chosen entries u) us (k .1) (l .1))
 
 -- plain items fit where their uses keep the limits
-pub all-fit : (chosen : Use → Bool) (table : List Entry) (items : List Item) → AllPlain smallFormat items
-    → Limited smallFormat (tableAfter chosen table (usesAll items)) (usesAll items) → LowTable smallFormat table
-    → AllFit smallFormat chosen table items
-all-fit chosen table [] plain limited low = tt
-all-fit chosen table (i ∷ items) plain limited low =
-    let u = uses-low smallFormat chosen table (usesOf i) (usesAll items) limited low in
-    let table′ = tableAfter chosen table (usesOf i) in (
-      uses-fit chosen table (usesOf i) (plain-keys i (plain .0)) (u .0),
-      plain-fits (indexIn table′ (itemProvider i)) i (low-index smallFormat table′ (itemProvider i) (u .1)) (plain .0),
-      all-fit chosen table′ items (plain .1) (u .2) (u .1),
+pub all-fit : (chosen : Use → Bool) (entries : List Entry) (items : List Item) → AllPlain smallFormat items
+    → Limited smallFormat (entriesAfter chosen entries (usesAll items)) (usesAll items) → LowTable smallFormat entries
+    → AllFit smallFormat chosen entries items
+all-fit chosen entries [] plain limited low = tt
+all-fit chosen entries (i ∷ items) plain limited low =
+    let u = uses-low smallFormat chosen entries (usesOf i) (usesAll items) limited low in
+    let entries′ = entriesAfter chosen entries (usesOf i) in (
+      uses-fit chosen entries (usesOf i) (plain-keys i (plain .0)) (u .0),
+      plain-fits (indexIn entries′ (itemProvider i)) i (low-index smallFormat entries′ (itemProvider i) (u .1)) (plain .0),
+      all-fit chosen entries′ items (plain .1) (u .2) (u .1),
     )
 
 -- ---- a run that loses nothing

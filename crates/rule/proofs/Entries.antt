@@ -34,7 +34,7 @@ use Rattle.reader.proofs.ByItems.{contextsOf}
 use Rattle.reader.proofs.Runs.{Sound, Grown}
 use Rattle.records.specs.Effect.{effectOf}
 use Rattle.rule.specs.Rule.{Entry, nextIndex, keyRecord}
-use Rattle.rule.proofs.Tables.{kindOf, Made, made-lt, next-grows, Every}
+use Rattle.rule.proofs.Tables.{keyTable, Made, made-lt, next-grows, Every}
 
 -- ---- contexts
 
@@ -99,7 +99,7 @@ keyLength (textKey bytes) = length bytes
 keyLength (threadKey t) = 16
 
 -- its index is one of its table
-pub key-index : (f : Format) (index : ℕ) (key : Key) → KeyFits f index key → (0 < index) × (index ≤ highestOf f (kindOf key))
+pub key-index : (f : Format) (index : ℕ) (key : Key) → KeyFits f index key → (0 < index) × (index ≤ highestOf f (keyTable key))
 unfolding highestOf
 key-index f index (textKey bytes) fit = (fit .some, fit .low)
 key-index f index (threadKey (thread p t)) fit = (fit .0, omega (arith, fit .1))
@@ -120,14 +120,14 @@ key-stands f archive place index (threadKey (thread p t)) fit at =
     record-at (thread-fits index (thread p t) (fit .1)) (omega arith) f archive place at
     ∙ rw (thread-read f index (thread p t) place (fit .0) (fit .1))
 
-key-registers : (index place : ℕ) (key : Key) → registrationOf (keyContent index place key) ≡ Registered (kindOf key) index (place + 8) (keyLength key)
+key-registers : (index place : ℕ) (key : Key) → registrationOf (keyContent index place key) ≡ Registered (keyTable key) index (place + 8) (keyLength key)
 unfolding registrationOf effectOf
 key-registers index place (textKey bytes) = refl
 key-registers index place (threadKey t) = refl
 
-kind-known : (key : Key) → (kindOf key ≡ 2) ⊎ (kindOf key ≡ 3)
-kind-known (textKey bytes) = inl refl
-kind-known (threadKey t) = inr refl
+key-table-known : (key : Key) → (keyTable key ≡ 2) ⊎ (keyTable key ≡ 3)
+key-table-known (textKey bytes) = inl refl
+key-table-known (threadKey t) = inr refl
 
 -- ---- what the tables hold for it
 
@@ -137,17 +137,17 @@ pub record Standing (f : Format) (archive : List ℕ) (s : State) (tables : List
   pub place : ℕ
   pub own : ContextIs s provider context
   pub fits : KeyFits f index key
-  pub is-set : getD tables (position f context (kindOf key) index) 0 ≡ place
+  pub is-set : getD tables (position f context (keyTable key) index) 0 ≡ place
   pub some : 0 < place
   pub whole : place % 8 ≡ 0
   pub there : At archive place (keyRecord index key)
   pub ends : place + length (keyRecord index key) ≤ s .place
 
 -- so it is for a later state with the same tables
-pub stand-later : (f : Format) (archive : List ℕ) (s s′ : State) (tables : List ℕ) → Grown s s′ → (table : List Entry)
-    → Every (Standing f archive s tables) table → Every (Standing f archive s′ tables) table
+pub stand-later : (f : Format) (archive : List ℕ) (s s′ : State) (tables : List ℕ) → Grown s s′ → (entries : List Entry)
+    → Every (Standing f archive s tables) entries → Every (Standing f archive s′ tables) entries
 stand-later f archive s s′ tables g [] h = tt
-stand-later f archive s s′ tables g (e ∷ table) h =
+stand-later f archive s s′ tables g (e ∷ entries) h =
     let k = h .0 in (
       record {
         context = k .context;
@@ -160,62 +160,62 @@ stand-later f archive s s′ tables g (e ∷ table) h =
         there = k .there;
         ends = omega (arith, k .ends, g .place);
       },
-      stand-later f archive s s′ tables g table (h .1),
+      stand-later f archive s s′ tables g entries (h .1),
     )
 
 -- and so it is after an entry was set for an index above those in use
 pub stand-set : (f : Format) (archive : List ℕ) (s : State) (tables : List ℕ) (u : Use) (context n entry : ℕ)
-    → ContextIs s (u .provider) context → n ≤ highestOf f (kindOf (u .key)) → (table : List Entry) → Made table → nextIndex table u ≤ n
-    → Every (Standing f archive s tables) table
-    → Every (Standing f archive s (set tables (position f context (kindOf (u .key)) n) entry)) table
+    → ContextIs s (u .provider) context → n ≤ highestOf f (keyTable (u .key)) → (entries : List Entry) → Made entries → nextIndex entries u ≤ n
+    → Every (Standing f archive s tables) entries
+    → Every (Standing f archive s (set tables (position f context (keyTable (u .key)) n) entry)) entries
 stand-set f archive s tables u context n entry own low [] m l h = tt
-stand-set f archive s tables u context n entry own low (e ∷ table) m l h =
+stand-set f archive s tables u context n entry own low (e ∷ entries) m l h =
     let k = h .0 in (
       record {
         context = k .context;
         place = k .place;
         own = k .own;
         fits = k .fits;
-        is-set = getD-set-other tables (position f context (kindOf (u .key)) n) (position f (k .context) (kindOf key) (e .index)) entry 0 (apart k)
+        is-set = getD-set-other tables (position f context (keyTable (u .key)) n) (position f (k .context) (keyTable key) (e .index)) entry 0 (apart k)
             ∙ k .is-set;
         some = k .some;
         whole = k .whole;
         there = k .there;
         ends = k .ends;
       },
-      stand-set f archive s tables u context n entry own low table (m .1) (omega (arith, l, next-grows e table u)) (h .1),
+      stand-set f archive s tables u context n entry own low entries (m .1) (omega (arith, l, next-grows e entries u)) (h .1),
     )
   where
     key : Key
     key = e .use-of .key
 
     apart : (k : Standing f archive s tables (e .use-of .provider) key (e .index))
-        → position f (k .context) (kindOf key) (e .index) ≡ position f context (kindOf (u .key)) n → ⊥
+        → position f (k .context) (keyTable key) (e .index) ≡ position f context (keyTable (u .key)) n → ⊥
     apart k q =
-        let a = position-apart f (k .context) (kindOf key) (e .index) context (kindOf (u .key)) n (kind-known key) (kind-known (u .key))
+        let a = position-apart f (k .context) (keyTable key) (e .index) context (keyTable (u .key)) n (key-table-known key) (key-table-known (u .key))
         (key-index f (e .index) key (k .fits) .1) low q in
         let own′ : ContextIs s (u .provider) (k .context) = rw (a .0) own in
         let p = provider-one s (e .use-of .provider) (u .provider) (k .context) (k .own) own′ in
-        omega (arith, made-lt e table u m p (a .1), a .2, l)
+        omega (arith, made-lt e entries u m p (a .1), a .2, l)
 
 -- where an index stands so, it is resolved to its key's bytes
-pub stand-known : (f : Format) (archive : List ℕ) (s : State) (tables : List ℕ) (provider : Option ℕ) (key : Key) (index context limit : ℕ)
-    → Sound f archive s tables → ContextIs s provider context → s .place ≤ limit
+pub stand-known : (f : Format) (archive : List ℕ) (s : State) (tables : List ℕ) (provider : Option ℕ) (key : Key) (index context until : ℕ)
+    → Sound f archive s tables → ContextIs s provider context → s .place ≤ until
     → (k : Standing f archive s tables provider key index)
-    → resolved f archive tables context (kindOf key) limit (Index index) ≡ Known (k .place + 8) (keyLength key)
+    → resolved f archive tables context (keyTable key) until (Index index) ≡ Known (k .place + 8) (keyLength key)
 unfolding resolved entryAt
-stand-known f archive s tables provider key index context limit h own l k =
+stand-known f archive s tables provider key index context until h own l k =
     let fit = key-index f index key (k .fits) in
     let c = context-one f archive tables s h provider context (k .context) own (k .own) in
     rw (
-      le-ltb (highestOf f (kindOf key)) index (fit .1),
+      le-ltb (highestOf f (keyTable key)) index (fit .1),
       c,
       k .is-set,
       ne-eqb (k .place) 0 (λ z. omega (arith, k .some, z)),
       eq-eqb (k .place % 8) 0 (k .whole),
       key-stands f archive (k .place) index key (k .fits) (k .there),
-      le-ltb limit (k .place + length (keyRecord index key)) (omega (arith, k .ends)),
+      le-ltb until (k .place + length (keyRecord index key)) (omega (arith, k .ends)),
       key-registers index (k .place) key,
-      eq-eqb (kindOf key) (kindOf key) refl,
+      eq-eqb (keyTable key) (keyTable key) refl,
       eq-eqb index index refl,
     )

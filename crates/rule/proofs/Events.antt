@@ -72,21 +72,21 @@ first-number f index a l more at fit sized =
     rw (append-assoc (argumentRecord index a) (argumentsRecords index l) more)
     (argument-read f index a (argumentsRecords index l ++ more) at (fit .0) (sized .0))
 
-module _ (f : Format) (archive tables : List ℕ) (s : State) (table : List Entry) (provider : Option ℕ)
-    (sound : Sound f archive s tables) (own : ContextIs s provider (s .current)) (stands : Every (Standing f archive s tables) table)
+module _ (f : Format) (archive tables : List ℕ) (s : State) (entries : List Entry) (provider : Option ℕ)
+    (sound : Sound f archive s tables) (own : ContextIs s provider (s .current)) (stands : Every (Standing f archive s tables) entries)
     (place count first : ℕ) (part more : List ℕ)
     (asks : (n : ℕ) → n < count
     → argumentReply f archive tables s place n
     ≡ onArgued (numberedOf f n part first) (λ refused. Refused 4 (s .place)) (λ a size. shownArgument f archive tables s a)) where
   -- arguments that were written, from a number on, are the items asked for
-  pub arguments-shown : (l : List Argument) (number at : ℕ) → AllFit f (indexIn table provider) l → AllSized (indexIn table provider) l
-      → SpellsArguments archive (indexIn table provider) (argumentsAt (indexIn table provider) l at) l → number + length l ≤ count
-      → ((k : ℕ) → numberedOf f (number + k) part first ≡ numberedOf f k (argumentsRecords (indexIn table provider) l ++ more) at)
+  pub arguments-shown : (l : List Argument) (number at : ℕ) → AllFit f (indexIn entries provider) l → AllSized (indexIn entries provider) l
+      → SpellsArguments archive (indexIn entries provider) (argumentsAt (indexIn entries provider) l at) l → number + length l ≤ count
+      → ((k : ℕ) → numberedOf f (number + k) part first ≡ numberedOf f k (argumentsRecords (indexIn entries provider) l ++ more) at)
       → argumentItems f archive tables s place number (length l) ≡ some l
   unfolding argumentItems shownArgument
   arguments-shown [] number at fit sized spelled low h = refl
   arguments-shown (a ∷ l) number at fit sized spelled low h =
-      let index = indexIn table provider in
+      let index = indexIn entries provider in
       let is = first-number f index a l more at fit sized in
       let size = length (argumentRecord index a) in
       let here : numberedOf f number part first ≡ Read (argumentAt index a at) size = rw (add-zero number) at (h zero) ∙ is in
@@ -97,8 +97,8 @@ module _ (f : Format) (archive tables : List ℕ) (s : State) (table : List Entr
         here,
         none-bad f archive tables s (argumentLookups (argumentAt index a at ∷ [])) sound (argument-tables (argumentAt index a at ∷ [])),
         arguments-shown l (suc number) (at + size) (fit .1) (sized .1) (spelled .1) (omega arith) next,
-        text-shown f archive tables s table provider (s .current) (s .place) sound own (omega arith) stands (a .name) (argumentAt index a at .name) (fit .0 .name)
+        text-shown f archive tables s entries provider (s .current) (s .place) sound own (omega arith) stands (a .name) (argumentAt index a at .name) (fit .0 .name)
             (spelled .0 .name),
-        value-shown f archive tables s table provider (s .current) (s .place) sound own (omega arith) stands (a .value) (argumentAt index a at .value)
+        value-shown f archive tables s entries provider (s .current) (s .place) sound own (omega arith) stands (a .value) (argumentAt index a at .value)
             (fit .0 .value) (spelled .0 .value),
       )

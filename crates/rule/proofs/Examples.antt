@@ -21,7 +21,7 @@ use Rattle.arguments.specs.declared.Argued.the-variants.{Argument as ArgumentRe
 use Rattle.arguments.specs.Argument.{headerScalar, holdsWord, argumentBody, argumentOf, argumentsOf, numberedOf, argumentsRead}
 use Rattle.arguments.specs.Loss.{valueBytes, reservedBits, valuePaddingZero, argumentKeeps, argumentsKeep}
 use Rattle.records.specs.declared.Content.the-variants.{Refused, String, Skipped}
-use Rattle.records.specs.Layout.{hasExtra, extraWords, isReport, layoutOf, ownOf, takeFields, lastWord, reportOf}
+use Rattle.records.specs.Layout.{hasExtra, extraWords, isEvent, layoutOf, ownOf, takeFields, lastWord, reportOf}
 use Rattle.records.specs.Record.{metadataOf, stringOf, contentOf, recordOf, recordAt}
 use Rattle.records.specs.Loss.{wordsKeep, streamKeeps, reportKeeps, recordKeeps}
 use Rattle.records.specs.Item.{known, Thread, thread, scalar, textReferent, threadReferent, Item, magic, report, threadKey, keyWords}
@@ -191,7 +191,7 @@ pub record Table : Type 0 where
 pub table : Table
 unfolding little wordAt bytesOf magicBytes startsWithMagic recordWords extentOf takeWords takeStream takeText takeThread takePart takeParts
     paddingZero headerScalar holdsWord argumentBody argumentOf argumentsOf numberedOf valueBytes reservedBits valuePaddingZero argumentKeeps
-    argumentsKeep hasExtra extraWords isReport layoutOf ownOf takeFields lastWord reportOf tableOf metadataOf stringOf contentOf recordOf wordsKeep
+    argumentsKeep hasExtra extraWords isEvent layoutOf ownOf takeFields lastWord reportOf tableOf metadataOf stringOf contentOf recordOf wordsKeep
     streamKeeps reportKeeps recordKeeps belongsTo providerOf highestOf position registrationOf entryAt resolved isBad shownText shownThread
     shownReferent shownStream shownReport noneBad shownValue openingNumber archiveNumber stopping reportAnswer plainAnswer effectDecision
     contentDecision followed followedEntered changeOf effectOf argumentsRead

@@ -36,7 +36,7 @@ use Rattle.records.specs.Layout.{layoutOf}
 use Rattle.records.specs.Record.{recordAt}
 use Rattle.records.specs.Loss.{reportKeeps, recordKeeps}
 use Rattle.records.specs.Models.Bounds.{ReportInside}
-use Rattle.records.specs.Item.{Argument, Item, providerInfo, section, Referent, referentTable, isUnresolved, valueUnresolved, argumentsUnresolved, referentUnresolved, ownBehind, lastWords}
+use Rattle.records.specs.Item.{Argument, Item, providerInfo, section, Referent, isUnresolved, valueUnresolved, argumentsUnresolved, referentUnresolved, ownLayout, lastWords}
 use Rattle.contexts.specs.declared.State.{State}
 use Rattle.contexts.specs.Context.{moved, entering}
 use Rattle.tables.specs.declared.Resolved.{Resolved}
@@ -62,6 +62,7 @@ use Rattle.words.specs.Stream.{partOf}
 use Rattle.rule.specs.Refusal.{keepsAt, itemUnresolved}
 use Rattle.arguments.proofs.Bounds.{TextShort, ValueBound, ArgumentBound, ArguedBound, number-bound}
 use Rattle.records.proofs.Bounds.{ReportBound, lengthOf, ContentBound, record-bound}
+use Rattle.encoding.specs.Models.Part.{referentTable}
 use Rattle.encoding.proofs.EncodedParts.{AllWords}
 use Rattle.rule.proofs.LowerUses.{part-length}
 use Rattle.rule.proofs.Events.{asked-is}
@@ -76,11 +77,11 @@ KnownShort f Bad = Unit {0}
 KnownShort f (Known place long) = long ≤ f .longest
 KnownShort f (Unresolved index) = Unit {0}
 
-entry-short : (f : Format) (archive : List ℕ) (index entry limit : ℕ) → AllBytes archive → KnownShort f (entryAt f archive 2 index entry limit)
+entry-short : (f : Format) (archive : List ℕ) (index entry until : ℕ) → AllBytes archive → KnownShort f (entryAt f archive 2 index entry until)
 unfolding entryAt registrationOf effectOf
-entry-short f archive index entry limit bytes =
+entry-short f archive index entry until bytes =
     on-pick (KnownShort f) (eqb (entry % 8) 0) _ _
-    (λ e. on-pick (KnownShort f) (ltb limit (recordAt f archive entry .next)) _ _ (λ e. tt)
+    (λ e. on-pick (KnownShort f) (ltb until (recordAt f archive entry .next)) _ _ (λ e. tt)
     (λ e. of-content (recordAt f archive entry .content) (record-bound f archive entry bytes)))
     (λ e. tt)
   where
@@ -100,14 +101,14 @@ entry-short f archive index entry limit bytes =
     of-content Ignored h = tt
     of-content (Skipped type size) h = tt
 
-resolved-short : (f : Format) (archive tables : List ℕ) (context limit : ℕ) (r : Reference) → AllBytes archive → TextShort f r
-    → KnownShort f (resolved f archive tables context 2 limit r)
+resolved-short : (f : Format) (archive tables : List ℕ) (context until : ℕ) (r : Reference) → AllBytes archive → TextShort f r
+    → KnownShort f (resolved f archive tables context 2 until r)
 unfolding resolved
-resolved-short f archive tables context limit (Inline place long) bytes h = h
-resolved-short f archive tables context limit (Index index) bytes h =
+resolved-short f archive tables context until (Inline place long) bytes h = h
+resolved-short f archive tables context until (Index index) bytes h =
     on-pick (KnownShort f) (ltb (highestOf f 2) index) _ _ (λ e. tt)
     (λ e. on-pick (KnownShort f) (eqb (getD tables (position f context 2 index) 0) 0) _ _ (λ e. tt)
-    (λ e. entry-short f archive index (getD tables (position f context 2 index) 0) limit bytes))
+    (λ e. entry-short f archive index (getD tables (position f context 2 index) 0) until bytes))
 
 -- so a text that is shown, and not unresolved, is
 text-plain : (f : Format) (archive : List ℕ) (r : Resolved) → KnownShort f r → isUnresolved (textItem archive (shownText r)) ≡ false
@@ -125,15 +126,15 @@ thread-plain archive (Known place long) bytes e = (wordAt-lt archive place bytes
 thread-plain archive (Unresolved index) bytes e = true≢false e
 
 -- and so is what a record refers to
-referent-plain : (f : Format) (archive tables : List ℕ) (context limit table : ℕ) (r : Reference) → AllBytes archive → (table ≡ 2) ⊎ (table ≡ 3)
-    → (table ≡ 2 → TextShort f r) → referentUnresolved (referentItem archive (shownReferent archive table (resolved f archive tables context table limit r))) ≡ false
-    → ReferentPlain f (referentItem archive (shownReferent archive table (resolved f archive tables context table limit r)))
-    × (referentTable (referentItem archive (shownReferent archive table (resolved f archive tables context table limit r))) ≡ table)
+referent-plain : (f : Format) (archive tables : List ℕ) (context until table : ℕ) (r : Reference) → AllBytes archive → (table ≡ 2) ⊎ (table ≡ 3)
+    → (table ≡ 2 → TextShort f r) → referentUnresolved (referentItem archive (shownReferent archive table (resolved f archive tables context table until r))) ≡ false
+    → ReferentPlain f (referentItem archive (shownReferent archive table (resolved f archive tables context table until r)))
+    × (referentTable (referentItem archive (shownReferent archive table (resolved f archive tables context table until r))) ≡ table)
 unfolding shownReferent
-referent-plain f archive tables context limit table r bytes (inl e) short =
-    rw e (λ u. (text-plain f archive (resolved f archive tables context 2 limit r) (resolved-short f archive tables context limit r bytes (short e)) u, refl))
-referent-plain f archive tables context limit table r bytes (inr e) short =
-    rw e (λ u. (thread-plain archive (resolved f archive tables context 3 limit r) bytes u, refl))
+referent-plain f archive tables context until table r bytes (inl e) short =
+    rw e (λ u. (text-plain f archive (resolved f archive tables context 2 until r) (resolved-short f archive tables context until r bytes (short e)) u, refl))
+referent-plain f archive tables context until table r bytes (inr e) short =
+    rw e (λ u. (thread-plain archive (resolved f archive tables context 3 until r) bytes u, refl))
 
 -- a stream that stands in the archive is as long as it says
 stream-long : (archive : List ℕ) (from to : ℕ) (x : Reference) → Inside from to x → to ≤ length archive
@@ -144,13 +145,13 @@ stream-long archive from to (Inline place n) i l =
     (omega (arith, length-take n (drop place archive), length-drop place archive, i .1))
 stream-long archive from to (Index index) i l = omega (arith, part-length archive 0 0)
 
-value-plain : (f : Format) (archive tables : List ℕ) (context limit : ℕ) (v : ReadValue) → AllBytes archive → ValueBound f v
-    → valueUnresolved (valueItem archive (shownValue f archive tables context limit v)) ≡ false
-    → ValuePlain f (valueItem archive (shownValue f archive tables context limit v))
+value-plain : (f : Format) (archive tables : List ℕ) (context until : ℕ) (v : ReadValue) → AllBytes archive → ValueBound f v
+    → valueUnresolved (valueItem archive (shownValue f archive tables context until v)) ≡ false
+    → ValuePlain f (valueItem archive (shownValue f archive tables context until v))
 unfolding shownValue
-value-plain f archive tables context limit (ScalarValue s) bytes h e = h
-value-plain f archive tables context limit (TextValue r) bytes h e =
-    text-plain f archive (resolved f archive tables context 2 limit r) (resolved-short f archive tables context limit r bytes h) e
+value-plain f archive tables context until (ScalarValue s) bytes h e = h
+value-plain f archive tables context until (TextValue r) bytes h e =
+    text-plain f archive (resolved f archive tables context 2 until r) (resolved-short f archive tables context until r bytes h) e
 
 -- ---- arguments
 
@@ -279,15 +280,15 @@ module _ (f : Format) (archive tables : List ℕ) (s : State) (opens : openingNu
           let e1 = either-false (referentUnresolved a) (referentUnresolved b || (referentUnresolved c || argumentsUnresolved l)) e in
           let e2 = either-false (referentUnresolved b) (referentUnresolved c || argumentsUnresolved l) (e1 .1) in
           let e3 = either-false (referentUnresolved c) (argumentsUnresolved l) (e2 .1) in
-          let x = referent-plain f archive tables (s .current) (s .place) (q .first .table) (q .first .reference) bytes (fits .first .kinds) (bound .first) (e1 .0) in
-          let y = referent-plain f archive tables (s .current) (s .place) (q .second .table) (q .second .reference) bytes (fits .second .kinds) (bound .second) (e2 .0) in
-          let z = referent-plain f archive tables (s .current) (s .place) (q .third .table) (q .third .reference) bytes (fits .third .kinds) (bound .third) (e3 .0) in (
+          let x = referent-plain f archive tables (s .current) (s .place) (q .first .table) (q .first .reference) bytes (fits .first .table) (bound .first) (e1 .0) in
+          let y = referent-plain f archive tables (s .current) (s .place) (q .second .table) (q .second .reference) bytes (fits .second .table) (bound .second) (e2 .0) in
+          let z = referent-plain f archive tables (s .current) (s .place) (q .third .table) (q .third .reference) bytes (fits .third .table) (bound .third) (e3 .0) in (
             (ap providerItem (sym (provider-moved s)), refl),
             record {
               suits = record { own = rw (x .1, y .1, z .1, long, k .0) (bound .suits); no-last = bound .no-last };
               pieces = ((bound .suits .timestamp, tt), (x .0, (y .0, (z .0, (omega (arith, long, bound .stream), tt)))));
               arguments = k .1 (e3 .1);
-              last = last-small (ownBehind (q .own)) (q .last) (bound .last);
+              last = last-small (ownLayout (q .own) .behind) (q .last) (bound .last);
             },
           )
 

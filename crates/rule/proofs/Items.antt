@@ -20,7 +20,7 @@ use Rattle.records.specs.declared.Report.{Report as ReadReport}
 use Rattle.records.specs.declared.Content.{Content}
 use Rattle.records.specs.declared.Content.the-variants.{Magic, ProviderInfo, Section, ProviderEvent, Initialization, Report as ReportRead}
 use Rattle.records.specs.Record.{contentOf, recordAt}
-use Rattle.records.specs.Item.{Report, ownBehind, lastWords, Item, magic, providerInfo, section, providerEvent, initialization, report, skipped, ItemLayout, reportLayout, layoutOfItem, itemProvider, Key}
+use Rattle.records.specs.Item.{Report, ownLayout, lastWords, Item, magic, providerInfo, section, providerEvent, initialization, report, skipped, ItemLayout, reportLayout, layoutOfItem, itemProvider, Key}
 use Rattle.encoding.specs.Encoded.{partsBytes, wordsBytes, argumentsRecords, encodedPieces, layoutRecord, itemRecord}
 use Rattle.encoding.proofs.EncodedArguments.{all-sized, arguments-spelled}
 use Rattle.encoding.proofs.EncodedLayouts.{PiecesFit, ItemFits, behindPieces, behind-at, pieces-spelled, length-all}
@@ -176,7 +176,7 @@ unfolding contentDecision effectDecision reportAnswer followed changeOf effectOf
 report-decided f archive tables s q next sound k is =
     let fits = report-fits f archive (s .place) q k in
     is ∙ rw (none-bad f archive tables s (reportLookups f archive q next) sound
-    (fits .first .kinds, (fits .second .kinds, (fits .third .kinds, argument-tables (argumentsTo f archive q next)))))
+    (fits .first .table, (fits .second .table, (fits .third .table, argument-tables (argumentsTo f archive q next)))))
 
 -- what is left of a record behind its pieces
 layout-part : (index : Key → ℕ) (l : ItemLayout) (archive : List ℕ) (place : ℕ) → At archive place (layoutRecord index l)
@@ -189,12 +189,12 @@ layout-part index l archive place at =
     let left : place + length (layoutRecord index l) - first ≡ length (behindPieces index l) = omega (arith, length-all index l) in
     rw (left, there .1, take-append-seam (behindPieces index l) (there .0))
 
-module _ (f : Format) (archive tables : List ℕ) (s : State) (table : List Entry) (e : Report)
-    (opens : openingNumber f archive (length tables) ≡ 0) (sound : Sound f archive s tables) (stands : Every (Standing f archive s tables) table)
-    (suits : ItemSuits (contextsOf s) (report e)) (fit : ItemFits f (indexIn table (e .provider)) (report e))
-    (at : At archive (s .place) (reportRecord (indexIn table (e .provider)) e)) where
+module _ (f : Format) (archive tables : List ℕ) (s : State) (entries : List Entry) (e : Report)
+    (opens : openingNumber f archive (length tables) ≡ 0) (sound : Sound f archive s tables) (stands : Every (Standing f archive s tables) entries)
+    (suits : ItemSuits (contextsOf s) (report e)) (fit : ItemFits f (indexIn entries (e .provider)) (report e))
+    (at : At archive (s .place) (reportRecord (indexIn entries (e .provider)) e)) where
   abbrev index : Key → ℕ
-  index = indexIn table (e .provider)
+  index = indexIn entries (e .provider)
 
   abbrev next : ℕ
   next = s .place + length (reportRecord index e)
@@ -228,10 +228,10 @@ module _ (f : Format) (archive tables : List ℕ) (s : State) (table : List Entr
   arguments : argumentItems f archive tables (moved s next) (s .place) 0 (length (e .arguments)) ≡ some (e .arguments)
   arguments =
       let l = argumentsRecords index (e .arguments) in
-      let x = wordsBytes (lastWords (ownBehind (e .own)) (e .last)) in
+      let x = wordsBytes (lastWords (ownLayout (e .own) .behind) (e .last)) in
       let first = read .arguments in
-      arguments-shown f archive tables (moved s next) table (e .provider) later (context-later s (moved s next) grown (e .provider) (s .current) own)
-      (stand-later f archive s (moved s next) tables grown table stands) (s .place) (length (e .arguments)) first
+      arguments-shown f archive tables (moved s next) entries (e .provider) later (context-later s (moved s next) grown (e .provider) (s .current) own)
+      (stand-later f archive s (moved s next) tables grown entries stands) (s .place) (length (e .arguments)) first
       (take (next - first) (drop first archive)) x
       (λ n low. asked-is f archive tables (moved s next) (s .place) n read later opens (sound .whole) is low)
       (e .arguments) 0 first (fit .layout .arguments) (all-sized index (e .arguments) (omega (arith, fit .layout .size)))
@@ -250,11 +250,11 @@ module _ (f : Format) (archive tables : List ℕ) (s : State) (table : List Entr
           provider-moved s,
           suits .0,
           suits .1,
-          referent-shown f archive tables s table (e .provider) (s .current) (s .place) sound own (omega arith) stands (e .first) (read .first .table) (read .first .reference)
+          referent-shown f archive tables s entries (e .provider) (s .current) (s .place) sound own (omega arith) stands (e .first) (read .first .table) (read .first .reference)
               (fit .layout .pieces .1 .0) (spelled .tables .0) (spelled .first),
-          referent-shown f archive tables s table (e .provider) (s .current) (s .place) sound own (omega arith) stands (e .second) (read .second .table) (read .second .reference)
+          referent-shown f archive tables s entries (e .provider) (s .current) (s .place) sound own (omega arith) stands (e .second) (read .second .table) (read .second .reference)
               (fit .layout .pieces .1 .1 .0) (spelled .tables .1) (spelled .second),
-          referent-shown f archive tables s table (e .provider) (s .current) (s .place) sound own (omega arith) stands (e .third) (read .third .table) (read .third .reference)
+          referent-shown f archive tables s entries (e .provider) (s .current) (s .place) sound own (omega arith) stands (e .third) (read .third .table) (read .third .reference)
               (fit .layout .pieces .1 .1 .1 .0) (spelled .tables .2) (spelled .third),
           stream-shown archive (e .stream) (read .stream) (spelled .stream),
         );
@@ -262,8 +262,8 @@ module _ (f : Format) (archive tables : List ℕ) (s : State) (table : List Entr
 
 -- ---- every item
 
-module _ (f : Format) (archive tables : List ℕ) (s : State) (table : List Entry) (opens : openingNumber f archive (length tables) ≡ 0)
-    (sound : Sound f archive s tables) (stands : Every (Standing f archive s tables) table) where
+module _ (f : Format) (archive tables : List ℕ) (s : State) (entries : List Entry) (opens : openingNumber f archive (length tables) ≡ 0)
+    (sound : Sound f archive s tables) (stands : Every (Standing f archive s tables) entries) where
   by-record : (index : Key → ℕ) (i : Item) (c : Content) → ItemFits f index i → At archive (s .place) (itemRecord index i)
       → contentOf f (itemRecord index i) (s .place) ≡ c
       → ((next : ℕ) → ShownAs f archive tables i next (contentDecision f archive tables s c next))
@@ -275,28 +275,28 @@ module _ (f : Format) (archive tables : List ℕ) (s : State) (table : List Entr
       rw (decision-is f archive tables s c next opens sound more there) (shown next)
 
   -- a step over an item's record shows it
-  pub item-shown : (i : Item) → ItemSuits (contextsOf s) i → ItemFits f (indexIn table (itemProvider i)) i
-      → At archive (s .place) (itemRecord (indexIn table (itemProvider i)) i)
-      → ShownAs f archive tables i (s .place + length (itemRecord (indexIn table (itemProvider i)) i)) (decisionOf f archive tables s)
+  pub item-shown : (i : Item) → ItemSuits (contextsOf s) i → ItemFits f (indexIn entries (itemProvider i)) i
+      → At archive (s .place) (itemRecord (indexIn entries (itemProvider i)) i)
+      → ShownAs f archive tables i (s .place + length (itemRecord (indexIn entries (itemProvider i)) i)) (decisionOf f archive tables s)
   item-shown magic suits fit at =
-      let index = indexIn table none in
+      let index = indexIn entries none in
       by-record index magic Magic fit at (magic-read f index (s .place)) (λ next. plain-shown f archive tables s sound next .0)
   item-shown (providerInfo id name) suits fit at =
-      let index = indexIn table none in
+      let index = indexIn entries none in
       by-record index (providerInfo id name) (ProviderInfo id (s .place + 8) (length name)) fit at
       (provider-info-read f index (s .place) id name fit)
       (λ next. provider-info-shown f archive tables s sound index id name (fit .layout .pieces) suits at next)
   item-shown (section id) suits fit at =
-      let index = indexIn table none in
+      let index = indexIn entries none in
       by-record index (section id) (Section id) fit at (section-read f index (s .place) id fit)
       (λ next. section-shown f archive tables s sound id suits next)
   item-shown (providerEvent id e) suits fit at =
-      let index = indexIn table none in
+      let index = indexIn entries none in
       by-record index (providerEvent id e) (ProviderEvent id e) fit at (provider-event-read f index (s .place) id e fit)
       (λ next. plain-shown f archive tables s sound next .1 id e)
   item-shown (initialization rate) suits fit at =
-      let index = indexIn table none in
+      let index = indexIn entries none in
       by-record index (initialization rate) (Initialization rate) fit at (initialization-read f index (s .place) rate fit)
       (λ next. plain-shown f archive tables s sound next .2 rate)
-  item-shown (report e) suits fit at = report-shown f archive tables s table e opens sound stands suits fit at
+  item-shown (report e) suits fit at = report-shown f archive tables s entries e opens sound stands suits fit at
   item-shown (skipped type size) suits fit at = absurd (fit .suits)

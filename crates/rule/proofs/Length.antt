@@ -25,7 +25,7 @@ use Rattle.encoding.proofs.EncodedParts.{partWords, partsWords, length-part}
 use Rattle.encoding.proofs.EncodedRecords.{length-record}
 use Rattle.encoding.proofs.EncodedArguments.{argumentsWords, encodedValue, scalar-parts}
 use Rattle.encoding.proofs.EncodedLayouts.{layoutWords, length-layout}
-use Rattle.rule.specs.Rule.{sameUse, usesAll, Entry, indexIn, nextIndex, keyRecord, isNew, withUse, useBytes, tableAfter, registrations, recordsFrom, chosenIn, rule}
+use Rattle.rule.specs.Rule.{sameUse, usesAll, Entry, indexIn, nextIndex, keyRecord, isNew, withUse, useBytes, entriesAfter, registrations, recordsFrom, chosenIn, rule}
 use Rattle.rule.proofs.Uses.{same-use-eq, same-use-refl}
 
 -- ---- what a use costs
@@ -130,39 +130,39 @@ module _ (index : Option ℕ → Key → ℕ) where
 
 -- the index of a use
 abbrev pub indexOf : List Entry → Use → ℕ
-indexOf table u = indexIn table (u .provider) (u .key)
+indexOf entries u = indexIn entries (u .provider) (u .key)
 
 -- no index is 0
-pub next-index-pos : (table : List Entry) (u : Use) → 0 < nextIndex table u
+pub next-index-pos : (entries : List Entry) (u : Use) → 0 < nextIndex entries u
 next-index-pos [] u = omega arith
-next-index-pos (e ∷ table) u = omega (arith, next-index-pos table u)
+next-index-pos (e ∷ entries) u = omega (arith, next-index-pos entries u)
 
 module _ (chosen : Use → Bool) where
   -- a table after the uses seen: exactly the chosen ones among them have an index
   abbrev pub Registered : List Entry → List Use → Type 0
-  Registered table seen = (u : Use) → eqb (indexOf table u) 0 ≡ not (chosen u && member sameUse u seen)
+  Registered entries seen = (u : Use) → eqb (indexOf entries u) 0 ≡ not (chosen u && member sameUse u seen)
 
   -- at first none has
   pub none-registered : Registered [] []
   none-registered u = cases (chosen u) (λ e. rw e) (λ e. rw e)
 
   -- whether a use is registered now
-  pub is-new : (table : List Entry) (seen : List Use) (u : Use) → Registered table seen
-      → isNew chosen table u ≡ (chosen u && not (member sameUse u seen))
-  is-new table seen u r = rw (r u) (cases (chosen u) (λ e. rw e) (λ e. rw e))
+  pub is-new : (entries : List Entry) (seen : List Use) (u : Use) → Registered entries seen
+      → isNew chosen entries u ≡ (chosen u && not (member sameUse u seen))
+  is-new entries seen u r = rw (r u) (cases (chosen u) (λ e. rw e) (λ e. rw e))
 
   -- a use, registered or not, is one more that is seen
-  pub use-registered : (table : List Entry) (seen : List Use) (u : Use) → Registered table seen
-      → Registered (withUse chosen table u) (u ∷ seen)
-  use-registered table seen u r v =
-      rw (is-new table seen u r)
+  pub use-registered : (entries : List Entry) (seen : List Use) (u : Use) → Registered entries seen
+      → Registered (withUse chosen entries u) (u ∷ seen)
+  use-registered entries seen u r v =
+      rw (is-new entries seen u r)
       (cases (chosen u)
       (λ c. rw c
       (cases (member sameUse u seen)
       (λ m. rw (m, seen-again sameUse same-use-eq same-use-refl u seen m v) (r v))
       (λ m. rw m
       (cases (sameUse v u)
-      (λ e. rw (e, same-use-eq v u e, c, ne-eqb (nextIndex table u) 0 (omega (arith, next-index-pos table u))))
+      (λ e. rw (e, same-use-eq v u e, c, ne-eqb (nextIndex entries u) 0 (omega (arith, next-index-pos entries u))))
       (λ e. rw e (r v))))))
       (λ c. rw c
       (cases (sameUse v u)
@@ -170,69 +170,69 @@ module _ (chosen : Use → Bool) where
       (λ e. rw e (r v)))))
 
   -- and so after some uses
-  pub uses-registered : (table : List Entry) (seen us : List Use) → Registered table seen
-      → Registered (tableAfter chosen table us) (seenAfter seen us)
-  uses-registered table seen [] r = r
-  uses-registered table seen (u ∷ us) r = uses-registered (withUse chosen table u) (u ∷ seen) us (use-registered table seen u r)
+  pub uses-registered : (entries : List Entry) (seen us : List Use) → Registered entries seen
+      → Registered (entriesAfter chosen entries us) (seenAfter seen us)
+  uses-registered entries seen [] r = r
+  uses-registered entries seen (u ∷ us) r = uses-registered (withUse chosen entries u) (u ∷ seen) us (use-registered entries seen u r)
 
   -- the words that uses take in a record behind their registrations
   abbrev pub leftInline : Use → ℕ
   leftInline u = cond (chosen u) 0 (inlineWords u)
 
   -- one use costs its registration, where it is new, and what it takes inline
-  use-length : (table : List Entry) (seen : List Use) (u : Use) → Registered table seen
-      → length (useBytes chosen table u) + 8 * leftInline u ≡ 8 * useCost sameUse inlineWords registerWords chosen seen u
-  use-length table seen u r =
-      rw (is-new table seen u r)
+  use-length : (entries : List Entry) (seen : List Use) (u : Use) → Registered entries seen
+      → length (useBytes chosen entries u) + 8 * leftInline u ≡ 8 * useCost sameUse inlineWords registerWords chosen seen u
+  use-length entries seen u r =
+      rw (is-new entries seen u r)
       (cases (chosen u)
       (λ c. rw c
       (cases (member sameUse u seen)
       (λ m. rw m)
-      (λ m. rw m (omega (arith, length-key-record (nextIndex table u) (u .key))))))
+      (λ m. rw m (omega (arith, length-key-record (nextIndex entries u) (u .key))))))
       (λ c. rw c (omega arith)))
 
   -- registrations and what is inline behind them cost the uses in order
-  pub length-registrations : (table : List Entry) (seen us : List Use) → Registered table seen
-      → length (registrations chosen table us) + 8 * sumBy leftInline us
+  pub length-registrations : (entries : List Entry) (seen us : List Use) → Registered entries seen
+      → length (registrations chosen entries us) + 8 * sumBy leftInline us
       ≡ 8 * costInOrder sameUse inlineWords registerWords chosen seen us
-  length-registrations table seen [] r = refl
-  length-registrations table seen (u ∷ us) r =
+  length-registrations entries seen [] r = refl
+  length-registrations entries seen (u ∷ us) r =
       omega (
         arith,
-        length-append (useBytes chosen table u) (registrations chosen (withUse chosen table u) us),
-        use-length table seen u r,
-        length-registrations (withUse chosen table u) (u ∷ seen) us (use-registered table seen u r),
+        length-append (useBytes chosen entries u) (registrations chosen (withUse chosen entries u) us),
+        use-length entries seen u r,
+        length-registrations (withUse chosen entries u) (u ∷ seen) us (use-registered entries seen u r),
       )
 
   -- behind their registrations exactly the uses of other keys are inline
-  pub inline-after : (table : List Entry) (seen us : List Use) → Registered table seen
-      → sumBy (spelledWords (indexIn (tableAfter chosen table us))) us ≡ sumBy leftInline us
-  inline-after table seen us r =
-      sum-members sameUse same-use-eq same-use-refl (spelledWords (indexIn (tableAfter chosen table us))) leftInline us
-      (λ u m. rw (uses-registered table seen us r u, member-after sameUse u seen us, m)
+  pub inline-after : (entries : List Entry) (seen us : List Use) → Registered entries seen
+      → sumBy (spelledWords (indexIn (entriesAfter chosen entries us))) us ≡ sumBy leftInline us
+  inline-after entries seen us r =
+      sum-members sameUse same-use-eq same-use-refl (spelledWords (indexIn (entriesAfter chosen entries us))) leftInline us
+      (λ u m. rw (uses-registered entries seen us r u, member-after sameUse u seen us, m)
       (cases (chosen u) (λ c. rw c) (λ c. rw c)))
 
   -- ---- all items
 
   -- items and the registrations before them take the items' fixed words, and the cost of their uses in order
-  pub length-records : (table : List Entry) (seen : List Use) (items : List Item) → Registered table seen
-      → length (recordsFrom chosen table items)
+  pub length-records : (entries : List Entry) (seen : List Use) (items : List Item) → Registered entries seen
+      → length (recordsFrom chosen entries items)
       ≡ 8 * (sumBy fixedWords items + costInOrder sameUse inlineWords registerWords chosen seen (usesAll items))
-  length-records table seen [] r = refl
-  length-records table seen (i ∷ items) r =
+  length-records entries seen [] r = refl
+  length-records entries seen (i ∷ items) r =
       let us = usesOf i in
-      let after = tableAfter chosen table us in
-      let first = registrations chosen table us in
+      let after = entriesAfter chosen entries us in
+      let first = registrations chosen entries us in
       let own = itemRecord (indexIn after (itemProvider i)) i in
       let others = recordsFrom chosen after items in
       omega (
         arith,
         length-append first (own ++ others),
         length-append own others,
-        length-registrations table seen us r,
-        inline-after table seen us r,
+        length-registrations entries seen us r,
+        inline-after entries seen us r,
         length-item (indexIn after) i,
-        length-records after (seenAfter seen us) items (uses-registered table seen us r),
+        length-records after (seenAfter seen us) items (uses-registered entries seen us r),
         cost-append sameUse inlineWords registerWords chosen seen us (usesAll items),
       )
 

@@ -13,59 +13,59 @@ use Rattle.format.specs.declared.Format.{Format}
 use Rattle.records.specs.Item.{Item, Key, Use, usesOf}
 use Rattle.registering.specs.Counting.{keys, member}
 use Rattle.registering.proofs.Counting.{keys-ext, seen-again}
-use Rattle.rule.specs.Rule.{sameUse, sameProvider, sameKind, usesAll, Entry, indexIn, nextIndex, isNew, withUse, tableAfter}
+use Rattle.rule.specs.Rule.{sameUse, sameProvider, sameTable, usesAll, Entry, indexIn, nextIndex, isNew, withUse, entriesAfter}
 use Rattle.rule.specs.Refusal.{Run, ended, passed, alike, limitOf, passesLimit, itemUses, limitRefusal, itemsOf}
 use Rattle.rule.proofs.Length.{Registered, none-registered, is-new, use-registered, next-index-pos}
 use Rattle.rule.proofs.Tables.{Every, index-holds}
-use Rattle.rule.proofs.Uses.{same-provider-refl, same-kind-refl, same-use-eq, same-use-refl}
+use Rattle.rule.proofs.Uses.{same-provider-refl, same-table-refl, same-use-eq, same-use-refl}
 
 -- ---- how many keys are registered
 
 module _ (chosen : Use → Bool) where
-  -- a use adds one entry at most, and only to its own context and kind
-  use-next : (table : List Entry) (u v : Use)
-      → nextIndex (withUse chosen table u) v ≤ cond (sameProvider (v .provider) (u .provider) && sameKind (v .key) (u .key)) 1 0 + nextIndex table v
-  use-next table u v = cases (isNew chosen table u) (λ e. rw e (omega arith)) (λ e. rw e (omega arith))
+  -- a use adds one entry at most, and only to its own context and table
+  use-next : (entries : List Entry) (u v : Use)
+      → nextIndex (withUse chosen entries u) v ≤ cond (sameProvider (v .provider) (u .provider) && sameTable (v .key) (u .key)) 1 0 + nextIndex entries v
+  use-next entries u v = cases (isNew chosen entries u) (λ e. rw e (omega arith)) (λ e. rw e (omega arith))
 
   -- no next index goes down
-  use-grows : (table : List Entry) (u v : Use) → nextIndex table v ≤ nextIndex (withUse chosen table u) v
-  use-grows table u v = cases (isNew chosen table u) (λ e. rw e (omega arith)) (λ e. rw e (omega arith))
+  use-grows : (entries : List Entry) (u v : Use) → nextIndex entries v ≤ nextIndex (withUse chosen entries u) v
+  use-grows entries u v = cases (isNew chosen entries u) (λ e. rw e (omega arith)) (λ e. rw e (omega arith))
 
   -- nor after some uses
-  pub uses-grow : (table : List Entry) (us : List Use) (v : Use) → nextIndex table v ≤ nextIndex (tableAfter chosen table us) v
-  uses-grow table [] v = omega arith
-  uses-grow table (u ∷ us) v = omega (arith, use-grows table u v, uses-grow (withUse chosen table u) us v)
+  pub uses-grow : (entries : List Entry) (us : List Use) (v : Use) → nextIndex entries v ≤ nextIndex (entriesAfter chosen entries us) v
+  uses-grow entries [] v = omega arith
+  uses-grow entries (u ∷ us) v = omega (arith, use-grows entries u v, uses-grow (withUse chosen entries u) us v)
 
   -- as many entries at most as there are distinct keys
-  pub next-low : (table : List Entry) (seen us : List Use) → Registered chosen table seen → (v : Use)
-      → nextIndex (tableAfter chosen table us) v ≤ nextIndex table v + alike v (keys sameUse seen us)
-  next-low table seen [] r v = omega arith
-  next-low table seen (u ∷ us) r v =
-      let rest = next-low (withUse chosen table u) (u ∷ seen) us (use-registered chosen table seen u r) v in
+  pub next-low : (entries : List Entry) (seen us : List Use) → Registered chosen entries seen → (v : Use)
+      → nextIndex (entriesAfter chosen entries us) v ≤ nextIndex entries v + alike v (keys sameUse seen us)
+  next-low entries seen [] r v = omega arith
+  next-low entries seen (u ∷ us) r v =
+      let rest = next-low (withUse chosen entries u) (u ∷ seen) us (use-registered chosen entries seen u r) v in
       cases (member sameUse u seen)
       (λ m.
-      let old : isNew chosen table u ≡ false = is-new chosen table seen u r ∙ rw m (cases (chosen u) (λ c. rw c) (λ c. rw c)) in
+      let old : isNew chosen entries u ≡ false = is-new chosen entries seen u r ∙ rw m (cases (chosen u) (λ c. rw c) (λ c. rw c)) in
       let same = keys-ext sameUse same-use-eq same-use-refl (u ∷ seen) seen us (seen-again sameUse same-use-eq same-use-refl u seen m) in
       let rest′ = rw (old, same) at rest in
       rw (m, old) rest′)
-      (λ m. rw m (omega (arith, rest, use-next table u v)))
+      (λ m. rw m (omega (arith, rest, use-next entries u v)))
 
   -- the table after two parts of uses
-  pub after-both : (table : List Entry) (us vs : List Use)
-      → tableAfter chosen table (us ++ vs) ≡ tableAfter chosen (tableAfter chosen table us) vs
-  after-both table [] vs = refl
-  after-both table (u ∷ us) vs = after-both (withUse chosen table u) us vs
+  pub after-both : (entries : List Entry) (us vs : List Use)
+      → entriesAfter chosen entries (us ++ vs) ≡ entriesAfter chosen (entriesAfter chosen entries us) vs
+  after-both entries [] vs = refl
+  after-both entries (u ∷ us) vs = after-both (withUse chosen entries u) us vs
 
 -- ---- what number 12 lets pass
 
 -- the next indexes of these uses are one above their tables' highest at most
 abbrev pub Limited : Format → List Entry → List Use → Type 0
-Limited f table [] = Unit {0}
-Limited f table (u ∷ us) = (nextIndex table u ≤ 1 + limitOf f (u .key)) × Limited f table us
+Limited f entries [] = Unit {0}
+Limited f entries (u ∷ us) = (nextIndex entries u ≤ 1 + limitOf f (u .key)) × Limited f entries us
 
 -- where no context uses more distinct keys than its table holds, they are so behind all uses
 pub limits-kept : (f : Format) (chosen : Use → Bool) (uses us : List Use) → passesLimit f uses us ≡ false
-    → Limited f (tableAfter chosen [] uses) us
+    → Limited f (entriesAfter chosen [] uses) us
 limits-kept f chosen uses [] e = tt
 limits-kept f chosen uses (u ∷ us) e =
     let n = alike u (keys sameUse [] uses) in
@@ -93,39 +93,39 @@ limits-of f before (passed place keeps item run) h e =
 
 -- every index of a table is one of its key's table
 abbrev pub LowTable : Format → List Entry → Type 0
-LowTable f table = Every (λ provider key index. index ≤ limitOf f key) table
+LowTable f entries = Every (λ provider key index. index ≤ limitOf f key) entries
 
 -- so is the index of every key
-pub low-index : (f : Format) (table : List Entry) (provider : Option ℕ) → LowTable f table → (key : Key)
-    → indexIn table provider key ≤ limitOf f key
-low-index f table provider low key =
-    cases (eqb (indexIn table provider key) 0) (λ e. let z = eqb-true (indexIn table provider key) 0 e in omega arith)
-    (λ e. index-holds (λ p k index. index ≤ limitOf f k) table provider key low (eqb-false (indexIn table provider key) 0 e))
+pub low-index : (f : Format) (entries : List Entry) (provider : Option ℕ) → LowTable f entries → (key : Key)
+    → indexIn entries provider key ≤ limitOf f key
+low-index f entries provider low key =
+    cases (eqb (indexIn entries provider key) 0) (λ e. let z = eqb-true (indexIn entries provider key) 0 e in omega arith)
+    (λ e. index-holds (λ p k index. index ≤ limitOf f k) entries provider key low (eqb-false (indexIn entries provider key) 0 e))
 
 -- the indexes that uses are given where they are new
 abbrev pub UsesLow : Format → (Use → Bool) → List Entry → List Use → Type 0
-UsesLow f chosen table [] = Unit {0}
-UsesLow f chosen table (u ∷ us) =
-    (isNew chosen table u ≡ true → (0 < nextIndex table u) × (nextIndex table u ≤ limitOf f (u .key)))
-    × UsesLow f chosen (withUse chosen table u) us
+UsesLow f chosen entries [] = Unit {0}
+UsesLow f chosen entries (u ∷ us) =
+    (isNew chosen entries u ≡ true → (0 < nextIndex entries u) × (nextIndex entries u ≤ limitOf f (u .key)))
+    × UsesLow f chosen (withUse chosen entries u) us
 
 -- they fit where the limits are kept behind all uses
-pub uses-low : (f : Format) (chosen : Use → Bool) (table : List Entry) (us vs : List Use)
-    → Limited f (tableAfter chosen table (us ++ vs)) (us ++ vs) → LowTable f table
-    → UsesLow f chosen table us × LowTable f (tableAfter chosen table us) × Limited f (tableAfter chosen (tableAfter chosen table us) vs) vs
-uses-low f chosen table [] vs limited low = (tt, low, limited)
-uses-low f chosen table (u ∷ us) vs limited low =
-    let fits : isNew chosen table u ≡ true → (0 < nextIndex table u) × (nextIndex table u ≤ limitOf f (u .key)) = fitting in
-    let low′ : LowTable f (withUse chosen table u) =
-    cases (isNew chosen table u) (λ e. rw e (fits e .1, low)) (λ e. rw e low) in
-    let rest = uses-low f chosen (withUse chosen table u) us vs (limited .1) low′ in
+pub uses-low : (f : Format) (chosen : Use → Bool) (entries : List Entry) (us vs : List Use)
+    → Limited f (entriesAfter chosen entries (us ++ vs)) (us ++ vs) → LowTable f entries
+    → UsesLow f chosen entries us × LowTable f (entriesAfter chosen entries us) × Limited f (entriesAfter chosen (entriesAfter chosen entries us) vs) vs
+uses-low f chosen entries [] vs limited low = (tt, low, limited)
+uses-low f chosen entries (u ∷ us) vs limited low =
+    let fits : isNew chosen entries u ≡ true → (0 < nextIndex entries u) × (nextIndex entries u ≤ limitOf f (u .key)) = fitting in
+    let low′ : LowTable f (withUse chosen entries u) =
+    cases (isNew chosen entries u) (λ e. rw e (fits e .1, low)) (λ e. rw e low) in
+    let rest = uses-low f chosen (withUse chosen entries u) us vs (limited .1) low′ in
     ((fits, rest .0), rest .1, rest .2)
   where
-    own : (sameProvider (u .provider) (u .provider) && sameKind (u .key) (u .key)) ≡ true
-    own = rw (same-provider-refl (u .provider), same-kind-refl (u .key))
+    own : (sameProvider (u .provider) (u .provider) && sameTable (u .key) (u .key)) ≡ true
+    own = rw (same-provider-refl (u .provider), same-table-refl (u .key))
 
-    fitting : isNew chosen table u ≡ true → (0 < nextIndex table u) × (nextIndex table u ≤ limitOf f (u .key))
+    fitting : isNew chosen entries u ≡ true → (0 < nextIndex entries u) × (nextIndex entries u ≤ limitOf f (u .key))
     fitting e =
-        let one : nextIndex (withUse chosen table u) u ≡ 1 + nextIndex table u = rw (e, own) in
-        let all : nextIndex (tableAfter chosen (withUse chosen table u) (us ++ vs)) u ≤ 1 + limitOf f (u .key) = limited .0 in
-        (next-index-pos table u, omega (arith, one, all, uses-grow chosen (withUse chosen table u) (us ++ vs) u))
+        let one : nextIndex (withUse chosen entries u) u ≡ 1 + nextIndex entries u = rw (e, own) in
+        let all : nextIndex (entriesAfter chosen (withUse chosen entries u) (us ++ vs)) u ≤ 1 + limitOf f (u .key) = limited .0 in
+        (next-index-pos entries u, omega (arith, one, all, uses-grow chosen (withUse chosen entries u) (us ++ vs) u))

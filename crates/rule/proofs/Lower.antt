@@ -35,7 +35,7 @@ use Rattle.records.specs.declared.Content.{Content}
 use Rattle.records.specs.declared.Content.the-variants.{Refused, Magic, ProviderInfo, Section, ProviderEvent, Initialization, String, Thread as ThreadContent, Report as ReportRead, Ignored, Skipped}
 use Rattle.records.specs.Layout.{layoutOf}
 use Rattle.records.specs.Record.{recordAt}
-use Rattle.records.specs.Item.{Argument as ArgumentItem, Item, magic, providerInfo, section, providerEvent, initialization, skipped, keyWords, Use, referentUses, argumentsUses, usesOf, ownBehind}
+use Rattle.records.specs.Item.{Argument as ArgumentItem, Item, magic, providerInfo, section, providerEvent, initialization, skipped, keyWords, Use, referentUses, argumentsUses, usesOf, ownLayout}
 use Rattle.records.specs.Models.Fixed.{fixedWords}
 use Rattle.records.specs.Models.Bounds.{ContentInside}
 use Rattle.records.proofs.Contents.{contentBytes, RecordStands, record-read}
@@ -53,7 +53,7 @@ use Rattle.reader.specs.Shown.{shownReferent, shownStream, shownReport, noneBad
 use Rattle.reader.specs.Step.{openingNumber, stopping, contentDecision, placeDecision, decisionOf, stepReply, stepTables, effectDecision, reportAnswer, plainAnswer}
 use Rattle.reader.specs.Reads.{referentItem, streamItem, argumentItems, reportItem, itemOf, Reads, ends, passes, shows, ReadsAs}
 use Rattle.reader.proofs.Lookups.{ContentFits, content-fits, ReportFits, record-whole}
-use Rattle.reader.proofs.Changes.{Kind, on-entering, enteringAs, registering, showing, stop-decided, entering-decided}
+use Rattle.reader.proofs.Changes.{IsTable, on-entering, enteringAs, registering, showing, stop-decided, entering-decided}
 use Rattle.reader.proofs.NeverFour.{part-behind}
 use Rattle.reader.proofs.Runs.{Sound, fresh-sound, step-sound}
 use Rattle.records.specs.Effect.{effectOf}
@@ -142,7 +142,7 @@ module _ (f : Format) (b : List ℕ) where
             stream-pays (e .stream),
             own .0,
             own .1,
-            length-last (ownBehind (e .own)) (e .last) (behind-few (e .own)),
+            length-last (ownLayout (e .own) .behind) (e .last) (behind-few (e .own)),
           )
         where
           stream-pays : (x : Reference) → 8 * streamWords (length (streamItem b (shownStream x))) ≤ inlineBytes x
@@ -194,22 +194,22 @@ module _ (f : Format) (b : List ℕ) where
   )
 
   -- a step that registers a key
-  registers-key : (s : State) (tables : List ℕ) (size kind index at long : ℕ) → Sound f b s tables → Kind kind → index ≤ highestOf f kind
-      → registrationOf (recordAt f b (s .place) .content) ≡ Entry kind index at long → 8 * (1 + keyWords (keyAt b kind at long)) ≤ size
-      → Stepped s tables (registering f s kind index (s .place + size))
+  registers-key : (s : State) (tables : List ℕ) (size table index at long : ℕ) → Sound f b s tables → IsTable table → index ≤ highestOf f table
+      → registrationOf (recordAt f b (s .place) .content) ≡ Entry table index at long → 8 * (1 + keyWords (keyAt b table at long)) ≤ size
+      → Stepped s tables (registering f s table index (s .place + size))
   unfolding Stepped Paid registering itemOf changed
-  registers-key s tables size kind index at long h k i r c end l p = (
+  registers-key s tables size table index at long h k i r c end l p = (
     u ∷ p .0,
     λ cost le held free. omega (
       arith,
       c,
-      p .1 cost le (holds-set f b s tables kind index at long cost h k i r (free u (member-first u (p .0))) held)
+      p .1 cost le (holds-set f b s tables table index at long cost h k i r (free u (member-first u (p .0))) held)
           (λ v m. free v (or-right (sameUse v u) (member sameUse v (p .0)) m)),
     ),
   )
     where
       u : Use
-      u = record { provider = providerIn (s .ids) (s .current); key = keyAt b kind at long }
+      u = record { provider = providerIn (s .ids) (s .current); key = keyAt b table at long }
 
   module _ (s : State) (tables : List ℕ) (sound : Sound f b s tables) (size : ℕ)
       (r : RecordStands f b (s .place) size (recordAt f b (s .place))) where
@@ -334,7 +334,7 @@ module _ (f : Format) (b : List ℕ) where
   fixed-words-low s tables i h e =
       let next = stepReply f b tables s .state .place in
       let paid : Paid next s tables (i ∷ []) = rw e at (step-pays s tables h next [] ([], λ cost le held free. omega arith)) in
-      let low = paid .1 (λ u. 0) (λ u. omega arith) (λ context kind index at long c k l n r. refl) (λ u m. refl) in
+      let low = paid .1 (λ u. 0) (λ u. omega arith) (λ context table index at long c k l n r. refl) (λ u m. refl) in
       omega (arith, low)
 
 -- the bytes of a use that stands inline, unless its key is one of these
@@ -357,5 +357,5 @@ any-run-pays f b l r =
     spelled-le keys u = cases (member sameUse u keys) (λ e. rw e (omega arith)) (λ e. rw e (omega arith))
 
     none-held : (cost : Use → ℕ) → Holds f b (opening .ids) (opening .count) (replicate (tableWords f) 0) cost
-    none-held cost context kind index at long c k i n q =
-        absurd (n (getD-replicate (tableWords f) (position f context kind index) 0 0 (position-lt f context kind index (omega arith) i)))
+    none-held cost context table index at long c k i n q =
+        absurd (n (getD-replicate (tableWords f) (position f context table index) 0 0 (position-lt f context table index (omega arith) i)))

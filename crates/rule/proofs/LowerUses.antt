@@ -51,7 +51,7 @@ use Rattle.reader.specs.Ask.{shownArgument, askedReport, askedPlace, argumentRe
 use Rattle.reader.specs.Reads.{textItem, threadItem, providerItem, valueItem, argumentItem, prepend as prependItem, argumentItems, referentItem}
 use Rattle.reader.proofs.Lookups.{LookupFits}
 use Rattle.records.proofs.Passes.{ThreadReference}
-use Rattle.reader.proofs.Changes.{Kind}
+use Rattle.reader.proofs.Changes.{IsTable}
 use Rattle.reader.proofs.Runs.{Sound}
 
 -- ---- what uses cost
@@ -126,59 +126,59 @@ provider-kept ids count id context h =
     cases (eqb context 0) (λ e. rw e)
     (λ e. let z = eqb-false context 0 e in rw (e, getD-set-other ids count (context - 1) id 0 (λ q. omega arith)))
 
--- the key that a registration of a kind has at a place
+-- the key that a registration in a table has at a place
 abbrev pub keyAt : List ℕ → ℕ → ℕ → ℕ → Key
-keyAt b kind place long =
-    pick (eqb kind 3) (threadKey (thread (wordAt b place) (wordAt b (place + 8)))) (textKey (partOf b place long))
+keyAt b table place long =
+    pick (eqb table 3) (threadKey (thread (wordAt b place) (wordAt b (place + 8)))) (textKey (partOf b place long))
 
 module _ (f : Format) (b : List ℕ) where
   -- the use of every key that an entry has, in its context, costs nothing
   abbrev pub Holds : List ℕ → ℕ → List ℕ → (Use → ℕ) → Type 0
   Holds ids count tables cost =
-      (context kind index at long : ℕ) → context ≤ count → Kind kind → index ≤ highestOf f kind
-      → (getD tables (position f context kind index) 0 ≡ 0 → ⊥)
-      → registrationOf (recordAt f b (getD tables (position f context kind index) 0) .content) ≡ Entry kind index at long
-      → cost (record { provider = providerIn ids context; key = keyAt b kind at long }) ≡ 0
+      (context table index at long : ℕ) → context ≤ count → IsTable table → index ≤ highestOf f table
+      → (getD tables (position f context table index) 0 ≡ 0 → ⊥)
+      → registrationOf (recordAt f b (getD tables (position f context table index) 0) .content) ≡ Entry table index at long
+      → cost (record { provider = providerIn ids context; key = keyAt b table at long }) ≡ 0
 
   -- they still cost nothing where an id is new, whose context has no entry yet
   pub holds-new : (s : State) (tables : List ℕ) (id : ℕ) (cost : Use → ℕ) → Sound f b s tables → (s .count ≡ 8 → ⊥)
       → Holds (s .ids) (s .count) tables cost → Holds (set (s .ids) (s .count) id) (s .count + 1) tables cost
-  holds-new s tables id cost h z held context kind index at long c k i n r =
+  holds-new s tables id cost h z held context table index at long c k i n r =
       cases (ltb (s .count) context)
-      (λ e. absurd (n (h .unopened context kind index (ltb-true (s .count) context e) (omega (arith, below)) k i)))
+      (λ e. absurd (n (h .unopened context table index (ltb-true (s .count) context e) (omega (arith, below)) k i)))
       (λ e. let l = ltb-false (s .count) context e in
-      rw (provider-kept (s .ids) (s .count) id context l) (held context kind index at long l k i n r))
+      rw (provider-kept (s .ids) (s .count) id context l) (held context table index at long l k i n r))
     where
       below : s .count + 1 ≤ 8
       below = cases (ltb (s .count) 8) (λ q. omega (arith, ltb-true (s .count) 8 q))
           (λ q. absurd (z (omega (arith, h .count, ltb-false (s .count) 8 q))))
 
   -- and where an entry is set, whose use costs nothing
-  pub holds-set : (s : State) (tables : List ℕ) (kind index at long : ℕ) (cost : Use → ℕ) → Sound f b s tables → Kind kind
-      → index ≤ highestOf f kind → registrationOf (recordAt f b (s .place) .content) ≡ Entry kind index at long
-      → cost (record { provider = providerIn (s .ids) (s .current); key = keyAt b kind at long }) ≡ 0
+  pub holds-set : (s : State) (tables : List ℕ) (table index at long : ℕ) (cost : Use → ℕ) → Sound f b s tables → IsTable table
+      → index ≤ highestOf f table → registrationOf (recordAt f b (s .place) .content) ≡ Entry table index at long
+      → cost (record { provider = providerIn (s .ids) (s .current); key = keyAt b table at long }) ≡ 0
       → Holds (s .ids) (s .count) tables cost
-      → Holds (s .ids) (s .count) (set tables (position f (s .current) kind index) (s .place)) cost
-  holds-set s tables kind index at long cost h k i r m held context kind′ index′ at′ long′ c k′ i′ n r′ =
+      → Holds (s .ids) (s .count) (set tables (position f (s .current) table index) (s .place)) cost
+  holds-set s tables table index at long cost h k i r m held context table′ index′ at′ long′ c k′ i′ n r′ =
       cases (eqb p here) (λ e. same (eqb-true p here e))
       (λ e. let o = getD-set-other tables here p (s .place) 0 (eqb-false p here e) in
-      held context kind′ index′ at′ long′ c k′ i′ (λ z. n (o ∙ z)) (rw o at r′))
+      held context table′ index′ at′ long′ c k′ i′ (λ z. n (o ∙ z)) (rw o at r′))
     where
       p : ℕ
-      p = position f context kind′ index′
+      p = position f context table′ index′
 
       here : ℕ
-      here = position f (s .current) kind index
+      here = position f (s .current) table index
 
       inside : here < length tables
-      inside = omega (arith, h .room, position-lt f (s .current) kind index (omega (arith, h .current, h .count)) i)
+      inside = omega (arith, h .room, position-lt f (s .current) table index (omega (arith, h .current, h .count)) i)
 
-      same : p ≡ here → cost (record { provider = providerIn (s .ids) context; key = keyAt b kind′ at′ long′ }) ≡ 0
+      same : p ≡ here → cost (record { provider = providerIn (s .ids) context; key = keyAt b table′ at′ long′ }) ≡ 0
       same e =
-          let a = position-apart f context kind′ index′ (s .current) kind index k′ k i′ i e in
-          let q : registrationOf (recordAt f b (s .place) .content) ≡ Entry kind′ index′ at′ long′ =
+          let a = position-apart f context table′ index′ (s .current) table index k′ k i′ i e in
+          let q : registrationOf (recordAt f b (s .place) .content) ≡ Entry table′ index′ at′ long′ =
           rw (e, getD-set-same tables here (s .place) 0 inside) at r′ in
-          let w : Entry kind index at long ≡ Entry kind′ index′ at′ long′ = sym r ∙ q in
+          let w : Entry table index at long ≡ Entry table′ index′ at′ long′ = sym r ∙ q in
           let u : at′ ≡ at = cc in
           let v : long′ ≡ long = cc in
           rw (a .0, a .1, u, v) m
@@ -188,72 +188,72 @@ module _ (f : Format) (b : List ℕ) where
   module _ (ids : List ℕ) (count : ℕ) (tables : List ℕ) (cost : Use → ℕ) (le : Cost cost) (held : Holds ids count tables cost) (context : ℕ)
       (low : context ≤ count) where
     -- a text that is found by its index costs nothing
-    text-found : (limit index : ℕ)
-        → sumBy cost (textUses (providerIn ids context) (textItem b (shownText (resolved f b tables context 2 limit (Index index))))) ≡ 0
+    text-found : (until index : ℕ)
+        → sumBy cost (textUses (providerIn ids context) (textItem b (shownText (resolved f b tables context 2 until (Index index))))) ≡ 0
     unfolding shownText
-    text-found limit index = go (resolved f b tables context 2 limit (Index index)) refl
+    text-found until index = go (resolved f b tables context 2 until (Index index)) refl
       where
-        go : (x : Resolved) → resolved f b tables context 2 limit (Index index) ≡ x
+        go : (x : Resolved) → resolved f b tables context 2 until (Index index) ≡ x
             → sumBy cost (textUses (providerIn ids context) (textItem b (shownText x))) ≡ 0
         go Bad e = refl
         go (Known place long) e =
-            let r = resolved-known f b tables context 2 index limit place long e in
+            let r = resolved-known f b tables context 2 index until place long e in
             text-registered cost (providerIn ids context) (partOf b place long)
             (held context 2 index place long low (inl refl) (r .low) (r .is-set) (r .known .registers))
         go (Unresolved number) e = refl
 
     -- a text costs no more than it has inline
-    pub text-pays : (limit : ℕ) (r : Reference)
-        → sumBy cost (textUses (providerIn ids context) (textItem b (shownText (resolved f b tables context 2 limit r)))) ≤ inlineBytes r
+    pub text-pays : (until : ℕ) (r : Reference)
+        → sumBy cost (textUses (providerIn ids context) (textItem b (shownText (resolved f b tables context 2 until r)))) ≤ inlineBytes r
     unfolding resolved shownText
-    text-pays limit (Inline place long) =
+    text-pays until (Inline place long) =
         omega (arith, text-inline cost le (providerIn ids context) (partOf b place long), part-length b place long)
-    text-pays limit (Index index) = omega (arith, text-found limit index)
+    text-pays until (Index index) = omega (arith, text-found until index)
 
     -- a thread that is found by its index costs nothing
-    thread-found : (limit index : ℕ)
-        → sumBy cost (threadUses (providerIn ids context) (threadItem (shownThread b (resolved f b tables context 3 limit (Index index))))) ≡ 0
+    thread-found : (until index : ℕ)
+        → sumBy cost (threadUses (providerIn ids context) (threadItem (shownThread b (resolved f b tables context 3 until (Index index))))) ≡ 0
     unfolding shownThread
-    thread-found limit index = go (resolved f b tables context 3 limit (Index index)) refl
+    thread-found until index = go (resolved f b tables context 3 until (Index index)) refl
       where
-        go : (x : Resolved) → resolved f b tables context 3 limit (Index index) ≡ x
+        go : (x : Resolved) → resolved f b tables context 3 until (Index index) ≡ x
             → sumBy cost (threadUses (providerIn ids context) (threadItem (shownThread b x))) ≡ 0
         go Bad e = refl
         go (Known place long) e =
-            let r = resolved-known f b tables context 3 index limit place long e in
+            let r = resolved-known f b tables context 3 index until place long e in
             thread-registered cost (providerIn ids context) (thread (wordAt b place) (wordAt b (place + 8)))
             (held context 3 index place long low (inr refl) (r .low) (r .is-set) (r .known .registers))
         go (Unresolved number) e = refl
 
     -- a thread costs no more than it has inline
-    pub thread-pays : (limit : ℕ) (r : Reference) → ThreadReference r
-        → sumBy cost (threadUses (providerIn ids context) (threadItem (shownThread b (resolved f b tables context 3 limit r)))) ≤ inlineBytes r
+    pub thread-pays : (until : ℕ) (r : Reference) → ThreadReference r
+        → sumBy cost (threadUses (providerIn ids context) (threadItem (shownThread b (resolved f b tables context 3 until r)))) ≤ inlineBytes r
     unfolding resolved shownThread
-    thread-pays limit (Inline place long) e =
+    thread-pays until (Inline place long) e =
         rw e (thread-inline cost le (providerIn ids context) (thread (wordAt b place) (wordAt b (place + 8))))
-    thread-pays limit (Index index) e = omega (arith, thread-found limit index)
+    thread-pays until (Index index) e = omega (arith, thread-found until index)
 
     -- what a record refers to costs no more than it has inline
-    pub referent-pays : (limit : ℕ) (s : Lookup) → LookupFits s
-        → sumBy cost (referentUses (providerIn ids context) (referentItem b (shownReferent b (s .table) (resolved f b tables context (s .table) limit (s .reference)))))
+    pub referent-pays : (until : ℕ) (s : Lookup) → LookupFits s
+        → sumBy cost (referentUses (providerIn ids context) (referentItem b (shownReferent b (s .table) (resolved f b tables context (s .table) until (s .reference)))))
         ≤ inlineBytes (s .reference)
     unfolding shownReferent
-    referent-pays limit s fit = go (fit .kinds)
+    referent-pays until s fit = go (fit .table)
       where
         go : (s .table ≡ 2) ⊎ (s .table ≡ 3)
-            → sumBy cost (referentUses (providerIn ids context) (referentItem b (shownReferent b (s .table) (resolved f b tables context (s .table) limit (s .reference)))))
+            → sumBy cost (referentUses (providerIn ids context) (referentItem b (shownReferent b (s .table) (resolved f b tables context (s .table) until (s .reference)))))
             ≤ inlineBytes (s .reference)
-        go (inl e) = rw e (text-pays limit (s .reference))
-        go (inr e) = rw e (thread-pays limit (s .reference) (fit .thread e))
+        go (inl e) = rw e (text-pays until (s .reference))
+        go (inr e) = rw e (thread-pays until (s .reference) (fit .thread e))
 
     -- a value costs no more than it has behind the name
-    value-pays : (limit : ℕ) (v : Value)
-        → 8 * valueWords (valueItem b (shownValue f b tables context limit v))
-        + sumBy cost (valueUses (providerIn ids context) (valueItem b (shownValue f b tables context limit v)))
+    value-pays : (until : ℕ) (v : Value)
+        → 8 * valueWords (valueItem b (shownValue f b tables context until v))
+        + sumBy cost (valueUses (providerIn ids context) (valueItem b (shownValue f b tables context until v)))
         ≤ valueBytes v
     unfolding shownValue valueBytes
-    value-pays limit (ScalarRead x) = omega arith
-    value-pays limit (TextRead r) = omega (arith, text-pays limit r)
+    value-pays until (ScalarRead x) = omega arith
+    value-pays until (TextRead r) = omega (arith, text-pays until r)
 
     -- the arguments of an event, asked for in the state right after it
     module _ (s : State) (here : s .current ≡ context) (place : ℕ) (e : ReadReport) (is : recordAt f b place .content ≡ ReportRead e) where

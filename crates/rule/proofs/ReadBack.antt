@@ -36,10 +36,10 @@ use Rattle.format.specs.Limits.{longestArchive}
 use Rattle.format.specs.Header.{archiveNumber}
 use Rattle.reader.specs.Shown.{noneBad}
 use Rattle.records.specs.Effect.{effectOf}
-use Rattle.rule.specs.Rule.{usesAll, Entry, indexIn, nextIndex, keyRecord, isNew, withUse, tableAfter, registrations, recordsFrom, chosenIn, rule}
+use Rattle.rule.specs.Rule.{usesAll, Entry, indexIn, nextIndex, keyRecord, isNew, withUse, entriesAfter, registrations, recordsFrom, chosenIn, rule}
 use Rattle.rule.specs.Refusal.{keepsAt, runFrom, runOf, lossRefusal}
 use Rattle.rule.proofs.WholeRuns.{run-ends, run-passes, run-shows}
-use Rattle.rule.proofs.Tables.{kindOf, Made, Every}
+use Rattle.rule.proofs.Tables.{keyTable, Made, Every}
 use Rattle.rule.proofs.Entries.{ContextIs, suits-context, context-later, KeyFits, keyContent, key-index, key-long, key-stands, Standing, stand-later, stand-set}
 use Rattle.encoding.proofs.EncodedLayouts.{ItemFits}
 use Rattle.encoding.proofs.EncodedItems.{item-long, item-stands}
@@ -50,17 +50,17 @@ use Rattle.rule.proofs.Items.{ItemSuits, decision-is, end-is, not-end, 
 
 -- keys that fit where they are registered, with the indexes that they are given
 abbrev pub UsesFit : Format → (Use → Bool) → List Entry → List Use → Type 0
-UsesFit f chosen table [] = Unit {0}
-UsesFit f chosen table (u ∷ us) =
-    (isNew chosen table u ≡ true → KeyFits f (nextIndex table u) (u .key)) × UsesFit f chosen (withUse chosen table u) us
+UsesFit f chosen entries [] = Unit {0}
+UsesFit f chosen entries (u ∷ us) =
+    (isNew chosen entries u ≡ true → KeyFits f (nextIndex entries u) (u .key)) × UsesFit f chosen (withUse chosen entries u) us
 
 -- items that fit as they are written: each new key under its index, then the item by the indexes of its keys
 abbrev pub AllFit : Format → (Use → Bool) → List Entry → List Item → Type 0
-AllFit f chosen table [] = Unit {0}
-AllFit f chosen table (i ∷ items) =
-    UsesFit f chosen table (usesOf i)
-    × ItemFits f (indexIn (tableAfter chosen table (usesOf i)) (itemProvider i)) i
-    × AllFit f chosen (tableAfter chosen table (usesOf i)) items
+AllFit f chosen entries [] = Unit {0}
+AllFit f chosen entries (i ∷ items) =
+    UsesFit f chosen entries (usesOf i)
+    × ItemFits f (indexIn (entriesAfter chosen entries (usesOf i)) (itemProvider i)) i
+    × AllFit f chosen (entriesAfter chosen entries (usesOf i)) items
 
 -- items that can be shown in this order from these contexts and this rate on
 abbrev pub AllSuit : State → List Item → Type 0
@@ -143,11 +143,11 @@ behind archive place a b is = rw (← drop-drop (length a) place archive, is, dr
 -- ---- a step at a time
 
 -- reader and writer together: the state is sound, and its tables hold what the writer's table says
-record Synced (f : Format) (archive : List ℕ) (s : State) (tables : List ℕ) (table : List Entry) : Type 0 where
+record Synced (f : Format) (archive : List ℕ) (s : State) (tables : List ℕ) (entries : List Entry) : Type 0 where
   opens : openingNumber f archive (length tables) ≡ 0
   sound : Sound f archive s tables
-  made : Made table
-  stands : Every (Standing f archive s tables) table
+  made : Made entries
+  stands : Every (Standing f archive s tables) entries
 
 -- what comes of reading on from a state: these items are read, and however many steps a run takes, it is not refused for a loss
 abbrev Kept : Format → List ℕ → State → List ℕ → Type 0
@@ -189,17 +189,17 @@ shows-kept f archive s tables i e keeps k zero = refl
 shows-kept f archive s tables i e keeps k (suc steps) = rw (run-shows f archive steps s tables i e, keeps) (k steps)
 
 -- at the end a step replies 0
-end-back : (f : Format) (archive : List ℕ) (s : State) (tables : List ℕ) (table : List Entry) → Synced f archive s tables table
+end-back : (f : Format) (archive : List ℕ) (s : State) (tables : List ℕ) (entries : List Entry) → Synced f archive s tables entries
     → drop (s .place) archive ≡ [] → Back f archive s tables []
 unfolding stopping
-end-back f archive s tables table sync is =
+end-back f archive s tables entries sync is =
     let e : s .place ≡ length archive = omega (arith, ap length is, length-drop (s .place) archive, sync .sound .before) in
     let answer = ap (λ d. d .answer) (end-is f archive tables s (sync .opens) (sync .sound) (eq-eqb (s .place) (length archive) e)) in
     record { reads = ends s tables (s .place) answer; kept = end-kept f archive s tables (s .place) answer }
 
 -- what a registration does
 key-decides : (f : Format) (archive tables : List ℕ) (s : State) (index next : ℕ) (key : Key)
-    → contentDecision f archive tables s (keyContent index (s .place) key) next ≡ registering f s (kindOf key) index next
+    → contentDecision f archive tables s (keyContent index (s .place) key) next ≡ registering f s (keyTable key) index next
 unfolding contentDecision effectDecision plainAnswer noneBad followed changeOf effectOf registering
 key-decides f archive tables s index next (textKey bytes) = refl
 key-decides f archive tables s index next (threadKey t) = refl
@@ -210,21 +210,21 @@ key-loses-nothing : (f : Format) (index place : ℕ) (key : Key) → KeyFits f i
 key-loses-nothing f index place (textKey bytes) fit = string-keeps f index bytes place fit
 key-loses-nothing f index place (threadKey (thread p t)) fit = thread-keeps f index (thread p t) place (fit .1)
 
--- one registration: a step that shows nothing, and sets the entry of the use's context, kind and index
-module _ (f : Format) (archive : List ℕ) (s : State) (tables : List ℕ) (table : List Entry) (u : Use) (sync : Synced f archive s tables table)
-    (some-place : 0 < s .place) (current : ContextIs s (u .provider) (s .current)) (fit : KeyFits f (nextIndex table u) (u .key))
-    (there : At archive (s .place) (keyRecord (nextIndex table u) (u .key))) where
+-- one registration: a step that shows nothing, and sets the entry of the use's context, table and index
+module _ (f : Format) (archive : List ℕ) (s : State) (tables : List ℕ) (entries : List Entry) (u : Use) (sync : Synced f archive s tables entries)
+    (some-place : 0 < s .place) (current : ContextIs s (u .provider) (s .current)) (fit : KeyFits f (nextIndex entries u) (u .key))
+    (there : At archive (s .place) (keyRecord (nextIndex entries u) (u .key))) where
   abbrev n : ℕ
-  n = nextIndex table u
+  n = nextIndex entries u
 
   abbrev next : ℕ
   next = s .place + length (keyRecord n (u .key))
 
   abbrev here : ℕ
-  here = position f (s .current) (kindOf (u .key)) n
+  here = position f (s .current) (keyTable (u .key)) n
 
   -- that step is decided as a registration
-  decided : decisionOf f archive tables s ≡ registering f s (kindOf (u .key)) n next
+  decided : decisionOf f archive tables s ≡ registering f s (keyTable (u .key)) n next
   decided =
       decision-is f archive tables s (keyContent n (s .place) (u .key)) next (sync .opens) (sync .sound)
       (not-end archive (s .place) (keyRecord n (u .key)) there (key-long n (u .key)))
@@ -250,7 +250,7 @@ module _ (f : Format) (archive : List ℕ) (s : State) (tables : List ℕ) (tabl
             (omega (
               arith,
               sync .sound .room,
-              position-lt f (s .current) (kindOf (u .key)) n (omega (arith, sync .sound .current, sync .sound .count))
+              position-lt f (s .current) (keyTable (u .key)) n (omega (arith, sync .sound .current, sync .sound .count))
                   (key-index f n (u .key) fit .1),
             ));
         some = some-place;
@@ -260,7 +260,7 @@ module _ (f : Format) (archive : List ℕ) (s : State) (tables : List ℕ) (tabl
       }
 
   -- and behind it reader and writer are together again
-  registered : Synced f archive (moved s next) (set tables here (s .place)) (record { use-of = u; index = n } ∷ table)
+  registered : Synced f archive (moved s next) (set tables here (s .place)) (record { use-of = u; index = n } ∷ entries)
   registered =
       record {
         opens = rw (length-set tables here (s .place)) (sync .opens);
@@ -268,8 +268,8 @@ module _ (f : Format) (archive : List ℕ) (s : State) (tables : List ℕ) (tabl
         made = (refl, sync .made);
         stands = (
           new-stands,
-          stand-later f archive s (moved s next) (set tables here (s .place)) grown table
-              (stand-set f archive s tables u (s .current) n (s .place) current (key-index f n (u .key) fit .1) table (sync .made) (omega arith) (sync .stands)),
+          stand-later f archive s (moved s next) (set tables here (s .place)) grown entries
+              (stand-set f archive s tables u (s .current) n (s .place) current (key-index f n (u .key) fit .1) entries (sync .made) (omega arith) (sync .stands)),
         );
       }
 
@@ -285,51 +285,51 @@ module _ (f : Format) (archive : List ℕ) (s : State) (tables : List ℕ) (tabl
       }
 
 -- the registrations of some uses, one behind the other, and what comes of reading on behind them
-registrations-back : (f : Format) (archive : List ℕ) (chosen : Use → Bool) (us : List Use) (s : State) (tables : List ℕ) (table : List Entry)
-    (rest : List ℕ) (items : List Item) → Synced f archive s tables table → 0 < s .place → Own (providerItem (providerOf (contextsOf s))) us
-    → UsesFit f chosen table us → drop (s .place) archive ≡ registrations chosen table us ++ rest
-    → ((s′ : State) (tables′ : List ℕ) → Synced f archive s′ tables′ (tableAfter chosen table us) → contextsOf s′ ≡ contextsOf s
+registrations-back : (f : Format) (archive : List ℕ) (chosen : Use → Bool) (us : List Use) (s : State) (tables : List ℕ) (entries : List Entry)
+    (rest : List ℕ) (items : List Item) → Synced f archive s tables entries → 0 < s .place → Own (providerItem (providerOf (contextsOf s))) us
+    → UsesFit f chosen entries us → drop (s .place) archive ≡ registrations chosen entries us ++ rest
+    → ((s′ : State) (tables′ : List ℕ) → Synced f archive s′ tables′ (entriesAfter chosen entries us) → contextsOf s′ ≡ contextsOf s
     → 0 < s′ .place → drop (s′ .place) archive ≡ rest → Back f archive s′ tables′ items)
     → Back f archive s tables items
-registrations-back f archive chosen [] s tables table rest items sync low own fit is k = k s tables sync refl low is
-registrations-back f archive chosen (u ∷ us) s tables table rest items sync low own fit is k =
-    cases (isNew chosen table u)
+registrations-back f archive chosen [] s tables entries rest items sync low own fit is k = k s tables sync refl low is
+registrations-back f archive chosen (u ∷ us) s tables entries rest items sync low own fit is k =
+    cases (isNew chosen entries u)
     (λ e.
-    let n = nextIndex table u in
+    let n = nextIndex entries u in
     let first = keyRecord n (u .key) in
-    let table′ : List Entry = record { use-of = u; index = n } ∷ table in
-    let more = registrations chosen table′ us ++ rest in
-    let is′ : drop (s .place) archive ≡ first ++ more = rw e at is ∙ append-assoc first (registrations chosen table′ us) rest in
+    let entries′ : List Entry = record { use-of = u; index = n } ∷ entries in
+    let more = registrations chosen entries′ us ++ rest in
+    let is′ : drop (s .place) archive ≡ first ++ more = rw e at is ∙ append-assoc first (registrations chosen entries′ us) rest in
     let there : At archive (s .place) first = (more, is′) in
     let fit′ = fit .0 e in
     let current = suits-context s (u .provider) (sync .sound .current) (sym (own .0)) in
     let next = s .place + length first in
-    let tables′ = set tables (position f (s .current) (kindOf (u .key)) n) (s .place) in
-    registration-back f archive s tables table u sync low current fit′ there items
-    (registrations-back f archive chosen us (moved s next) tables′ table′ rest items (registered f archive s tables table u sync low current fit′ there)
+    let tables′ = set tables (position f (s .current) (keyTable (u .key)) n) (s .place) in
+    registration-back f archive s tables entries u sync low current fit′ there items
+    (registrations-back f archive chosen us (moved s next) tables′ entries′ rest items (registered f archive s tables entries u sync low current fit′ there)
     (omega arith) (own .1) (rw e at (fit .1)) (behind archive (s .place) first more is′) (rw e at k)))
-    (λ e. registrations-back f archive chosen us s tables table rest items sync low (own .1) (rw e at (fit .1)) (rw e at is) (rw e at k))
+    (λ e. registrations-back f archive chosen us s tables entries rest items sync low (own .1) (rw e at (fit .1)) (rw e at is) (rw e at k))
 
 -- one item: a step that shows it, and what comes of reading on
-item-back : (f : Format) (archive : List ℕ) (i : Item) (items : List Item) (s : State) (tables : List ℕ) (table : List Entry) (rest : List ℕ)
-    → Synced f archive s tables table → ItemSuits (contextsOf s) i → ItemFits f (indexIn table (itemProvider i)) i
-    → drop (s .place) archive ≡ itemRecord (indexIn table (itemProvider i)) i ++ rest
-    → ((s′ : State) (tables′ : List ℕ) → Synced f archive s′ tables′ table → contextsOf s′ ≡ after (contextsOf s) i → 0 < s′ .place
+item-back : (f : Format) (archive : List ℕ) (i : Item) (items : List Item) (s : State) (tables : List ℕ) (entries : List Entry) (rest : List ℕ)
+    → Synced f archive s tables entries → ItemSuits (contextsOf s) i → ItemFits f (indexIn entries (itemProvider i)) i
+    → drop (s .place) archive ≡ itemRecord (indexIn entries (itemProvider i)) i ++ rest
+    → ((s′ : State) (tables′ : List ℕ) → Synced f archive s′ tables′ entries → contextsOf s′ ≡ after (contextsOf s) i → 0 < s′ .place
     → drop (s′ .place) archive ≡ rest → Back f archive s′ tables′ items)
     → Back f archive s tables (i ∷ items)
-item-back f archive i items s tables table rest sync suits fit is k =
-    let index = indexIn table (itemProvider i) in
+item-back f archive i items s tables entries rest sync suits fit is k =
+    let index = indexIn entries (itemProvider i) in
     let bytes = itemRecord index i in
-    let shown = item-shown f archive tables s table (sync .opens) (sync .sound) (sync .stands) i suits fit (rest, is) in
+    let shown = item-shown f archive tables s entries (sync .opens) (sync .sound) (sync .stands) i suits fit (rest, is) in
     let s′ = stepReply f archive tables s .state in
     let tables′ = stepTables f archive tables s in
     let item : itemOf f archive tables′ s′ (stepReply f archive tables s .answer) ≡ some i = rw (shown .keeps) (shown .item) in
-    let sync′ : Synced f archive s′ tables′ table =
+    let sync′ : Synced f archive s′ tables′ entries =
     record {
       opens = rw (shown .keeps) (sync .opens);
       sound = step-sound f archive tables s (sync .sound);
       made = sync .made;
-      stands = rw (shown .keeps) (stand-later f archive s s′ tables (step-grows f archive tables s) table (sync .stands));
+      stands = rw (shown .keeps) (stand-later f archive s s′ tables (step-grows f archive tables s) entries (sync .stands));
     } in
     let next = k s′ tables′ sync′ (contexts-by-items f archive tables s ∙ ap (afterShown (contextsOf s)) item)
     (omega (arith, shown .place, item-long index i)) (rw (shown .place) (behind archive (s .place) bytes rest is)) in
@@ -338,19 +338,19 @@ item-back f archive i items s tables table rest sync suits fit is k =
     record { reads = shows s tables i items item (next .reads); kept = shows-kept f archive s tables i item keeps (next .kept) }
 
 -- from a state behind the magic, with its tables in step with the writer's, what the rule writes for items reads as those items, and loses nothing
-items-back : (f : Format) (archive : List ℕ) (chosen : Use → Bool) (items : List Item) (s : State) (tables : List ℕ) (table : List Entry)
-    → Synced f archive s tables table → 0 < s .place → AllSuit (contextsOf s) items → AllFit f chosen table items
-    → drop (s .place) archive ≡ recordsFrom chosen table items → Back f archive s tables items
-items-back f archive chosen [] s tables table sync low suits fit is = end-back f archive s tables table sync is
-items-back f archive chosen (i ∷ items) s tables table sync low suits fit is =
-    let table′ = tableAfter chosen table (usesOf i) in
-    let bytes = itemRecord (indexIn table′ (itemProvider i)) i in
-    registrations-back f archive chosen (usesOf i) s tables table (bytes ++ recordsFrom chosen table′ items) (i ∷ items) sync low
+items-back : (f : Format) (archive : List ℕ) (chosen : Use → Bool) (items : List Item) (s : State) (tables : List ℕ) (entries : List Entry)
+    → Synced f archive s tables entries → 0 < s .place → AllSuit (contextsOf s) items → AllFit f chosen entries items
+    → drop (s .place) archive ≡ recordsFrom chosen entries items → Back f archive s tables items
+items-back f archive chosen [] s tables entries sync low suits fit is = end-back f archive s tables entries sync is
+items-back f archive chosen (i ∷ items) s tables entries sync low suits fit is =
+    let entries′ = entriesAfter chosen entries (usesOf i) in
+    let bytes = itemRecord (indexIn entries′ (itemProvider i)) i in
+    registrations-back f archive chosen (usesOf i) s tables entries (bytes ++ recordsFrom chosen entries′ items) (i ∷ items) sync low
     (own-item (contextsOf s) i (suits .0)) (fit .0) is
     (λ s′ tables′ sync′ same low′ is′.
-    item-back f archive i items s′ tables′ table′ (recordsFrom chosen table′ items) sync′ (rw same (suits .0)) (fit .1) is′
+    item-back f archive i items s′ tables′ entries′ (recordsFrom chosen entries′ items) sync′ (rw same (suits .0)) (fit .1) is′
     (λ s″ tables″ sync″ same′ low″ is″.
-    items-back f archive chosen items s″ tables″ table′ sync″ low″ (rw (same′, same) (suits .1)) (fit .2) is″))
+    items-back f archive chosen items s″ tables″ entries′ sync″ low″ (rw (same′, same) (suits .1)) (fit .2) is″))
 
 -- ---- the whole
 

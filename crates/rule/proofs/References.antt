@@ -16,7 +16,8 @@ use Rattle.format.specs.declared.Reference.{Reference}
 use Rattle.format.specs.declared.Reference.the-variants.{Inline, Index}
 use Rattle.arguments.specs.declared.Value.{Value as ReadValue}
 use Rattle.arguments.specs.declared.Value.the-variants.{Scalar as ScalarValue, Text as TextValue}
-use Rattle.records.specs.Item.{Shown, known, unresolved, Thread, thread, Text, Value, scalar, text, textKey, threadKey, Referent, textReferent, threadReferent, referentTable}
+use Rattle.records.specs.Item.{Shown, known, unresolved, Thread, thread, Text, Value, scalar, text, textKey, threadKey, Referent, textReferent, threadReferent}
+use Rattle.encoding.specs.Models.Part.{referentTable}
 use Rattle.encoding.specs.Encoded.{textIndex, threadIndex, textInline, threadInline, encodedText, encodedThread, stream, encodedReferent}
 use Rattle.encoding.proofs.EncodedParts.{Spells}
 use Rattle.encoding.proofs.EncodedRecords.{body-text, body-thread}
@@ -49,65 +50,65 @@ part-is bytes place n b long is =
 
 -- ---- references
 
-module _ (f : Format) (archive tables : List ℕ) (s : State) (table : List Entry) (provider : Option ℕ) (context limit : ℕ)
-    (sound : Sound f archive s tables) (own : ContextIs s provider context) (late : s .place ≤ limit)
-    (stands : Every (Standing f archive s tables) table) where
+module _ (f : Format) (archive tables : List ℕ) (s : State) (entries : List Entry) (provider : Option ℕ) (context until : ℕ)
+    (sound : Sound f archive s tables) (own : ContextIs s provider context) (late : s .place ≤ until)
+    (stands : Every (Standing f archive s tables) entries) where
   inline-text : (b : List ℕ) (r : Reference) → Spells archive r (textInline b)
-      → textItem archive (shownText (resolved f archive tables context 2 limit r)) ≡ known b
+      → textItem archive (shownText (resolved f archive tables context 2 until r)) ≡ known b
   unfolding resolved shownText
   inline-text b (Inline place n) h = ap known (part-is archive place n b (h .0) (h .1))
   inline-text b (Index i) h = absurd h
 
-  index-text : (b : List ℕ) (r : Reference) → (indexIn table provider (textKey b) ≡ 0 → ⊥)
-      → Spells archive r (textIndex (indexIn table provider (textKey b)))
-      → textItem archive (shownText (resolved f archive tables context 2 limit r)) ≡ known b
+  index-text : (b : List ℕ) (r : Reference) → (indexIn entries provider (textKey b) ≡ 0 → ⊥)
+      → Spells archive r (textIndex (indexIn entries provider (textKey b)))
+      → textItem archive (shownText (resolved f archive tables context 2 until r)) ≡ known b
   unfolding shownText
   index-text b (Inline place n) given h = absurd h
   index-text b (Index i) given h =
-      let index = indexIn table provider (textKey b) in
-      let k = index-holds (Standing f archive s tables) table provider (textKey b) stands given in
-      rw (h, stand-known f archive s tables provider (textKey b) index context limit sound own late k)
+      let index = indexIn entries provider (textKey b) in
+      let k = index-holds (Standing f archive s tables) entries provider (textKey b) stands given in
+      rw (h, stand-known f archive s tables provider (textKey b) index context until sound own late k)
       (ap known (part-is archive (k .place + 8) (length b) b refl
       (body-text 2 (index of 15 ∷ 0 of 1 ∷ length b of 15 ∷ 0 of 17 ∷ []) b archive (k .place) (k .there))))
 
   -- a text that was written is shown
-  pub text-shown : (t : Text) (r : Reference) → TextFits f (indexIn table provider) t → Spells archive r (encodedText (indexIn table provider) t)
-      → textItem archive (shownText (resolved f archive tables context 2 limit r)) ≡ t
+  pub text-shown : (t : Text) (r : Reference) → TextFits f (indexIn entries provider) t → Spells archive r (encodedText (indexIn entries provider) t)
+      → textItem archive (shownText (resolved f archive tables context 2 until r)) ≡ t
   text-shown (known b) r fit h =
-      let i = indexIn table provider (textKey b) in
+      let i = indexIn entries provider (textKey b) in
       cases (eqb i 0) (λ e. inline-text b r (rw e at h)) (λ e. index-text b r (eqb-false i 0 e) (rw e at h))
   text-shown (unresolved i) r fit h = absurd fit
 
   inline-thread : (t : Thread) (r : Reference) → Spells archive r (threadInline t)
-      → threadItem (shownThread archive (resolved f archive tables context 3 limit r)) ≡ known t
+      → threadItem (shownThread archive (resolved f archive tables context 3 until r)) ≡ known t
   unfolding resolved shownThread
   inline-thread (thread p t) (Inline place n) h = rw (h .0, h .1)
   inline-thread t (Index i) h = absurd h
 
-  index-thread : (p t : ℕ) (r : Reference) → (indexIn table provider (threadKey (thread p t)) ≡ 0 → ⊥)
-      → Spells archive r (threadIndex (indexIn table provider (threadKey (thread p t))))
-      → threadItem (shownThread archive (resolved f archive tables context 3 limit r)) ≡ known (thread p t)
+  index-thread : (p t : ℕ) (r : Reference) → (indexIn entries provider (threadKey (thread p t)) ≡ 0 → ⊥)
+      → Spells archive r (threadIndex (indexIn entries provider (threadKey (thread p t))))
+      → threadItem (shownThread archive (resolved f archive tables context 3 until r)) ≡ known (thread p t)
   unfolding shownThread
   index-thread p t (Inline place n) given h = absurd h
   index-thread p t (Index i) given h =
       let key = threadKey (thread p t) in
-      let index = indexIn table provider key in
-      let k = index-holds (Standing f archive s tables) table provider key stands given in
+      let index = indexIn entries provider key in
+      let k = index-holds (Standing f archive s tables) entries provider key stands given in
       let w = body-thread 3 (index of 8 ∷ 0 of 40 ∷ []) p t archive (k .place) (k .fits .2) (k .fits .3) (k .there) in
-      rw (h, stand-known f archive s tables provider key index context limit sound own late k, w .0, w .1)
+      rw (h, stand-known f archive s tables provider key index context until sound own late k, w .0, w .1)
 
   -- a thread that was written is shown
-  pub thread-shown : (t : Shown Thread) (r : Reference) → ThreadFits (indexIn table provider) t
-      → Spells archive r (encodedThread (indexIn table provider) t)
-      → threadItem (shownThread archive (resolved f archive tables context 3 limit r)) ≡ t
+  pub thread-shown : (t : Shown Thread) (r : Reference) → ThreadFits (indexIn entries provider) t
+      → Spells archive r (encodedThread (indexIn entries provider) t)
+      → threadItem (shownThread archive (resolved f archive tables context 3 until r)) ≡ t
   thread-shown (known (thread p t)) r fit h =
-      let i = indexIn table provider (threadKey (thread p t)) in
+      let i = indexIn entries provider (threadKey (thread p t)) in
       cases (eqb i 0) (λ e. inline-thread (thread p t) r (rw e at h)) (λ e. index-thread p t r (eqb-false i 0 e) (rw e at h))
   thread-shown (unresolved i) r fit h = absurd fit
 
   -- a value that was written is shown
-  pub value-shown : (v : Value) (q : ReadValue) → ValueFits f (indexIn table provider) v → SpellsValue archive (indexIn table provider) q v
-      → valueItem archive (shownValue f archive tables context limit q) ≡ v
+  pub value-shown : (v : Value) (q : ReadValue) → ValueFits f (indexIn entries provider) v → SpellsValue archive (indexIn entries provider) q v
+      → valueItem archive (shownValue f archive tables context until q) ≡ v
   unfolding shownValue
   value-shown (scalar a) (ScalarValue b) fit h = ap scalar h
   value-shown (scalar a) (TextValue r) fit h = absurd h
@@ -115,12 +116,12 @@ module _ (f : Format) (archive tables : List ℕ) (s : State) (table : List Entr
   value-shown (text t) (TextValue r) fit h = ap text (text-shown t r fit h)
 
   -- what a record refers to is shown
-  pub referent-shown : (x : Referent) (kind : ℕ) (r : Reference) → ReferentFits f (indexIn table provider) x → kind ≡ referentTable x
-      → Spells archive r (encodedReferent (indexIn table provider) x)
-      → referentItem archive (shownReferent archive kind (resolved f archive tables context kind limit r)) ≡ x
+  pub referent-shown : (x : Referent) (table : ℕ) (r : Reference) → ReferentFits f (indexIn entries provider) x → table ≡ referentTable x
+      → Spells archive r (encodedReferent (indexIn entries provider) x)
+      → referentItem archive (shownReferent archive table (resolved f archive tables context table until r)) ≡ x
   unfolding shownReferent
-  referent-shown (textReferent t) kind r fit e h = rw e (ap textReferent (text-shown t r fit h))
-  referent-shown (threadReferent t) kind r fit e h = rw e (ap threadReferent (thread-shown t r fit h))
+  referent-shown (textReferent t) table r fit e h = rw e (ap textReferent (text-shown t r fit h))
+  referent-shown (threadReferent t) table r fit e h = rw e (ap threadReferent (thread-shown t r fit h))
 
 -- a stream that was written is shown
 pub stream-shown : (archive b : List ℕ) (r : Reference) → Spells archive r (stream b) → streamItem archive (shownStream r) ≡ b

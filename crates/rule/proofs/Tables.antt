@@ -11,61 +11,61 @@ use borrow.Author.Tests.{eq-eqb}
 use lib.Dec.{eqb}
 use Rattle.words.proofs.Tests.{cases}
 use Rattle.records.specs.Item.{Key, textKey, threadKey, Use}
-use Rattle.rule.specs.Rule.{sameProvider, sameUse, sameKind, Entry, indexIn, nextIndex}
+use Rattle.rule.specs.Rule.{sameProvider, sameUse, sameTable, Entry, indexIn, nextIndex}
 use Rattle.rule.proofs.Uses.{same-provider-refl, same-use-eq}
 
--- ---- kinds
+-- ---- the tables of keys
 
 -- the record type of a key: 2 for a text, 3 for a thread
-abbrev pub kindOf : Key → ℕ
-kindOf (textKey bytes) = 2
-kindOf (threadKey t) = 3
+abbrev pub keyTable : Key → ℕ
+keyTable (textKey bytes) = 2
+keyTable (threadKey t) = 3
 
--- keys are of one kind where they have one record type
-pub kind-is : (a b : Key) → sameKind a b ≡ eqb (kindOf a) (kindOf b)
-kind-is (textKey a) (textKey b) = refl
-kind-is (textKey a) (threadKey t) = refl
-kind-is (threadKey t) (textKey b) = refl
-kind-is (threadKey t) (threadKey u) = refl
+-- keys are of one table where the types of their records are equal
+pub table-alike : (a b : Key) → sameTable a b ≡ eqb (keyTable a) (keyTable b)
+table-alike (textKey a) (textKey b) = refl
+table-alike (textKey a) (threadKey t) = refl
+table-alike (threadKey t) (textKey b) = refl
+table-alike (threadKey t) (threadKey u) = refl
 
 -- ---- indexes
 
--- uses of one provider and one kind have one next index
-pub next-alike : (table : List Entry) (u v : Use) → u .provider ≡ v .provider → kindOf (u .key) ≡ kindOf (v .key)
-    → nextIndex table u ≡ nextIndex table v
+-- uses of one provider and one table have one next index
+pub next-alike : (entries : List Entry) (u v : Use) → u .provider ≡ v .provider → keyTable (u .key) ≡ keyTable (v .key)
+    → nextIndex entries u ≡ nextIndex entries v
 next-alike [] u v p k = refl
-next-alike (e ∷ table) u v p k =
-    rw (next-alike table u v p k, p, kind-is (u .key) (e .use-of .key), kind-is (v .key) (e .use-of .key), k)
+next-alike (e ∷ entries) u v p k =
+    rw (next-alike entries u v p k, p, table-alike (u .key) (e .use-of .key), table-alike (v .key) (e .use-of .key), k)
 
 -- each entry's index was the next one when it was put in
 abbrev pub Made : List Entry → Type 0
 Made [] = Unit {0}
-Made (e ∷ table) = (e .index ≡ nextIndex table (e .use-of)) × Made table
+Made (e ∷ entries) = (e .index ≡ nextIndex entries (e .use-of)) × Made entries
 
--- an index of another use's context and kind is below the next one
-pub made-lt : (e : Entry) (table : List Entry) (u : Use) → Made (e ∷ table) → e .use-of .provider ≡ u .provider
-    → kindOf (e .use-of .key) ≡ kindOf (u .key) → e .index < nextIndex (e ∷ table) u
-made-lt e table u m p k =
-    let one : (sameProvider (u .provider) (e .use-of .provider) && sameKind (u .key) (e .use-of .key)) ≡ true =
-    rw (p, same-provider-refl (u .provider), kind-is (u .key) (e .use-of .key), k, eq-eqb (kindOf (u .key)) (kindOf (u .key)) refl) in
-    rw one (omega (arith, m .0, next-alike table (e .use-of) u p k))
+-- an index of another use's context and table is below the next one
+pub made-lt : (e : Entry) (entries : List Entry) (u : Use) → Made (e ∷ entries) → e .use-of .provider ≡ u .provider
+    → keyTable (e .use-of .key) ≡ keyTable (u .key) → e .index < nextIndex (e ∷ entries) u
+made-lt e entries u m p k =
+    let one : (sameProvider (u .provider) (e .use-of .provider) && sameTable (u .key) (e .use-of .key)) ≡ true =
+    rw (p, same-provider-refl (u .provider), table-alike (u .key) (e .use-of .key), k, eq-eqb (keyTable (u .key)) (keyTable (u .key)) refl) in
+    rw one (omega (arith, m .0, next-alike entries (e .use-of) u p k))
 
 -- with one entry more no next index is smaller
-pub next-grows : (e : Entry) (table : List Entry) (u : Use) → nextIndex table u ≤ nextIndex (e ∷ table) u
-next-grows e table u = omega arith
+pub next-grows : (e : Entry) (entries : List Entry) (u : Use) → nextIndex entries u ≤ nextIndex (e ∷ entries) u
+next-grows e entries u = omega arith
 
 -- what holds of every entry of a table
 abbrev pub Every : (Option ℕ → Key → ℕ → Type 0) → List Entry → Type 0
 Every P [] = Unit {0}
-Every P (e ∷ table) = P (e .use-of .provider) (e .use-of .key) (e .index) × Every P table
+Every P (e ∷ entries) = P (e .use-of .provider) (e .use-of .key) (e .index) × Every P entries
 
 -- holds of every index that the table gives a key
-pub index-holds : (P : Option ℕ → Key → ℕ → Type 0) (table : List Entry) (provider : Option ℕ) (key : Key) → Every P table
-    → (indexIn table provider key ≡ 0 → ⊥) → P provider key (indexIn table provider key)
+pub index-holds : (P : Option ℕ → Key → ℕ → Type 0) (entries : List Entry) (provider : Option ℕ) (key : Key) → Every P entries
+    → (indexIn entries provider key ≡ 0 → ⊥) → P provider key (indexIn entries provider key)
 index-holds P [] provider key h given = absurd (given refl)
-index-holds P (e ∷ table) provider key h given =
+index-holds P (e ∷ entries) provider key h given =
     cases (sameUse (record { provider = provider; key = key }) (e .use-of))
     (λ q.
     let u = same-use-eq (record { provider = provider; key = key }) (e .use-of) q in
     rw (q, ap (λ x. x .provider) u, ap (λ x. x .key) u) (h .0))
-    (λ q. rw q (index-holds P table provider key (h .1) (rw q at given)))
+    (λ q. rw q (index-holds P entries provider key (h .1) (rw q at given)))

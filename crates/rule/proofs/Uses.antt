@@ -9,7 +9,7 @@ use lib.Dec.{eqb}
 use Rattle.words.proofs.Tests.{both-true}
 use Rattle.words.proofs.Same.{same-true, same-refl}
 use Rattle.records.specs.Item.{thread, Key, textKey, threadKey, Use}
-use Rattle.rule.specs.Rule.{sameKey, sameProvider, sameKind, sameUse}
+use Rattle.rule.specs.Rule.{sameKey, sameProvider, sameTable, sameUse}
 
 -- keys that compare as the same are the same
 pub same-key-eq : (a b : Key) → sameKey a b ≡ true → a ≡ b
@@ -55,14 +55,14 @@ same-use-eq a b e =
 pub same-use-refl : (a : Use) → sameUse a a ≡ true
 same-use-refl a = rw (same-provider-refl (a .provider), same-key-refl (a .key))
 
--- the same keys are of one kind
-pub same-key-kind : (a b : Key) → sameKey a b ≡ true → sameKind a b ≡ true
-same-key-kind (textKey a) (textKey b) e = refl
-same-key-kind (textKey a) (threadKey t) e = cc
-same-key-kind (threadKey t) (textKey b) e = cc
-same-key-kind (threadKey t) (threadKey u) e = refl
+-- the same keys are of one table
+pub same-key-table : (a b : Key) → sameKey a b ≡ true → sameTable a b ≡ true
+same-key-table (textKey a) (textKey b) e = refl
+same-key-table (textKey a) (threadKey t) e = cc
+same-key-table (threadKey t) (textKey b) e = cc
+same-key-table (threadKey t) (threadKey u) e = refl
 
--- a key is of its own kind
-pub same-kind-refl : (a : Key) → sameKind a a ≡ true
-same-kind-refl (textKey a) = refl
-same-kind-refl (threadKey t) = refl
+-- a key is of its own table
+pub same-table-refl : (a : Key) → sameTable a a ≡ true
+same-table-refl (textKey a) = refl
+same-table-refl (threadKey t) = refl

@@ -72,7 +72,7 @@ step-advances f archive tables s = go (record-whole f archive (s .place) .some)
     go (inr l) =
         on-decision P f archive tables s (λ number place k. inl tt) (λ answer k. inr l) (λ rate. inr l)
         (λ id answer k. on-entering P s id next answer (inl tt) (λ i e. inr l) (λ e z. inr l))
-        (λ kind index r. inr l) (λ e k. on-report P f archive tables s e next (inl tt) (λ shown. inr l))
+        (λ table index r. inr l) (λ e k. on-report P f archive tables s e next (inl tt) (λ shown. inr l))
 
 -- so one that does not end stands a word further
 advanced : (f : Format) (archive tables : List ℕ) (s : State) → (Ended (stepReply f archive tables s .answer) → ⊥)

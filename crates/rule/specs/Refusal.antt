@@ -19,7 +19,7 @@ use Rattle.reader.specs.declared.Answer.{Answer}
 use Rattle.reader.specs.declared.Answer.the-variants.{End, Nothing, Magic, ProviderInfo, Section, ProviderEvent, Initialization, Report, Skipped}
 use Rattle.reader.specs.Step.{openingNumber, stepReply, stepTables}
 use Rattle.reader.specs.Reads.{itemOf}
-use Rattle.rule.specs.Rule.{sameUse, sameProvider, sameKind, rule}
+use Rattle.rule.specs.Rule.{sameUse, sameProvider, sameTable, rule}
 
 -- a reading of a whole archive: each record with its place, whether it loses nothing, and its item; last the number and place it ends with
 pub data Run : Type 0 where
@@ -83,10 +83,10 @@ abbrev pub unresolvedRefusal : Run → Option Refusal
 unresolvedRefusal (ended number place) = none
 unresolvedRefusal (passed place keeps item run) = let rest = unresolvedRefusal run in pick (itemUnresolved item) (some (refusal 11 place)) rest
 
--- "over 511 distinct nonempty strings or 255 distinct threads used in one context": how many distinct keys of a use's kind its context uses
+-- "over 511 distinct nonempty strings or 255 distinct threads used in one context": how many distinct keys of a use's table its context uses
 abbrev pub alike : Use → List Use → ℕ
 alike u [] = 0
-alike u (v ∷ vs) = cond (sameProvider (u .provider) (v .provider) && sameKind (u .key) (v .key)) 1 0 + alike u vs
+alike u (v ∷ vs) = cond (sameProvider (u .provider) (v .provider) && sameTable (u .key) (v .key)) 1 0 + alike u vs
 
 -- the highest index of a key's table
 abbrev pub limitOf : Format → Key → ℕ

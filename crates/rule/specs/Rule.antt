@@ -40,22 +40,22 @@ pub record Entry : Type 0 where
 -- the index of a key in a provider's context, 0 where it has none
 abbrev pub indexIn : List Entry → Option ℕ → Key → ℕ
 indexIn [] provider key = 0
-indexIn (e ∷ table) provider key =
-    let rest = indexIn table provider key in
+indexIn (e ∷ entries) provider key =
+    let rest = indexIn entries provider key in
     cond (sameUse (record { provider = provider; key = key }) (e .use-of)) (e .index) rest
 
 -- strings and threads are numbered apart
-abbrev pub sameKind : Key → Key → Bool
-sameKind (textKey a) (textKey b) = true
-sameKind (textKey a) (threadKey t) = false
-sameKind (threadKey t) (textKey b) = false
-sameKind (threadKey t) (threadKey u) = true
+abbrev pub sameTable : Key → Key → Bool
+sameTable (textKey a) (textKey b) = true
+sameTable (textKey a) (threadKey t) = false
+sameTable (threadKey t) (textKey b) = false
+sameTable (threadKey t) (threadKey u) = true
 
 -- "Indexes count up from 1 in each context, for strings and threads apart."
 abbrev pub nextIndex : List Entry → Use → ℕ
 nextIndex [] u = 1
-nextIndex (e ∷ table) u =
-    cond (sameProvider (u .provider) (e .use-of .provider) && sameKind (u .key) (e .use-of .key)) 1 0 + nextIndex table u
+nextIndex (e ∷ entries) u =
+    cond (sameProvider (u .provider) (e .use-of .provider) && sameTable (u .key) (e .use-of .key)) 1 0 + nextIndex entries u
 
 -- the record that registers a key
 abbrev pub keyRecord : ℕ → Key → List ℕ
@@ -64,29 +64,29 @@ keyRecord index (threadKey t) = threadRecord index t
 
 -- whether a use is the first of a key that is to be registered
 abbrev pub isNew : (Use → Bool) → List Entry → Use → Bool
-isNew chosen table u = chosen u && eqb (indexIn table (u .provider) (u .key)) 0
+isNew chosen entries u = chosen u && eqb (indexIn entries (u .provider) (u .key)) 0
 
 abbrev pub withUse : (Use → Bool) → List Entry → Use → List Entry
-withUse chosen table u = cond (isNew chosen table u) (record { use-of = u; index = nextIndex table u } ∷ table) table
+withUse chosen entries u = cond (isNew chosen entries u) (record { use-of = u; index = nextIndex entries u } ∷ entries) entries
 
 abbrev pub useBytes : (Use → Bool) → List Entry → Use → List ℕ
-useBytes chosen table u = cond (isNew chosen table u) (keyRecord (nextIndex table u) (u .key)) []
+useBytes chosen entries u = cond (isNew chosen entries u) (keyRecord (nextIndex entries u) (u .key)) []
 
 -- the registrations after some uses, and the bytes of their records in order
-abbrev pub tableAfter : (Use → Bool) → List Entry → List Use → List Entry
-tableAfter chosen table [] = table
-tableAfter chosen table (u ∷ us) = tableAfter chosen (withUse chosen table u) us
+abbrev pub entriesAfter : (Use → Bool) → List Entry → List Use → List Entry
+entriesAfter chosen entries [] = entries
+entriesAfter chosen entries (u ∷ us) = entriesAfter chosen (withUse chosen entries u) us
 
 abbrev pub registrations : (Use → Bool) → List Entry → List Use → List ℕ
-registrations chosen table [] = []
-registrations chosen table (u ∷ us) = useBytes chosen table u ++ registrations chosen (withUse chosen table u) us
+registrations chosen entries [] = []
+registrations chosen entries (u ∷ us) = useBytes chosen entries u ++ registrations chosen (withUse chosen entries u) us
 
 -- "A registration stands right before the first record using it: thread, then strings by first use in that record."
 abbrev pub recordsFrom : (Use → Bool) → List Entry → List Item → List ℕ
-recordsFrom chosen table [] = []
-recordsFrom chosen table (i ∷ items) =
-    registrations chosen table (usesOf i)
-    ++ (itemRecord (indexIn (tableAfter chosen table (usesOf i)) (itemProvider i)) i ++ recordsFrom chosen (tableAfter chosen table (usesOf i)) items)
+recordsFrom chosen entries [] = []
+recordsFrom chosen entries (i ∷ items) =
+    registrations chosen entries (usesOf i)
+    ++ (itemRecord (indexIn (entriesAfter chosen entries (usesOf i)) (itemProvider i)) i ++ recordsFrom chosen (entriesAfter chosen entries (usesOf i)) items)
 
 -- which uses of a list are of registered keys; "Otherwise each use is inline."
 abbrev pub chosenIn : List Use → Use → Bool

@@ -21,9 +21,9 @@ use Rattle.contexts.specs.declared.State.{State}
 use Rattle.contexts.specs.Context.{providerOf}
 use Rattle.tables.specs.Table.{tableWords}
 use Rattle.reader.specs.Reads.{providerItem}
-use Rattle.rule.specs.Rule.{usesAll, Entry, indexIn, tableAfter, chosenIn, recordsFrom}
+use Rattle.rule.specs.Rule.{usesAll, Entry, indexIn, entriesAfter, chosenIn, recordsFrom}
 use Rattle.rule.proofs.ReadBack.{AllFit}
-use Rattle.encoding.specs.Part.{plainRecord}
+use Rattle.encoding.specs.Models.Part.{plainRecord}
 use Rattle.passes.proofs.Codes.{UsesPlain}
 use lib.ListN.{length, take, drop}
 use Rattle.passes.proofs.Places.{report-stands}
@@ -46,16 +46,16 @@ itemList none = []
 itemList (some i) = i ∷ []
 
 -- what is written for a record, and the slots after it
-pub record Wrote (f : Format) (archive : List ℕ) (last : State) (uses : List Use) (tables slots : List ℕ) (s : State) (table : List Entry) (c : Content) (next : ℕ)
+pub record Wrote (f : Format) (archive : List ℕ) (last : State) (uses : List Use) (tables slots : List ℕ) (s : State) (entries : List Entry) (c : Content) (next : ℕ)
     : Type 0 where
-  pub bytes-are : contentBytes f archive tables slots s c next ≡ recordsFrom (chosenIn uses) table (itemList (itemAt f archive tables s c next))
+  pub bytes-are : contentBytes f archive tables slots s c next ≡ recordsFrom (chosenIn uses) entries (itemList (itemAt f archive tables s c next))
   pub indexing : Indexing f archive last uses (contentSlots f archive tables slots s c next)
-      (tableAfter (chosenIn uses) table (usesAll (itemList (itemAt f archive tables s c next))))
+      (entriesAfter (chosenIn uses) entries (usesAll (itemList (itemAt f archive tables s c next))))
   pub kept : KeysKept archive (tableWords f) (codes last uses) slots (contentSlots f archive tables slots s c next)
   pub fits : ContentFits f archive tables slots s c next
 
 module _ (f : Format) (archive : List ℕ) (last : State) (uses : List Use) (few : last .count ≤ 8) (plain : UsesPlain uses) (small : Small f)
-    (bytes : AllBytes archive) (short : length archive < 2 ^ 31) (tables slots : List ℕ) (s : State) (table : List Entry) (I : Indexing f archive last uses slots table)
+    (bytes : AllBytes archive) (short : length archive < 2 ^ 31) (tables slots : List ℕ) (s : State) (entries : List Entry) (I : Indexing f archive last uses slots entries)
     (here : contextIn last (providerItem (providerOf s)) ≡ s .current) (low : s .current ≤ 8) where
   -- which uses are registered
   abbrev chosen : Use → Bool
@@ -71,13 +71,13 @@ module _ (f : Format) (archive : List ℕ) (last : State) (uses : List Use) (few
 
   -- a record that refers to texts and threads
   report-written : (r : ReadReport) → 0 < s .place → recordAt f archive (s .place) .content ≡ ReportRead r
-      → UsesReady f uses table (usesAll (itemList (itemAt f archive tables s (ReportRead r) next)))
-      → AllFit f chosen table (itemList (itemAt f archive tables s (ReportRead r) next)) → Wrote f archive last uses tables slots s table (ReportRead r) next
+      → UsesReady f uses entries (usesAll (itemList (itemAt f archive tables s (ReportRead r) next)))
+      → AllFit f chosen entries (itemList (itemAt f archive tables s (ReportRead r) next)) → Wrote f archive last uses tables slots s entries (ReportRead r) next
   unfolding reportAt plainItem
   report-written r later is ready fit =
       let item : Report = reportAt f archive tables s r next in
       let us = usesOf (report item) in
-      let after = tableAfter chosen table us in
+      let after = entriesAfter chosen entries us in
       let index = indexIn after (providerItem (providerOf s)) in
       let own = itemRecord index (report item) in
       let stands = report-stands f archive (s .place) r later is in
@@ -87,7 +87,7 @@ module _ (f : Format) (archive : List ℕ) (last : State) (uses : List Use) (few
       shown-count f archive tables (s .current) (s .place) listed
       ∙ read-count f (r .count) part (r .arguments) (report-arguments f archive (s .place) r is) in
       let g =
-      report-gives f archive last uses few plain small bytes short tables slots s r next index here low stands (fit .1) table I (rw (append-nil us) at ready) in
+      report-gives f archive last uses few plain small bytes short tables slots s r next index here low stands (fit .1) entries I (rw (append-nil us) at ready) in
       let slots′ = reportGivenSlots f archive tables slots s r next in
       record {
         bytes-are = rw (
@@ -106,8 +106,8 @@ module _ (f : Format) (archive : List ℕ) (last : State) (uses : List Use) (few
       }
 
   -- an item that refers to nothing: it has no uses, its record is the rule's, and it fits
-  plain-written : (o : Option Item) → PlainOnly o → AllFit f chosen table (itemList o)
-      → (plainBytes o ≡ recordsFrom chosen table (itemList o)) × (tableAfter chosen table (usesAll (itemList o)) ≡ table) × PlainFits o
+  plain-written : (o : Option Item) → PlainOnly o → AllFit f chosen entries (itemList o)
+      → (plainBytes o ≡ recordsFrom chosen entries (itemList o)) × (entriesAfter chosen entries (usesAll (itemList o)) ≡ entries) × PlainFits o
   plain-written none only fit = (refl, refl, tt)
   plain-written (some magic) only fit = (sym (append-nil (plainRecord magic)), refl, tt)
   plain-written (some (providerInfo id name)) only fit = (sym (append-nil (plainRecord (providerInfo id name))), refl, fit .1 .suits .1)
@@ -119,11 +119,11 @@ module _ (f : Format) (archive : List ℕ) (last : State) (uses : List Use) (few
 
   -- every record
   pub content-written : (c : Content) → ((r : ReadReport) → recordAt f archive (s .place) .content ≡ ReportRead r → 0 < s .place)
-      → recordAt f archive (s .place) .content ≡ c → UsesReady f uses table (usesAll (itemList (itemAt f archive tables s c next)))
-      → AllFit f chosen table (itemList (itemAt f archive tables s c next)) → Wrote f archive last uses tables slots s table c next
+      → recordAt f archive (s .place) .content ≡ c → UsesReady f uses entries (usesAll (itemList (itemAt f archive tables s c next)))
+      → AllFit f chosen entries (itemList (itemAt f archive tables s c next)) → Wrote f archive last uses tables slots s entries c next
   content-written c later is ready fit = go (report-or c)
     where
-      go : ((r : ReadReport) × (c ≡ ReportRead r)) ⊎ Other c → Wrote f archive last uses tables slots s table c next
+      go : ((r : ReadReport) × (c ≡ ReportRead r)) ⊎ Other c → Wrote f archive last uses tables slots s entries c next
       go (inl (r, e)) = rw e (report-written r (later r (is ∙ e)) (is ∙ e) (rw e at ready) (rw e at fit))
       go (inr o) =
           let shown : itemAt f archive tables s c next ≡ plainItem archive c = o .item _ _ in

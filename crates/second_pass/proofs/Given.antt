@@ -18,7 +18,7 @@ use Rattle.format.specs.declared.Format.{Format}
 use Rattle.records.specs.Item.{Key, textKey, threadKey, Use}
 use Rattle.contexts.specs.declared.State.{State}
 use Rattle.tables.specs.Table.{tableWords}
-use Rattle.rule.specs.Rule.{sameUse, Entry, nextIndex, isNew, withUse, useBytes, tableAfter, registrations, chosenIn}
+use Rattle.rule.specs.Rule.{sameUse, Entry, nextIndex, isNew, withUse, useBytes, entriesAfter, registrations, chosenIn}
 use Rattle.rule.specs.Refusal.{limitOf}
 use Rattle.rule.proofs.Length.{use-registered}
 use Rattle.rule.proofs.Entries.{KeyFits}
@@ -49,15 +49,15 @@ indexes-alike {chosen = chosen} I same alike = record {
 }
 
 -- a use that the slots can be asked to register: it was counted, and where it is new its key fits the index that it gets
-pub record UseReady (f : Format) (uses : List Use) (table : List Entry) (u : Use) : Type 0 where
+pub record UseReady (f : Format) (uses : List Use) (entries : List Entry) (u : Use) : Type 0 where
   pub used : 0 < count sameUse u uses
-  pub few : nextIndex table u ≤ 1 + limitOf f (u .key)
-  pub fits : isNew (chosenIn uses) table u ≡ true → KeyFits f (nextIndex table u) (u .key)
+  pub few : nextIndex entries u ≤ 1 + limitOf f (u .key)
+  pub fits : isNew (chosenIn uses) entries u ≡ true → KeyFits f (nextIndex entries u) (u .key)
 
 -- so are these, one after the other
 abbrev pub UsesReady : Format → List Use → List Entry → List Use → Type 0
-UsesReady f uses table [] = Unit {0}
-UsesReady f uses table (u ∷ us) = UseReady f uses table u × UsesReady f uses (withUse (chosenIn uses) table u) us
+UsesReady f uses entries [] = Unit {0}
+UsesReady f uses entries (u ∷ us) = UseReady f uses entries u × UsesReady f uses (withUse (chosenIn uses) entries u) us
 
 -- no table of the small format has an index above 511
 limit-low : (f : Format) (key : Key) → f .highest ≤ 511 → limitOf f key ≤ 511
@@ -66,13 +66,13 @@ limit-low f (threadKey t) h = omega arith
 
 module _ (f : Format) (archive : List ℕ) (last : State) (uses : List Use) (few : last .count ≤ 8) (plain : UsesPlain uses) (small : f .highest ≤ 511) where
   -- what the slots do for a key that is the code of a use
-  pub record GivenUse (slots : List ℕ) (table : List Entry) (u : Use) (index : ℕ) (slots′ : List ℕ) : Type 0 where
-    pub index-is : index ≡ cond (isNew (chosenIn uses) table u) (nextIndex table u) 0
-    pub indexing : Indexing f archive last uses slots′ (withUse (chosenIn uses) table u)
+  pub record GivenUse (slots : List ℕ) (entries : List Entry) (u : Use) (index : ℕ) (slots′ : List ℕ) : Type 0 where
+    pub index-is : index ≡ cond (isNew (chosenIn uses) entries u) (nextIndex entries u) 0
+    pub indexing : Indexing f archive last uses slots′ (withUse (chosenIn uses) entries u)
     pub kept : KeysKept archive (tableWords f) (codes last uses) slots slots′
 
-  module _ (slots : List ℕ) (table : List Entry) (u : Use) (place label : ℕ) (I : Indexing f archive last uses slots table) (h : KeyPlain (u .key))
-      (ready : UseReady f uses table u) (is : keyOf archive place label ≡ codeIn last u) (mark : label / 65536 < 18) where
+  module _ (slots : List ℕ) (entries : List Entry) (u : Use) (place label : ℕ) (I : Indexing f archive last uses slots entries) (h : KeyPlain (u .key))
+      (ready : UseReady f uses entries u) (is : keyOf archive place label ≡ codeIn last u) (mark : label / 65536 < 18) where
     -- the key that is asked for
     abbrev key : List ℕ
     key = keyOf archive place label
@@ -86,21 +86,21 @@ module _ (f : Format) (archive : List ℕ) (last : State) (uses : List Use) (few
     mark-is = ap keyMark is
 
     -- the next number of that mark is the use's next index
-    next-is : givenCode last table (label / 65536) + 1 ≡ nextIndex table u
-    next-is = ap (λ (m : ℕ). givenCode last table m + 1) mark-is ∙ given-code last few table u (I .plain) h
+    next-is : givenCode last entries (label / 65536) + 1 ≡ nextIndex entries u
+    next-is = ap (λ (m : ℕ). givenCode last entries m + 1) mark-is ∙ given-code last few entries u (I .plain) h
 
     -- the key is chosen and has no index where the use is new
-    new-is : (chosenKey (codes last uses) key && eqb (indexCode last table key) 0) ≡ isNew chosen table u
+    new-is : (chosenKey (codes last uses) key && eqb (indexCode last entries key) 0) ≡ isNew chosen entries u
     new-is =
-        ap (λ (k : List ℕ). chosenKey (codes last uses) k && eqb (indexCode last table k) 0) is
-        ∙ rw (chosen-code last few uses u plain h, index-code last few table u (I .plain) h)
+        ap (λ (k : List ℕ). chosenKey (codes last uses) k && eqb (indexCode last entries k) 0) is
+        ∙ rw (chosen-code last few uses u plain h, index-code last few entries u (I .plain) h)
 
     -- the key was counted as the use was
     counted : 0 < count sameBytes key (codes last uses)
     counted = rw (is, count-codes last few u uses h plain) (ready .used)
 
     -- the slot of the key gets the use's next index where the use is new
-    pub use-given : GivenUse slots table u (newIndex (tableWords f) slots label (findOf archive (tableWords f) slots key))
+    pub use-given : GivenUse slots entries u (newIndex (tableWords f) slots label (findOf archive (tableWords f) slots key))
         (indexed (tableWords f) slots label (findOf archive (tableWords f) slots key))
     use-given =
         let g = give-index (I .indexes) key label counted mark (omega (arith, next-is, ready .few, limit-low f (u .key) small)) in
@@ -110,79 +110,79 @@ module _ (f : Format) (archive : List ℕ) (last : State) (uses : List Use) (few
             indexes = indexes-alike (g .1) same-index same-given;
             plain = kept;
             seen = u ∷ I .seen;
-            registered = use-registered chosen table (I .seen) u (I .registered);
+            registered = use-registered chosen entries (I .seen) u (I .registered);
           };
           kept = kept-indexed archive (tableWords f) (codes last uses) (I .indexes .wide .some) slots key label counted mark;
         }
       where
-        kept : TablePlain (withUse chosen table u)
-        kept = cases (isNew chosen table u) (λ e. rw e (h, I .plain)) (λ e. rw e (I .plain))
+        kept : TablePlain (withUse chosen entries u)
+        kept = cases (isNew chosen entries u) (λ e. rw e (h, I .plain)) (λ e. rw e (I .plain))
 
         same-index : (k : List ℕ)
-            → cond ((chosenKey (codes last uses) key && eqb (indexCode last table key) 0) && sameBytes k key) (givenCode last table (label / 65536) + 1)
-            (indexCode last table k)
-            ≡ indexCode last (withUse chosen table u) k
+            → cond ((chosenKey (codes last uses) key && eqb (indexCode last entries key) 0) && sameBytes k key) (givenCode last entries (label / 65536) + 1)
+            (indexCode last entries k)
+            ≡ indexCode last (withUse chosen entries u) k
         same-index k =
-            rw (new-is, next-is) (cases (isNew chosen table u) (λ e. rw (e, is)) (λ e. rw e))
+            rw (new-is, next-is) (cases (isNew chosen entries u) (λ e. rw (e, is)) (λ e. rw e))
 
         same-given : (m : ℕ)
-            → cond ((chosenKey (codes last uses) key && eqb (indexCode last table key) 0) && eqb m (label / 65536)) (givenCode last table m + 1)
-            (givenCode last table m)
-            ≡ givenCode last (withUse chosen table u) m
+            → cond ((chosenKey (codes last uses) key && eqb (indexCode last entries key) 0) && eqb m (label / 65536)) (givenCode last entries m + 1)
+            (givenCode last entries m)
+            ≡ givenCode last (withUse chosen entries u) m
         same-given m =
             rw new-is
-            (cases (isNew chosen table u)
+            (cases (isNew chosen entries u)
             (λ e. rw (e, mark-is) (cases (eqb m (keyMark (codeIn last u))) (λ q. rw q (omega arith)) (λ q. rw q (omega arith))))
             (λ e. rw e))
 
 -- ---- some uses, one after the other
 
 -- what was written for some uses and what the slots are then: the registrations that the rule gives, its table, and no other words changed
-pub record Gave (f : Format) (archive : List ℕ) (last : State) (uses : List Use) (table : List Entry) (us : List Use) (slots bytes slots′ : List ℕ) (Fits : Type 0)
+pub record Gave (f : Format) (archive : List ℕ) (last : State) (uses : List Use) (entries : List Entry) (us : List Use) (slots bytes slots′ : List ℕ) (Fits : Type 0)
     : Type 0 where
-  pub bytes-are : bytes ≡ registrations (chosenIn uses) table us
-  pub indexing : Indexing f archive last uses slots′ (tableAfter (chosenIn uses) table us)
+  pub bytes-are : bytes ≡ registrations (chosenIn uses) entries us
+  pub indexing : Indexing f archive last uses slots′ (entriesAfter (chosenIn uses) entries us)
   pub kept : KeysKept archive (tableWords f) (codes last uses) slots slots′
   pub fits : Fits
 
 -- so it is from every table that the slots hold
 abbrev pub Gives : Format → List ℕ → State → List Use → List Use → List ℕ → List ℕ → List ℕ → Type 0 → Type 0
 Gives f archive last uses us slots bytes slots′ Fits =
-    (table : List Entry) → Indexing f archive last uses slots table → UsesReady f uses table us → Gave f archive last uses table us slots bytes slots′ Fits
+    (entries : List Entry) → Indexing f archive last uses slots entries → UsesReady f uses entries us → Gave f archive last uses entries us slots bytes slots′ Fits
 
 -- the registrations of two parts of uses
-registrations-both : (chosen : Use → Bool) (table : List Entry) (us vs : List Use)
-    → registrations chosen table (us ++ vs) ≡ registrations chosen table us ++ registrations chosen (tableAfter chosen table us) vs
-registrations-both chosen table [] vs = refl
-registrations-both chosen table (u ∷ us) vs =
+registrations-both : (chosen : Use → Bool) (entries : List Entry) (us vs : List Use)
+    → registrations chosen entries (us ++ vs) ≡ registrations chosen entries us ++ registrations chosen (entriesAfter chosen entries us) vs
+registrations-both chosen entries [] vs = refl
+registrations-both chosen entries (u ∷ us) vs =
     rw (
-      registrations-both chosen (withUse chosen table u) us vs,
-      append-assoc (useBytes chosen table u) (registrations chosen (withUse chosen table u) us)
-          (registrations chosen (tableAfter chosen (withUse chosen table u) us) vs),
+      registrations-both chosen (withUse chosen entries u) us vs,
+      append-assoc (useBytes chosen entries u) (registrations chosen (withUse chosen entries u) us)
+          (registrations chosen (entriesAfter chosen (withUse chosen entries u) us) vs),
     )
 
 -- both parts of uses that are ready are
-pub ready-both : (f : Format) (uses : List Use) (table : List Entry) (us vs : List Use) → UsesReady f uses table (us ++ vs)
-    → UsesReady f uses table us × UsesReady f uses (tableAfter (chosenIn uses) table us) vs
-ready-both f uses table [] vs h = (tt, h)
-ready-both f uses table (u ∷ us) vs h = let rest = ready-both f uses (withUse (chosenIn uses) table u) us vs (h .1) in ((h .0, rest .0), rest .1)
+pub ready-both : (f : Format) (uses : List Use) (entries : List Entry) (us vs : List Use) → UsesReady f uses entries (us ++ vs)
+    → UsesReady f uses entries us × UsesReady f uses (entriesAfter (chosenIn uses) entries us) vs
+ready-both f uses entries [] vs h = (tt, h)
+ready-both f uses entries (u ∷ us) vs h = let rest = ready-both f uses (withUse (chosenIn uses) entries u) us vs (h .1) in ((h .0, rest .0), rest .1)
 
 module _ (f : Format) (archive : List ℕ) (last : State) (uses : List Use) where
   -- no use asks for nothing
   pub gives-none : (slots : List ℕ) {Fits : Type 0} → Fits → Gives f archive last uses [] slots [] slots Fits
-  gives-none slots fit table I ready =
+  gives-none slots fit entries I ready =
       record { bytes-are = refl; indexing = I; kept = kept-same archive (tableWords f) (codes last uses) slots; fits = fit }
 
   -- one part of uses, and then another
   pub gives-both : {us vs : List Use} {slots bytes slots′ bytes′ slots″ : List ℕ} {Fits Fits′ : Type 0} → Gives f archive last uses us slots bytes slots′ Fits
       → Gives f archive last uses vs slots′ bytes′ slots″ Fits′ → Gives f archive last uses (us ++ vs) slots (bytes ++ bytes′) slots″ (Fits × Fits′)
-  gives-both {us} {vs} {slots} {slots′ = slots′} {slots″ = slots″} first second table I ready =
-      let both = ready-both f uses table us vs ready in
-      let a = first table I (both .0) in
-      let b = second (tableAfter (chosenIn uses) table us) (a .indexing) (both .1) in
+  gives-both {us} {vs} {slots} {slots′ = slots′} {slots″ = slots″} first second entries I ready =
+      let both = ready-both f uses entries us vs ready in
+      let a = first entries I (both .0) in
+      let b = second (entriesAfter (chosenIn uses) entries us) (a .indexing) (both .1) in
       record {
-        bytes-are = rw (a .bytes-are, b .bytes-are) (sym (registrations-both (chosenIn uses) table us vs));
-        indexing = rw (after-both (chosenIn uses) table us vs) (b .indexing);
+        bytes-are = rw (a .bytes-are, b .bytes-are) (sym (registrations-both (chosenIn uses) entries us vs));
+        indexing = rw (after-both (chosenIn uses) entries us vs) (b .indexing);
         kept = kept-then archive (tableWords f) (codes last uses) (I .indexes .wide .some) slots slots′ slots″ (a .kept) (b .kept);
         fits = (a .fits, b .fits);
       }
@@ -190,6 +190,6 @@ module _ (f : Format) (archive : List ℕ) (last : State) (uses : List Use) wher
   -- what fits may be said in other words
   pub gives-fits : {us : List Use} {slots bytes slots′ : List ℕ} {Fits Fits′ : Type 0} → (Fits → Fits′) → Gives f archive last uses us slots bytes slots′ Fits
       → Gives f archive last uses us slots bytes slots′ Fits′
-  gives-fits turn gives table I ready =
-      let g = gives table I ready in
+  gives-fits turn gives entries I ready =
+      let g = gives entries I ready in
       record { bytes-are = g .bytes-are; indexing = g .indexing; kept = g .kept; fits = turn (g .fits) }

@@ -20,7 +20,7 @@ use Rattle.format.specs.declared.Format.{Format}
 use Rattle.records.specs.Item.{textKey, keyWords, Use}
 use Rattle.contexts.specs.declared.State.{State}
 use Rattle.tables.specs.Table.{tableWords}
-use Rattle.rule.specs.Rule.{sameUse, sameProvider, sameKind, Entry, indexIn, nextIndex, chosenIn}
+use Rattle.rule.specs.Rule.{sameUse, sameProvider, sameTable, Entry, indexIn, nextIndex, chosenIn}
 use Rattle.rule.proofs.Length.{Registered}
 use Rattle.rule.proofs.Tables.{Every}
 use Rattle.passes.proofs.Codes.{KeyPlain, UsesPlain, code-words, same-codes, count-codes, alike-distinct}
@@ -30,7 +30,7 @@ use Rattle.second_pass.specs.Models.Indexed.{indexCode, givenCode}
 
 -- entries whose keys are plain
 abbrev pub TablePlain : List Entry → Type 0
-TablePlain table = Every (λ provider key index. KeyPlain key) table
+TablePlain entries = Every (λ provider key index. KeyPlain key) entries
 
 -- whether two numbers are equal does not depend on their order
 test-turned : (a b : ℕ) → eqb a b ≡ eqb b a
@@ -39,23 +39,23 @@ test-turned a b =
 
 module _ (last : State) (few : last .count ≤ 8) where
   -- the index of a use's code is the use's
-  pub index-code : (table : List Entry) (u : Use) → TablePlain table → KeyPlain (u .key)
-      → indexCode last table (codeIn last u) ≡ indexIn table (u .provider) (u .key)
+  pub index-code : (entries : List Entry) (u : Use) → TablePlain entries → KeyPlain (u .key)
+      → indexCode last entries (codeIn last u) ≡ indexIn entries (u .provider) (u .key)
   index-code [] u plain h = refl
-  index-code (e ∷ table) u plain h = rw (← (same-codes last few u (e .use-of) h (plain .0)), index-code table u (plain .1) h)
+  index-code (e ∷ entries) u plain h = rw (← (same-codes last few u (e .use-of) h (plain .0)), index-code entries u (plain .1) h)
 
-  -- the marks of two codes are the same where the uses are of one context and kind
+  -- the marks of two codes are the same where the uses are of one context and table
   mark-same : (u v : Use) → KeyPlain (u .key) → KeyPlain (v .key)
       → _≡_ {A = ℕ} (cond (eqb (keyMark (codeIn last u)) (keyMark (codeIn last v))) 1 0)
-      (cond (sameProvider (u .provider) (v .provider) && sameKind (u .key) (v .key)) 1 0)
+      (cond (sameProvider (u .provider) (v .provider) && sameTable (u .key) (v .key)) 1 0)
   mark-same u v h k =
       rw (test-turned (keyMark (codeIn last u)) (keyMark (codeIn last v))) (omega (arith, alike-distinct last few u (v ∷ []) h (k, tt)))
 
   -- with the entries of a use's mark counted, the next is the use's next index
-  pub given-code : (table : List Entry) (u : Use) → TablePlain table → KeyPlain (u .key)
-      → givenCode last table (keyMark (codeIn last u)) + 1 ≡ nextIndex table u
+  pub given-code : (entries : List Entry) (u : Use) → TablePlain entries → KeyPlain (u .key)
+      → givenCode last entries (keyMark (codeIn last u)) + 1 ≡ nextIndex entries u
   given-code [] u plain h = refl
-  given-code (e ∷ table) u plain h = omega (arith, mark-same u (e .use-of) h (plain .0), given-code table u (plain .1) h)
+  given-code (e ∷ entries) u plain h = omega (arith, mark-same u (e .use-of) h (plain .0), given-code entries u (plain .1) h)
 
   -- a use is chosen where its code is
   pub chosen-code : (uses : List Use) (u : Use) → UsesPlain uses → KeyPlain (u .key)
@@ -65,11 +65,11 @@ module _ (last : State) (few : last .count ≤ 8) where
 -- ---- the slots by a table
 
 -- the slots hold, by codes, the choices of a list of uses and the indexes of a table
-pub record Indexing (f : Format) (archive : List ℕ) (last : State) (uses : List Use) (slots : List ℕ) (table : List Entry) : Type 0 where
-  pub indexes : Indexes archive (tableWords f) slots (codes last uses) (chosenKey (codes last uses)) (indexCode last table) (givenCode last table)
-  pub plain : TablePlain table
+pub record Indexing (f : Format) (archive : List ℕ) (last : State) (uses : List Use) (slots : List ℕ) (entries : List Entry) : Type 0 where
+  pub indexes : Indexes archive (tableWords f) slots (codes last uses) (chosenKey (codes last uses)) (indexCode last entries) (givenCode last entries)
+  pub plain : TablePlain entries
   pub seen : List Use
-  pub registered : Registered (chosenIn uses) table seen
+  pub registered : Registered (chosenIn uses) entries seen
 
 -- a key that was used no time is not chosen
 unused-inline : (w n : ℕ) → n ≡ 0 → registers w n ≡ false
@@ -82,19 +82,19 @@ unfolding registers
 empty-inline n = le-ltb 1 (n * 0) (omega arith)
 
 module _ (f : Format) (archive : List ℕ) (last : State) (uses : List Use) (few : last .count ≤ 8) (plain : UsesPlain uses)
-    (slots : List ℕ) (table : List Entry) (I : Indexing f archive last uses slots table) where
+    (slots : List ℕ) (entries : List Entry) (I : Indexing f archive last uses slots entries) where
   -- a use that is not chosen has no index
-  inline-index : (u : Use) → chosenIn uses u ≡ false → indexIn table (u .provider) (u .key) ≡ 0
-  inline-index u e = eqb-true (indexIn table (u .provider) (u .key)) 0 (rw e at (I .registered u))
+  inline-index : (u : Use) → chosenIn uses u ≡ false → indexIn entries (u .provider) (u .key) ≡ 0
+  inline-index u e = eqb-true (indexIn entries (u .provider) (u .key)) 0 (rw e at (I .registered u))
 
   -- an empty text never has one
-  pub empty-index : (provider : Option ℕ) → indexIn table provider (textKey []) ≡ 0
+  pub empty-index : (provider : Option ℕ) → indexIn entries provider (textKey []) ≡ 0
   empty-index provider =
       let u : Use = record { provider = provider; key = textKey [] } in
       inline-index u (empty-inline (count sameUse u uses))
 
   -- what is found for a plain use's code is its index
-  pub index-spelled : (u : Use) → KeyPlain (u .key) → indexOf archive (tableWords f) slots (codeIn last u) ≡ indexIn table (u .provider) (u .key)
+  pub index-spelled : (u : Use) → KeyPlain (u .key) → indexOf archive (tableWords f) slots (codeIn last u) ≡ indexIn entries (u .provider) (u .key)
   index-spelled u h =
       let n = count sameBytes (codeIn last u) (codes last uses) in
       let counted = count-codes last few u uses h plain in
@@ -104,5 +104,5 @@ module _ (f : Format) (archive : List ℕ) (last : State) (uses : List Use) (few
       ∙ sym (inline-index u (unused-inline (keyWords (u .key)) (count sameUse u uses) (sym counted ∙ none))))
       (λ e. let some = eqb-false n 0 e in
       index-found (I .indexes) (codeIn last u) (omega arith)
-      ∙ (rw (chosen-code last few uses u plain h, index-code last few table u (I .plain) h)
+      ∙ (rw (chosen-code last few uses u plain h, index-code last few entries u (I .plain) h)
       (cases (chosenIn uses u) (λ c. rw c) (λ c. rw c (sym (inline-index u c))))))

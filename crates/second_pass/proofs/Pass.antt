@@ -32,7 +32,7 @@ use Rattle.contexts.specs.Context.{opening, providerOf}
 use Rattle.tables.specs.Table.{tableWords}
 use Rattle.reader.specs.Step.{openingNumber}
 use Rattle.reader.proofs.Runs.{Sound, fresh-sound}
-use Rattle.rule.specs.Rule.{usesAll, Entry, indexIn, tableAfter, registrations, chosenIn, rule, recordsFrom}
+use Rattle.rule.specs.Rule.{usesAll, Entry, indexIn, entriesAfter, registrations, chosenIn, rule, recordsFrom}
 use Rattle.rule.specs.Refusal.{Run, ended, passed, keepsAt, runFrom, runOf, stopRefusal, refusalOf, itemsOf, Accepted}
 use Rattle.rule.proofs.Length.{none-registered}
 use Rattle.rule.proofs.Limits.{after-both}
@@ -65,20 +65,20 @@ uses-both [] others = refl
 uses-both (i ∷ items) others = rw (uses-both items others) (sym (append-assoc (usesOf i) (usesAll items) (usesAll others)))
 
 -- what the rule writes for one item or none, and then for others
-records-behind : (chosen : Use → Bool) (table : List Entry) (o : Option Item) (others : List Item)
-    → recordsFrom chosen table (itemList o ++ others)
-    ≡ recordsFrom chosen table (itemList o) ++ recordsFrom chosen (tableAfter chosen table (usesAll (itemList o))) others
-records-behind chosen table none others = refl
-records-behind chosen table (some i) others =
-    let first = registrations chosen table (usesOf i) in
-    let own = itemRecord (indexIn (tableAfter chosen table (usesOf i)) (itemProvider i)) i in
-    rw (append-nil (usesOf i), append-nil own) (sym (append-assoc first own (recordsFrom chosen (tableAfter chosen table (usesOf i)) others)))
+records-behind : (chosen : Use → Bool) (entries : List Entry) (o : Option Item) (others : List Item)
+    → recordsFrom chosen entries (itemList o ++ others)
+    ≡ recordsFrom chosen entries (itemList o) ++ recordsFrom chosen (entriesAfter chosen entries (usesAll (itemList o))) others
+records-behind chosen entries none others = refl
+records-behind chosen entries (some i) others =
+    let first = registrations chosen entries (usesOf i) in
+    let own = itemRecord (indexIn (entriesAfter chosen entries (usesOf i)) (itemProvider i)) i in
+    rw (append-nil (usesOf i), append-nil own) (sym (append-assoc first own (recordsFrom chosen (entriesAfter chosen entries (usesOf i)) others)))
 
 -- both parts fit as they are written
-fit-behind : (f : Format) (chosen : Use → Bool) (table : List Entry) (o : Option Item) (others : List Item) → AllFit f chosen table (itemList o ++ others)
-    → AllFit f chosen table (itemList o) × AllFit f chosen (tableAfter chosen table (usesAll (itemList o))) others
-fit-behind f chosen table none others fit = (tt, fit)
-fit-behind f chosen table (some i) others fit = ((fit .0, fit .1, tt), rw (append-nil (usesOf i)) (fit .2))
+fit-behind : (f : Format) (chosen : Use → Bool) (entries : List Entry) (o : Option Item) (others : List Item) → AllFit f chosen entries (itemList o ++ others)
+    → AllFit f chosen entries (itemList o) × AllFit f chosen (entriesAfter chosen entries (usesAll (itemList o))) others
+fit-behind f chosen entries none others fit = (tt, fit)
+fit-behind f chosen entries (some i) others fit = ((fit .0, fit .1, tt), rw (append-nil (usesOf i)) (fit .2))
 
 -- the items of a run are the one that its first record shows, if any, and those behind
 items-behind : (place : ℕ) (keeps : Bool) (o : Option Item) (run : Run) → itemsOf (passed place keeps o run) ≡ itemList o ++ itemsOf run
@@ -99,14 +99,14 @@ pub record Writing (f : Format) (archive : List ℕ) (s : State) (tables slots�
   pub last-tables : tablesFrom f archive (suc steps) s tables ≡ tablesOf f archive
   pub stop : stopRefusal (runFrom f archive (suc steps) s tables) ≡ none
   pub plain : UsesPlain (usesAll (itemsOf (runOf f archive)))
-  pub table : List Entry
-  pub table-is : registeredOf f archive
-      ≡ tableAfter (chosenIn (usesAll (itemsOf (runOf f archive)))) table (usesAll (itemsOf (runFrom f archive (suc steps) s tables)))
-  pub indexing : Indexing f archive (lastOf f archive) (usesAll (itemsOf (runOf f archive))) slots table
-  pub ready : UsesReady f (usesAll (itemsOf (runOf f archive))) table (usesAll (itemsOf (runFrom f archive (suc steps) s tables)))
-  pub fit : AllFit f (chosenIn (usesAll (itemsOf (runOf f archive)))) table (itemsOf (runFrom f archive (suc steps) s tables))
+  pub entries : List Entry
+  pub entries-are : registeredOf f archive
+      ≡ entriesAfter (chosenIn (usesAll (itemsOf (runOf f archive)))) entries (usesAll (itemsOf (runFrom f archive (suc steps) s tables)))
+  pub indexing : Indexing f archive (lastOf f archive) (usesAll (itemsOf (runOf f archive))) slots entries
+  pub ready : UsesReady f (usesAll (itemsOf (runOf f archive))) entries (usesAll (itemsOf (runFrom f archive (suc steps) s tables)))
+  pub fit : AllFit f (chosenIn (usesAll (itemsOf (runOf f archive)))) entries (itemsOf (runFrom f archive (suc steps) s tables))
   pub rule-is : rule (itemsOf (runOf f archive))
-      ≡ sofar ++ recordsFrom (chosenIn (usesAll (itemsOf (runOf f archive)))) table (itemsOf (runFrom f archive (suc steps) s tables))
+      ≡ sofar ++ recordsFrom (chosenIn (usesAll (itemsOf (runOf f archive)))) entries (itemsOf (runFrom f archive (suc steps) s tables))
   pub kept : KeysKept archive (tableWords f) (keysOf f archive) slots₀ slots
 
 -- ---- the end
@@ -130,13 +130,13 @@ module _ (f : Format) (archive : List ℕ) (s : State) (tables slots₀ slots so
   writing-tables = sym (tables-end f archive tables s (suc (w .steps)) (w .sound) (w .opens) e) ∙ w .last-tables
 
   -- the rule's table is that of all registrations
-  table-whole : w .table ≡ registeredOf f archive
-  table-whole = sym (w .table-is ∙ rw ends)
+  entries-whole : w .entries ≡ registeredOf f archive
+  entries-whole = sym (w .entries-are ∙ rw ends)
 
   -- whose indexes the slots hold
   slots-index : Indexes archive (tableWords f) slots (keysOf f archive) (chosenKey (keysOf f archive))
       (indexCode (lastOf f archive) (registeredOf f archive)) (givenCode (lastOf f archive) (registeredOf f archive))
-  slots-index = rw table-whole at (w .indexing .indexes)
+  slots-index = rw entries-whole at (w .indexing .indexes)
 
   -- with places and labels as they were, and the third words of other slots
   pub writing-indexed : SlotsIndexed f archive slots₀ slots
@@ -250,19 +250,19 @@ module _ (f : Format) (archive : List ℕ) (s : State) (tables slots₀ slots so
   tables-follow = sym (tables-turn f archive tables s (w .steps) (w .sound) (w .opens) more goes) ∙ w .last-tables
 
   -- the uses of the record, and those behind it
-  ready : UsesReady f uses (w .table) (usesAll (itemList item)) × UsesReady f uses (tableAfter chosen (w .table) (usesAll (itemList item))) (usesAll (itemsOf rest))
+  ready : UsesReady f uses (w .entries) (usesAll (itemList item)) × UsesReady f uses (entriesAfter chosen (w .entries) (usesAll (itemList item))) (usesAll (itemsOf rest))
   ready =
-      ready-both f uses (w .table) (usesAll (itemList item)) (usesAll (itemsOf rest)) (rw (shown, uses-both (itemList item) (itemsOf rest)) at (w .ready))
+      ready-both f uses (w .entries) (usesAll (itemList item)) (usesAll (itemsOf rest)) (rw (shown, uses-both (itemList item) (itemsOf rest)) at (w .ready))
 
   -- both fit as they are written
-  fit : AllFit f chosen (w .table) (itemList item) × AllFit f chosen (tableAfter chosen (w .table) (usesAll (itemList item))) (itemsOf rest)
-  fit = fit-behind f chosen (w .table) item (itemsOf rest) (rw shown at (w .fit))
+  fit : AllFit f chosen (w .entries) (itemList item) × AllFit f chosen (entriesAfter chosen (w .entries) (usesAll (itemList item))) (itemsOf rest)
+  fit = fit-behind f chosen (w .entries) item (itemsOf rest) (rw shown at (w .fit))
 
   -- what is written for the record
-  wrote : Wrote f archive (lastOf f archive) uses tables′ slots s (w .table) content next
+  wrote : Wrote f archive (lastOf f archive) uses tables′ slots s (w .entries) content next
   wrote =
       let end = last-sound f archive (suc (w .steps)) s tables (w .sound) .1 in
-      content-written f archive (lastOf f archive) uses (rw (w .last-is) at (end .count)) (w .plain) (w .small) (w .bytes) (archive-short f archive (length tables) (w .opens)) tables′ slots s (w .table) (w .indexing)
+      content-written f archive (lastOf f archive) uses (rw (w .last-is) at (end .count)) (w .plain) (w .small) (w .bytes) (archive-short f archive (length tables) (w .opens)) tables′ slots s (w .entries) (w .indexing)
       (rw (w .last-is) at (last-context f archive (suc (w .steps)) s tables (w .sound))) (omega (arith, w .sound .current, w .sound .count)) content
       (λ e k. opening-report f archive (length tables) (s .place) e (w .opens) k) refl (ready .0) (fit .0)
 
@@ -271,21 +271,21 @@ module _ (f : Format) (archive : List ℕ) (s : State) (tables slots₀ slots so
   bytes = contentBytes f archive tables′ slots s content next
 
   -- the rule's table behind it
-  abbrev table′ : List Entry
-  table′ = tableAfter chosen (w .table) (usesAll (itemList item))
+  abbrev entries′ : List Entry
+  entries′ = entriesAfter chosen (w .entries) (usesAll (itemList item))
 
   -- from which the rule makes the same registrations in all
-  table-follows : registeredOf f archive ≡ tableAfter chosen table′ (usesAll (itemsOf rest))
-  table-follows =
-      w .table-is
-      ∙ rw (shown, uses-both (itemList item) (itemsOf rest)) (after-both chosen (w .table) (usesAll (itemList item)) (usesAll (itemsOf rest)))
+  entries-follow : registeredOf f archive ≡ entriesAfter chosen entries′ (usesAll (itemsOf rest))
+  entries-follow =
+      w .entries-are
+      ∙ rw (shown, uses-both (itemList item) (itemsOf rest)) (after-both chosen (w .entries) (usesAll (itemList item)) (usesAll (itemsOf rest)))
 
   -- with them the bytes of the rule go on
-  rule-follows : rule (itemsOf (runOf f archive)) ≡ (sofar ++ bytes) ++ recordsFrom chosen table′ (itemsOf rest)
+  rule-follows : rule (itemsOf (runOf f archive)) ≡ (sofar ++ bytes) ++ recordsFrom chosen entries′ (itemsOf rest)
   rule-follows =
       w .rule-is
-      ∙ rw (shown, records-behind chosen (w .table) item (itemsOf rest), ← (wrote .bytes-are))
-      (sym (append-assoc sofar bytes (recordsFrom chosen table′ (itemsOf rest))))
+      ∙ rw (shown, records-behind chosen (w .entries) item (itemsOf rest), ← (wrote .bytes-are))
+      (sym (append-assoc sofar bytes (recordsFrom chosen entries′ (itemsOf rest))))
 
   -- a turn of the pass
   pub writing-turn : Turned f archive s tables slots₀ slots sofar (recordAt f archive (s .place) .content) (recordAt f archive (s .place) .next)
@@ -303,15 +303,15 @@ module _ (f : Format) (archive : List ℕ) (s : State) (tables slots₀ slots so
       last-tables = rw again tables-follow;
       stop = rw again (rw passes at (w .stop));
       plain = w .plain;
-      table = table′;
-      table-is = rw again table-follows;
+      entries = entries′;
+      entries-are = rw again entries-follow;
       indexing = wrote .indexing;
       ready = rw again (ready .1);
       fit = rw again (fit .1);
       rule-is = rw again rule-follows;
       kept = kept-then archive (tableWords f) (keysOf f archive) (w .indexing .indexes .wide .some) slots₀ slots _ (w .kept) (wrote .kept);
     };
-    room = omega (arith, ap length rule-follows, length-append (sofar ++ bytes) (recordsFrom chosen table′ (itemsOf rest)));
+    room = omega (arith, ap length rule-follows, length-append (sofar ++ bytes) (recordsFrom chosen entries′ (itemsOf rest)));
   }
 
 -- ---- the start
@@ -360,8 +360,8 @@ writing-start f archive tables slots is bytes opens passes long zeros chosen =
       last-tables = tables-open f archive tables zeroed;
       stop = rw run (not-refused-passes f (runOf f archive) passes .stop);
       plain = items-plain f (chosenIn (usesAll items)) [] items fit;
-      table = [];
-      table-is = rw run;
+      entries = [];
+      entries-are = rw run;
       indexing = record { indexes = chosen; plain = tt; seen = []; registered = none-registered (chosenIn (usesAll items)) };
       ready = rw run (accepted-ready f archive is accepted bytes);
       fit = rw run fit;

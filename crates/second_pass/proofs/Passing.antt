@@ -13,8 +13,8 @@ use Rattle.tables.specs.Models.Entries.{FormatFits}
 use Rattle.effects.specs.Models.Bounds.{EffectFits}
 use Rattle.records.specs.Effect.{effectOf}
 use Rattle.words.proofs.Words.{AllBytes}
-use Rattle.words.specs.Stream.{written}
-use Rattle.words.proofs.Streams.{length-written, written-written, none-written}
+use Rattle.words.specs.Stream.{overwritten}
+use Rattle.words.proofs.Streams.{length-overwritten, overwritten-twice, none-overwritten}
 use Rattle.format.specs.declared.Format.{Format}
 use Rattle.format.specs.Limits.{smallFormat, longestArchive}
 use Rattle.records.specs.declared.Content.{Content}
@@ -51,7 +51,7 @@ pub record Passing (f : Format) (archive room₀ out₀ room out : List ℕ) (s 
   pub sofar : List ℕ
   pub writing : Writing f archive s (take (tableWords f) room) (drop (tableWords f) room₀) (drop (tableWords f) room) sofar
   pub long : length room ≡ length room₀
-  pub out-is : out ≡ written out₀ 0 sofar
+  pub out-is : out ≡ overwritten out₀ 0 sofar
   pub at-is : at ≡ length sofar
 
 -- a room whose tables are 0 and whose slots have choices is that of a pass that wrote nothing yet
@@ -64,7 +64,7 @@ passing-start {f} {archive} {room} {out} asks bytes chosen =
       writing = writing-start f archive (take (tableWords f) room) (drop (tableWords f) room) (asks .0) bytes (asks .1) (asks .2)
           (length-take-le (tableWords f) room (omega arith)) (λ i low. getD-take (tableWords f) room i 0 low ∙ asks .4 i low) chosen;
       long = refl;
-      out-is = none-written out 0 [];
+      out-is = none-overwritten out 0 [];
       at-is = refl;
     }
 
@@ -76,13 +76,13 @@ sofar-short sofar rest all e = rw e (omega (arith, length-append sofar rest))
 pub output-long : {f : Format} {archive room₀ out₀ room out : List ℕ} {s : State} {at : ℕ} → Asks f archive room₀ out₀
     → Passing f archive room₀ out₀ room out s at → length out ≡ length out₀
 output-long {out₀ = out₀} asks p =
-    rw (p .out-is) (length-written out₀ 0 (p .sofar) (omega (arith, asks .5, sofar-short (p .sofar) _ _ (p .writing .rule-is))))
+    rw (p .out-is) (length-overwritten out₀ 0 (p .sofar) (omega (arith, asks .5, sofar-short (p .sofar) _ _ (p .writing .rule-is))))
 
 -- at the archive's end the bytes of the rule are written, the tables are those at the end, the slots hold the indexes, and the room behind them is as
 -- it was
 pub passing-end : {f : Format} {archive room₀ out₀ room out : List ℕ} {s : State} {at : ℕ} → Passing f archive room₀ out₀ room out s at
     → length archive ≤ s .place
-    → (out ≡ written out₀ 0 (rule (itemsOf (runOf f archive))))
+    → (out ≡ overwritten out₀ 0 (rule (itemsOf (runOf f archive))))
     × ((take (tableWords f) room ≡ tablesOf f archive)
     × (SlotsIndexed f archive (drop (tableWords f) room₀) (drop (tableWords f) room)
     × ((length room ≡ length room₀) × (drop (4 * tableWords f) room ≡ drop (4 * tableWords f) room₀))))
@@ -94,7 +94,7 @@ passing-end {f} {archive} {room₀} {out₀} {room} {out} {s} p ends =
     let at-end : s .place ≡ length archive = omega (arith, w .sound .before) in
     let all = writing-end f archive s tables slots₀ slots (p .sofar) w at-end in
     let on : tableWords f + 3 * tableWords f ≡ 4 * tableWords f = omega arith in (
-      p .out-is ∙ ap (written out₀ 0) (sym all),
+      p .out-is ∙ ap (overwritten out₀ 0) (sym all),
       (
         writing-tables f archive s tables slots₀ slots (p .sofar) w at-end,
         (
@@ -123,7 +123,7 @@ pub record Turn (f : Format) (archive room₀ out₀ first out : List ℕ) (s : 
   pub space : at + length (contentIn f archive first s c next) ≤ length out
   pub on : (after last : List ℕ) (end : ℕ)
       → after ≡ contentRoom f archive first s c next
-      → last ≡ written out at (contentIn f archive first s c next)
+      → last ≡ overwritten out at (contentIn f archive first s c next)
       → end ≡ at + length (contentIn f archive first s c next)
       → Passing f archive room₀ out₀ after last (afterRecord s c next .state) end
 
@@ -187,7 +187,7 @@ module _ {f : Format} {archive room₀ out₀ room out : List ℕ} {s : State} {
   bytes-space = omega (arith, asks .5, p .at-is, turned .room, length-append (p .sofar) bytes, output-long asks p)
 
   -- with them the pass goes on
-  goes-on : (after last : List ℕ) (end : ℕ) → after ≡ tables′ ++ slots′ → last ≡ written out at bytes → end ≡ at + length bytes
+  goes-on : (after last : List ℕ) (end : ℕ) → after ≡ tables′ ++ slots′ → last ≡ overwritten out at bytes → end ≡ at + length bytes
       → Passing f archive room₀ out₀ after last (afterRecord s content next .state) end
   goes-on after last end a l e =
       let from : at ≡ 0 + length (p .sofar) = omega (arith, p .at-is) in
@@ -197,9 +197,9 @@ module _ {f : Format} {archive room₀ out₀ room out : List ℕ} {s : State} {
         writing = rw (a, take-at tables′ slots′ (tableWords f) tables-long, drop-at tables′ slots′ (tableWords f) tables-long) w;
         long = rw a (omega (arith, asks .3, length-append tables′ slots′, tables-long, w .kept .long, length-drop (tableWords f) room₀));
         out-is = l
-            ∙ ap (λ (o : List ℕ). written o at bytes) (p .out-is)
-            ∙ ap (λ (n : ℕ). written (written out₀ 0 (p .sofar)) n bytes) from
-            ∙ written-written out₀ 0 (p .sofar) bytes (omega arith);
+            ∙ ap (λ (o : List ℕ). overwritten o at bytes) (p .out-is)
+            ∙ ap (λ (n : ℕ). overwritten (overwritten out₀ 0 (p .sofar)) n bytes) from
+            ∙ overwritten-twice out₀ 0 (p .sofar) bytes (omega arith);
         at-is = omega (arith, e, p .at-is, length-append (p .sofar) bytes);
       }
 

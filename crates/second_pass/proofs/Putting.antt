@@ -6,10 +6,10 @@ use mathlib.Core.List.{List, [], _∷_}
 use native.Mathlib.Omega.{arith}
 use lib.ListN.{length, length-append}
 use Rattle.encoding.specs.Encoded.{stream, referenceOf, wordsBytes, partBytes, partsBytes}
-use Rattle.encoding.specs.Part.{reportHeader}
-use Rattle.words.proofs.Streams.{length-written}
+use Rattle.encoding.specs.Models.Part.{reportHeader}
+use Rattle.words.proofs.Streams.{length-overwritten}
 use Rattle.records.specs.declared.Report.{Report}
-use Rattle.records.specs.Item.{ownWords}
+use Rattle.records.specs.Item.{ownLayout}
 use Rattle.second_pass.specs.declared.Spelled.{Spelled}
 use Rattle.second_pass.specs.Models.Write.{spelledPart, streamOf, spelledPieces, spelledHeader}
 use Rattle.second_pass.proofs.Spelling.{joined, Writing, writing-starts}
@@ -17,7 +17,7 @@ use Rattle.second_pass.proofs.Spelling.{joined, Writing, writing-starts
 -- the bytes of the pieces of a record: its own words, its three references and its stream
 abbrev pub pieceParts : List ℕ → Report → (first second third : Spelled) → List ℕ → List (List ℕ)
 pieceParts archive r first second third bytes =
-    wordsBytes (ownWords (r .own))
+    wordsBytes (ownLayout (r .own) .words)
     ∷ partBytes (spelledPart archive (r .first .table) first)
     ∷ partBytes (spelledPart archive (r .second .table) second)
     ∷ partBytes (spelledPart archive (r .third .table) third)
@@ -35,7 +35,7 @@ pub writing-long : {out whole now : List ℕ} {left : List (List ℕ)} {start at
     → Writing out start whole left now at → length now ≡ length out
 writing-long {out} {left = left} {start} h w =
     let sum = ap length (w .parts) ∙ length-append (w .done) (joined left) in
-    ap length (w .is) ∙ length-written out start (w .done) (omega (arith, sum, h))
+    ap length (w .is) ∙ length-overwritten out start (w .done) (omega (arith, sum, h))
 
 -- a header of these references and of so long a stream is the one that is spelled so
 pub spelled-header : (archive : List ℕ) (size : ℕ) (r : Report) (first second third : Spelled) (one two three : ℕ) (bytes : List ℕ)

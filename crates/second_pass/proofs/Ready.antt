@@ -14,7 +14,7 @@ use Rattle.format.specs.declared.Format.{Format}
 use Rattle.format.specs.Limits.{smallFormat}
 use Rattle.records.specs.Item.{Shown, known, unresolved, Thread, thread, Text, Value, scalar, text, Argument, Item, magic, providerInfo, section, providerEvent, initialization, skipped}
 use Rattle.records.specs.Item.{Key, Use, textUses, threadUses, valueUses, argumentsUses, usesOf, Referent, Piece, layoutOfItem, referentUses, piecesUses, textReferent, words, threadReferent, stream, refers}
-use Rattle.rule.specs.Rule.{sameUse, usesAll, Entry, withUse, tableAfter, chosenIn}
+use Rattle.rule.specs.Rule.{sameUse, usesAll, Entry, withUse, entriesAfter, chosenIn}
 use Rattle.rule.specs.Refusal.{runOf, itemsOf, Accepted}
 use Rattle.rule.proofs.Accepted.{accepted-writable}
 use Rattle.rule.proofs.Limits.{Limited, uses-grow, limits-kept, limits-of}
@@ -76,10 +76,10 @@ item-plain f index i fit =
     (arguments-plain f index (l .provider) (l .arguments) (fit .layout .arguments))
 
 -- the uses of items that fit as they are written
-pub items-plain : (f : Format) (chosen : Use → Bool) (table : List Entry) (items : List Item) → AllFit f chosen table items → UsesPlain (usesAll items)
-items-plain f chosen table [] fit = tt
-items-plain f chosen table (i ∷ items) fit =
-    plain-both (usesOf i) (usesAll items) (item-plain f _ i (fit .1)) (items-plain f chosen (tableAfter chosen table (usesOf i)) items (fit .2))
+pub items-plain : (f : Format) (chosen : Use → Bool) (entries : List Entry) (items : List Item) → AllFit f chosen entries items → UsesPlain (usesAll items)
+items-plain f chosen entries [] fit = tt
+items-plain f chosen entries (i ∷ items) fit =
+    plain-both (usesOf i) (usesAll items) (item-plain f _ i (fit .1)) (items-plain f chosen (entriesAfter chosen entries (usesOf i)) items (fit .2))
 
 -- ---- uses are counted
 
@@ -101,25 +101,25 @@ counted-all (u ∷ uses) = (rw (same-use-refl u) (omega arith), counted-more u u
 -- ---- uses are within the limits
 
 -- keys that fit where they are registered, in two parts of uses
-fit-both : (f : Format) (chosen : Use → Bool) (table : List Entry) (us vs : List Use) → UsesFit f chosen table us
-    → UsesFit f chosen (tableAfter chosen table us) vs → UsesFit f chosen table (us ++ vs)
-fit-both f chosen table [] vs h k = k
-fit-both f chosen table (u ∷ us) vs h k = (h .0, fit-both f chosen (withUse chosen table u) us vs (h .1) k)
+fit-both : (f : Format) (chosen : Use → Bool) (entries : List Entry) (us vs : List Use) → UsesFit f chosen entries us
+    → UsesFit f chosen (entriesAfter chosen entries us) vs → UsesFit f chosen entries (us ++ vs)
+fit-both f chosen entries [] vs h k = k
+fit-both f chosen entries (u ∷ us) vs h k = (h .0, fit-both f chosen (withUse chosen entries u) us vs (h .1) k)
 
 -- and in all uses of items that fit as they are written
-items-fit : (f : Format) (chosen : Use → Bool) (table : List Entry) (items : List Item) → AllFit f chosen table items
-    → UsesFit f chosen table (usesAll items)
-items-fit f chosen table [] fit = tt
-items-fit f chosen table (i ∷ items) fit =
-    fit-both f chosen table (usesOf i) (usesAll items) (fit .0) (items-fit f chosen (tableAfter chosen table (usesOf i)) items (fit .2))
+items-fit : (f : Format) (chosen : Use → Bool) (entries : List Entry) (items : List Item) → AllFit f chosen entries items
+    → UsesFit f chosen entries (usesAll items)
+items-fit f chosen entries [] fit = tt
+items-fit f chosen entries (i ∷ items) fit =
+    fit-both f chosen entries (usesOf i) (usesAll items) (fit .0) (items-fit f chosen (entriesAfter chosen entries (usesOf i)) items (fit .2))
 
 -- uses that are counted, fit and keep the limits behind all of them are ready
-uses-ready : (f : Format) (uses : List Use) (table : List Entry) (us : List Use) → Limited f (tableAfter (chosenIn uses) table us) us
-    → UsesFit f (chosenIn uses) table us → UsesCounted uses us → UsesReady f uses table us
-uses-ready f uses table [] limited fit counted = tt
-uses-ready f uses table (u ∷ us) limited fit counted = (
-  record { used = counted .0; few = omega (arith, limited .0, uses-grow (chosenIn uses) table (u ∷ us) u); fits = fit .0 },
-  uses-ready f uses (withUse (chosenIn uses) table u) us (limited .1) (fit .1) (counted .1),
+uses-ready : (f : Format) (uses : List Use) (entries : List Entry) (us : List Use) → Limited f (entriesAfter (chosenIn uses) entries us) us
+    → UsesFit f (chosenIn uses) entries us → UsesCounted uses us → UsesReady f uses entries us
+uses-ready f uses entries [] limited fit counted = tt
+uses-ready f uses entries (u ∷ us) limited fit counted = (
+  record { used = counted .0; few = omega (arith, limited .0, uses-grow (chosenIn uses) entries (u ∷ us) u); fits = fit .0 },
+  uses-ready f uses (withUse (chosenIn uses) entries u) us (limited .1) (fit .1) (counted .1),
 )
 
 -- ---- archives that are not refused

@@ -16,7 +16,7 @@ use Rattle.encoding.proofs.EncodedArguments.{TextFits, ValueFits, ArgumentFits 
 use Rattle.encoding.proofs.EncodedLayouts.{ThreadFits, ReferentFits, ItemFits, length-body}
 use Rattle.encoding.proofs.EncodedReports.{own-encoded}
 use Rattle.encoding.specs.Encoded.{Encoded, layoutBody, valueRecord, argumentRecord, argumentsRecords, encodedText, encodedReferent, itemRecord, layoutHeader, referenceOf, recordBytes}
-use Rattle.encoding.specs.Part.{textArgument, FieldsFit}
+use Rattle.encoding.specs.Models.Part.{textArgument, FieldsFit}
 use Rattle.words.specs.Word.{wordAt, Field}
 use Rattle.words.specs.Stream.{partOf}
 use Rattle.words.proofs.Words.{wordAt-lt, AllBytes}
@@ -31,7 +31,7 @@ use Rattle.arguments.proofs.Bounds.{ScalarFits}
 use Rattle.records.specs.declared.Lookup.{Lookup}
 use Rattle.records.specs.declared.Report.{Report as ReadReport}
 use Rattle.records.specs.Lookups.{textLookup, argumentLookups, argumentsTo, reportLookups}
-use Rattle.records.specs.Item.{thread, Report, report, reportLayout, Key, textKey, threadKey, Use, ownHeader, ownType}
+use Rattle.records.specs.Item.{thread, Report, report, reportLayout, Key, textKey, threadKey, Use, ownLayout}
 use Rattle.contexts.specs.declared.State.{State}
 use Rattle.contexts.specs.Context.{providerOf}
 use Rattle.tables.specs.declared.Resolved.{Resolved}
@@ -39,7 +39,7 @@ use Rattle.tables.specs.declared.Resolved.the-variants.{Bad, Known, Unresolved}
 use Rattle.tables.specs.Table.{tableWords, resolved, lookedUp}
 use Rattle.reader.specs.Shown.{shownText, shownThread, shownReferent, shownValue}
 use Rattle.reader.specs.Reads.{textItem, threadItem, referentItem, providerItem, valueItem}
-use Rattle.reader.proofs.Changes.{Kind}
+use Rattle.reader.proofs.Changes.{IsTable}
 use Rattle.rule.specs.Rule.{Entry, indexIn}
 use Rattle.passes.proofs.Places.{LookupStands, LookupsStand, part-inside}
 use Rattle.passes.proofs.Codes.{UsesPlain}
@@ -70,11 +70,11 @@ scalar-low (Boolean b) fit = omega arith
 scalar-low (Unknown type) fit = absurd fit
 
 module _ (f : Format) (archive : List ℕ) (last : State) (uses : List Use) (few : last .count ≤ 8) (plain : UsesPlain uses) (bytes : AllBytes archive)
-    (slots : List ℕ) (table : List Entry) (I : Indexing f archive last uses slots table) (provider : Option ℕ) (context : ℕ)
+    (slots : List ℕ) (entries : List Entry) (I : Indexing f archive last uses slots entries) (provider : Option ℕ) (context : ℕ)
     (here : contextIn last provider ≡ context) where
   -- the index of a key in the provider's context
   abbrev index : Key → ℕ
-  index = indexIn table provider
+  index = indexIn entries provider
 
   -- ---- references
 
@@ -87,7 +87,7 @@ module _ (f : Format) (archive : List ℕ) (last : State) (uses : List Use) (few
       let u : Use = record { provider = provider; key = textKey (partOf archive place long) } in
       let is : indexOf archive (tableWords f) slots (keyOf archive place (labelOf context 2 long)) ≡ index (textKey (partOf archive place long)) =
       ap (indexOf archive (tableWords f) slots) (text-use-code archive last provider context here place long inside (omega arith))
-      ∙ index-spelled f archive last uses few plain slots table I u (omega (arith, size)) in
+      ∙ index-spelled f archive last uses few plain slots entries I u (omega (arith, size)) in
       record { part-is = rw is; text = λ k. (omega (arith, is), omega (arith, size)); thread = λ k. absurd (omega (arith, k)) }
 
   -- a text as it is shown
@@ -112,68 +112,68 @@ module _ (f : Format) (archive : List ℕ) (last : State) (uses : List Use) (few
       let code = thread-use-code archive last provider context here place bytes (omega (arith, sixteen, stands .0)) in
       let is : indexOf archive (tableWords f) slots (keyOf archive place (labelOf context 3 long)) ≡ index k =
       ap (indexOf archive (tableWords f) slots) (rw sixteen code)
-      ∙ index-spelled f archive last uses few plain slots table I u (wordAt-lt archive place bytes, wordAt-lt archive (place + 8) bytes) in
+      ∙ index-spelled f archive last uses few plain slots entries I u (wordAt-lt archive place bytes, wordAt-lt archive (place + 8) bytes) in
       record { part-is = rw (is, sixteen, words .0, words .1); text = λ k. absurd (omega (arith, k)); thread = λ k none. omega (arith, size, sixteen) }
   thread-spelled (Unresolved i) stands fit = absurd fit
 
   -- what is looked up in one of the two tables, as it is shown
-  referent-spelled : (kind : ℕ) (r : Resolved) → Kind kind → ResolvedStands archive kind r
-      → ReferentFits f index (referentItem archive (shownReferent archive kind r)) → Spells f archive slots context kind index r
+  referent-spelled : (table : ℕ) (r : Resolved) → IsTable table → ResolvedStands archive table r
+      → ReferentFits f index (referentItem archive (shownReferent archive table r)) → Spells f archive slots context table index r
   unfolding shownReferent
-  referent-spelled kind r (inl k) stands fit = rw k (text-spelled r (rw k at stands) (rw k at fit))
-  referent-spelled kind r (inr k) stands fit = rw k (thread-spelled r (rw k at stands) (rw k at fit))
+  referent-spelled table r (inl k) stands fit = rw k (text-spelled r (rw k at stands) (rw k at fit))
+  referent-spelled table r (inr k) stands fit = rw k (thread-spelled r (rw k at stands) (rw k at fit))
 
-  module _ (short : length archive < 2 ^ 31) (tables : List ℕ) (limit : ℕ) where
+  module _ (short : length archive < 2 ^ 31) (tables : List ℕ) (until : ℕ) where
     -- a reference of a record
-    pub lookup-spelled : (l : Lookup) → LookupStands archive l → ReferentFits f index (referentAt f archive tables context limit l)
-        → Spells f archive slots context (l .table) index (lookedUp f archive tables context limit l)
+    pub lookup-spelled : (l : Lookup) → LookupStands archive l → ReferentFits f index (referentAt f archive tables context until l)
+        → Spells f archive slots context (l .table) index (lookedUp f archive tables context until l)
     lookup-spelled l stands fit =
-        referent-spelled (l .table) (lookedUp f archive tables context limit l) (stands .table) (resolved-stands f archive tables context limit l stands) fit
+        referent-spelled (l .table) (lookedUp f archive tables context until l) (stands .table) (resolved-stands f archive tables context until l stands) fit
 
     spelled-fits : (l : Lookup) → LookupStands archive l
-        → Spells f archive slots context (l .table) index (lookedUp f archive tables context limit l)
-        → SpelledFits f archive tables slots context limit l
+        → Spells f archive slots context (l .table) index (lookedUp f archive tables context until l)
+        → SpelledFits f archive tables slots context until l
     spelled-fits l stands s = record { can = can-look-up archive l short stands; text = s .text; thread = s .thread }
 
-    pub lookup-fits : (l : Lookup) → LookupStands archive l → ReferentFits f index (referentAt f archive tables context limit l)
-        → SpelledFits f archive tables slots context limit l
+    pub lookup-fits : (l : Lookup) → LookupStands archive l → ReferentFits f index (referentAt f archive tables context until l)
+        → SpelledFits f archive tables slots context until l
     lookup-fits l stands fit = spelled-fits l stands (lookup-spelled l stands fit)
 
     -- ---- arguments
 
     -- the text of a value; a scalar has an empty one, which nothing is written of
     value-fits : (v : ReadValue) → LookupStands archive (textLookup (textIn v))
-        → ValueFits f index (valueItem archive (shownValue f archive tables context limit v))
-        → SpelledFits f archive tables slots context limit (textLookup (textIn v)) × ValueLow v
+        → ValueFits f index (valueItem archive (shownValue f archive tables context until v))
+        → SpelledFits f archive tables slots context until (textLookup (textIn v)) × ValueLow v
     unfolding shownValue resolved shownReferent
     value-fits (ScalarValue s) stands fit =
         let empty : partOf archive 0 0 ≡ [] = part-inside archive 0 0 (omega arith) .0 in (
           spelled-fits (textLookup (textIn (ScalarValue s))) stands
-              (text-known 0 0 (omega arith) (omega arith) (rw empty (omega (arith, empty-index f archive last uses few plain slots table I provider)))),
+              (text-known 0 0 (omega arith) (omega arith) (rw empty (omega (arith, empty-index f archive last uses few plain slots entries I provider)))),
           scalar-low s fit,
         )
     value-fits (TextValue r) stands fit = (lookup-fits (textLookup r) stands fit, tt)
 
     -- a value is written as the rule writes it
     value-spelled : (name : Encoded) (v : ReadValue) → LookupStands archive (textLookup (textIn v))
-        → ValueFits f index (valueItem archive (shownValue f archive tables context limit v))
-        → valueBytes f archive tables slots context limit name v ≡ valueRecord index name (valueItem archive (shownValue f archive tables context limit v))
+        → ValueFits f index (valueItem archive (shownValue f archive tables context until v))
+        → valueBytes f archive tables slots context until name v ≡ valueRecord index name (valueItem archive (shownValue f archive tables context until v))
     unfolding shownValue shownReferent
     value-spelled name (ScalarValue s) stands fit = refl
     value-spelled name (TextValue r) stands fit =
         ap (λ (w : Encoded). textArgument name w) (lookup-spelled (textLookup r) stands fit .part-is)
 
     module _ (a : ReadArgument) (name : LookupStands archive (textLookup (a .name))) (value : LookupStands archive (textLookup (textIn (a .value))))
-        (fit : ArgumentItemFits f index (argumentAt f archive tables context limit a)) where
+        (fit : ArgumentItemFits f index (argumentAt f archive tables context until a)) where
       -- an argument is written as the rule writes it
-      argument-spelled : argumentBytes f archive tables slots context limit a ≡ argumentRecord index (argumentAt f archive tables context limit a)
+      argument-spelled : argumentBytes f archive tables slots context until a ≡ argumentRecord index (argumentAt f archive tables context until a)
       unfolding argumentBytes shownReferent
       argument-spelled =
           rw (lookup-spelled (textLookup (a .name)) name (fit .name) .part-is)
-          (value-spelled (encodedText index (textAt f archive tables context limit (a .name))) (a .value) value (fit .value))
+          (value-spelled (encodedText index (textAt f archive tables context until (a .name))) (a .value) value (fit .value))
 
       -- and fits
-      argument-fits : argumentWords index (argumentAt f archive tables context limit a) < 2 ^ 12 → ArgumentFits f archive tables slots context limit a
+      argument-fits : argumentWords index (argumentAt f archive tables context until a) < 2 ^ 12 → ArgumentFits f archive tables slots context until a
       unfolding shownReferent
       argument-fits sized =
           let v = value-fits (a .value) value (fit .value) in
@@ -181,17 +181,17 @@ module _ (f : Format) (archive : List ℕ) (last : State) (uses : List Use) (few
             name = lookup-fits (textLookup (a .name)) name (fit .name);
             text = v .0;
             type = v .1;
-            size = rw argument-spelled (omega (arith, length-argument index (argumentAt f archive tables context limit a)));
+            size = rw argument-spelled (omega (arith, length-argument index (argumentAt f archive tables context until a)));
           }
 
     -- arguments are written as the rule writes them, and fit
     pub record ArgumentsSpelled (l : List ReadArgument) : Type 0 where
-      pub bytes-are : argumentsBytes f archive tables slots context limit l ≡ argumentsRecords index (argumentsAt f archive tables context limit l)
-      pub fits : ArgumentsFit f archive tables slots context limit l
+      pub bytes-are : argumentsBytes f archive tables slots context until l ≡ argumentsRecords index (argumentsAt f archive tables context until l)
+      pub fits : ArgumentsFit f archive tables slots context until l
 
     -- so are those that stand in the archive and fit
-    pub arguments-spelled : (l : List ReadArgument) → LookupsStand archive (argumentLookups l) → AllFit f index (argumentsAt f archive tables context limit l)
-        → AllSized index (argumentsAt f archive tables context limit l) → ArgumentsSpelled l
+    pub arguments-spelled : (l : List ReadArgument) → LookupsStand archive (argumentLookups l) → AllFit f index (argumentsAt f archive tables context until l)
+        → AllSized index (argumentsAt f archive tables context until l) → ArgumentsSpelled l
     arguments-spelled [] stands fit sized = record { bytes-are = refl; fits = tt }
     arguments-spelled (a ∷ l) stands fit sized =
         let rest = arguments-spelled l (stands .1 .1) (fit .1) (sized .1) in
@@ -203,7 +203,7 @@ module _ (f : Format) (archive : List ℕ) (last : State) (uses : List Use) (few
 -- ---- records
 
 module _ (f : Format) (archive : List ℕ) (last : State) (uses : List Use) (few : last .count ≤ 8) (plain : UsesPlain uses) (bytes : AllBytes archive)
-    (slots : List ℕ) (table : List Entry) (I : Indexing f archive last uses slots table) (short : length archive < 2 ^ 31) (tables : List ℕ) (s : State)
+    (slots : List ℕ) (entries : List Entry) (I : Indexing f archive last uses slots entries) (short : length archive < 2 ^ 31) (tables : List ℕ) (s : State)
     (r : ReadReport) (next : ℕ) (here : contextIn last (providerItem (providerOf s)) ≡ s .current)
     (stands : LookupsStand archive (reportLookups f archive r next)) where
   -- the item of the record
@@ -212,17 +212,17 @@ module _ (f : Format) (archive : List ℕ) (last : State) (uses : List Use) (few
 
   -- the index of a key in its context
   abbrev keyIndex : Key → ℕ
-  keyIndex = indexIn table (providerItem (providerOf s))
+  keyIndex = indexIn entries (providerItem (providerOf s))
 
   module _ (all : length (item .arguments) ≡ r .count) (fit : ItemFits f keyIndex (report item)) where
     -- a reference of it
     one : (l : Lookup) → LookupStands archive l → ReferentFits f keyIndex (referentAt f archive tables (s .current) (s .place) l)
         → Spells f archive slots (s .current) (l .table) keyIndex (lookedUp f archive tables (s .current) (s .place) l)
-    one = lookup-spelled f archive last uses few plain bytes slots table I (providerItem (providerOf s)) (s .current) here short tables (s .place)
+    one = lookup-spelled f archive last uses few plain bytes slots entries I (providerItem (providerOf s)) (s .current) here short tables (s .place)
 
     one-fits : (l : Lookup) → LookupStands archive l → ReferentFits f keyIndex (referentAt f archive tables (s .current) (s .place) l)
         → SpelledFits f archive tables slots (s .current) (s .place) l
-    one-fits = lookup-fits f archive last uses few plain bytes slots table I (providerItem (providerOf s)) (s .current) here short tables (s .place)
+    one-fits = lookup-fits f archive last uses few plain bytes slots entries I (providerItem (providerOf s)) (s .current) here short tables (s .place)
 
     -- its first reference, its second and its third
     first : Spells f archive slots (s .current) (r .first .table) keyIndex (lookedUp f archive tables (s .current) (s .place) (r .first))
@@ -238,11 +238,11 @@ module _ (f : Format) (archive : List ℕ) (last : State) (uses : List Use) (few
     third = one (r .third) (stands .1 .1 .0) (fit .layout .pieces .1 .1 .1 .0)
 
     -- its arguments
-    arguments : ArgumentsSpelled f archive last uses few plain bytes slots table I (providerItem (providerOf s)) (s .current) here short tables (s .place)
+    arguments : ArgumentsSpelled f archive last uses few plain bytes slots entries I (providerItem (providerOf s)) (s .current) here short tables (s .place)
         (argumentsTo f archive r next)
     unfolding reportAt
     arguments =
-        arguments-spelled f archive last uses few plain bytes slots table I (providerItem (providerOf s)) (s .current) here short tables (s .place)
+        arguments-spelled f archive last uses few plain bytes slots entries I (providerItem (providerOf s)) (s .current) here short tables (s .place)
         (argumentsTo f archive r next) (stands .1 .1 .1) (fit .layout .arguments)
         (all-sized keyIndex (item .arguments) (omega (arith, fit .layout .size)))
 
@@ -256,15 +256,15 @@ module _ (f : Format) (archive : List ℕ) (last : State) (uses : List Use) (few
     unfolding reportAt
     header-spelled =
         rw (first .part-is, second .part-is, third .part-is)
-        (ap (λ (n : ℕ). ownHeader (r .own) n (referenceOf (encodedReferent keyIndex (item .first))) (referenceOf (encodedReferent keyIndex (item .second)))
+        (ap (λ (n : ℕ). ownLayout (r .own) .header n (referenceOf (encodedReferent keyIndex (item .first))) (referenceOf (encodedReferent keyIndex (item .second)))
         (referenceOf (encodedReferent keyIndex (item .third))) (length (item .stream))) (sym all))
 
     -- it is written as the rule writes it
     pub report-spelled : reportBytes f archive tables slots s r next ≡ itemRecord keyIndex (report item)
     unfolding reportBytes reportAt
     report-spelled =
-        ap (λ (h : List Field). recordBytes (ownType (r .own)) h (reportBody f archive tables slots s r next)) header-spelled
-        ∙ ap (λ (b : List ℕ). recordBytes (ownType (r .own)) (layoutHeader keyIndex (reportLayout item)) b) body-spelled
+        ap (λ (h : List Field). recordBytes (ownLayout (r .own) .type) h (reportBody f archive tables slots s r next)) header-spelled
+        ∙ ap (λ (b : List ℕ). recordBytes (ownLayout (r .own) .type) (layoutHeader keyIndex (reportLayout item)) b) body-spelled
 
     -- and fits
     pub report-fits : ReportFits f archive tables slots s r next

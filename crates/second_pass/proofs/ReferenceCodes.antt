@@ -31,13 +31,13 @@ ResolvedStands archive table (Known place long) = (place + long ≤ length archi
 ResolvedStands archive table (Unresolved index) = Unit {0}
 
 -- so it is for every reference of a record that stands in the archive
-pub resolved-stands : (f : Format) (archive tables : List ℕ) (context limit : ℕ) (l : Lookup) → LookupStands archive l
-    → ResolvedStands archive (l .table) (lookedUp f archive tables context limit l)
-resolved-stands f archive tables context limit l h = go (lookedUp f archive tables context limit l) refl
+pub resolved-stands : (f : Format) (archive tables : List ℕ) (context until : ℕ) (l : Lookup) → LookupStands archive l
+    → ResolvedStands archive (l .table) (lookedUp f archive tables context until l)
+resolved-stands f archive tables context until l h = go (lookedUp f archive tables context until l) refl
   where
-    go : (x : Resolved) → lookedUp f archive tables context limit l ≡ x → ResolvedStands archive (l .table) x
+    go : (x : Resolved) → lookedUp f archive tables context until l ≡ x → ResolvedStands archive (l .table) x
     go Bad e = tt
-    go (Known place long) e = let k = lookup-known f archive tables context limit l place long h e in (k .0 .inside, k .1)
+    go (Known place long) e = let k = lookup-known f archive tables context until l place long h e in (k .0 .inside, k .1)
     go (Unresolved index) e = tt
 
 -- the two words of sixteen bytes are those that the archive has there

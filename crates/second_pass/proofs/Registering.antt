@@ -10,8 +10,8 @@ use Rattle.tally.specs.Models.Slots.{labelOf, keyOf, findOf}
 use Rattle.indexing.specs.Models.Indexes.{newIndex, indexed}
 use Rattle.encoding.specs.Encoded.{stringRecord, threadRecord}
 use Rattle.words.specs.Word.{wordAt}
-use Rattle.words.specs.Stream.{written, partOf}
-use Rattle.words.proofs.Streams.{written-written, length-written}
+use Rattle.words.specs.Stream.{overwritten, partOf}
+use Rattle.words.proofs.Streams.{overwritten-twice, length-overwritten}
 use Rattle.format.specs.declared.Format.{Format}
 use Rattle.records.specs.declared.Lookup.{Lookup}
 use Rattle.records.specs.declared.Report.{Report}
@@ -51,7 +51,7 @@ registration-text table index bytes some k = rw (ne-eqb index 0 some, ne-eqb tab
 abbrev pub Given : Format → (archive room out : List ℕ) → (at context table : ℕ) → Resolved → (after now : List ℕ) → ℕ → Type 0
 Given f archive room out at context table r after now next =
     (after ≡ take (tableWords f) room ++ givenSlots f archive (drop (tableWords f) room) context table r)
-    × ((now ≡ written out at (givenBytes f archive (drop (tableWords f) room) context table r))
+    × ((now ≡ overwritten out at (givenBytes f archive (drop (tableWords f) room) context table r))
     × (next ≡ at + length (givenBytes f archive (drop (tableWords f) room) context table r)))
 
 module _ (f : Format) (archive room out : List ℕ) (at context table : ℕ) (r : Resolved) where
@@ -118,7 +118,7 @@ pub given-known : (f : Format) (archive room out : List ℕ) (at context table :
     → slots
     ≡ indexed (tableWords f) (drop (tableWords f) room) label
     (findOf archive (tableWords f) (drop (tableWords f) room) (keyOf archive place label))
-    → after ≡ take (tableWords f) room ++ slots → now ≡ written out at (registrationBytes table index bytes)
+    → after ≡ take (tableWords f) room ++ slots → now ≡ overwritten out at (registrationBytes table index bytes)
     → next ≡ at + length (registrationBytes table index bytes) → Given f archive room out at context table r after now next
 given-known f archive room out at context table r place long label index bytes slots after now next i s a w n =
     let old = drop (tableWords f) room in
@@ -131,33 +131,33 @@ given-known f archive room out at context table r place long label index bytes s
 -- ---- references one behind the other
 
 -- the room, the output and the place right behind, where what references stand for is registered
-abbrev pub Registered : Format → List ℕ → (context limit : ℕ) → List Lookup → (room out : List ℕ) → ℕ → (after now : List ℕ) → ℕ → Type 0
-Registered f archive context limit ls room out at after now next =
-    (after ≡ registeredRoom f archive room context limit ls)
-    × ((now ≡ written out at (registeredBytes f archive room context limit ls)) × (next ≡ at + length (registeredBytes f archive room context limit ls)))
+abbrev pub Registered : Format → List ℕ → (context until : ℕ) → List Lookup → (room out : List ℕ) → ℕ → (after now : List ℕ) → ℕ → Type 0
+Registered f archive context until ls room out at after now next =
+    (after ≡ registeredRoom f archive room context until ls)
+    × ((now ≡ overwritten out at (registeredBytes f archive room context until ls)) × (next ≡ at + length (registeredBytes f archive room context until ls)))
 
 -- one reference
-pub one-registered : (f : Format) (archive room out : List ℕ) (at context limit : ℕ) (l : Lookup) (after now : List ℕ) (next : ℕ)
-    → Given f archive room out at context (l .table) (lookedUp f archive (tablesIn f room) context limit l) after now next
-    → Registered f archive context limit (l ∷ []) room out at after now next
-one-registered f archive room out at context limit l after now next g =
-    rw (append-nil (givenBytes f archive (slotsIn f room) context (l .table) (lookedUp f archive (tablesIn f room) context limit l))) g
+pub one-registered : (f : Format) (archive room out : List ℕ) (at context until : ℕ) (l : Lookup) (after now : List ℕ) (next : ℕ)
+    → Given f archive room out at context (l .table) (lookedUp f archive (tablesIn f room) context until l) after now next
+    → Registered f archive context until (l ∷ []) room out at after now next
+one-registered f archive room out at context until l after now next g =
+    rw (append-nil (givenBytes f archive (slotsIn f room) context (l .table) (lookedUp f archive (tablesIn f room) context until l))) g
 
-module _ (f : Format) (archive : List ℕ) (context limit : ℕ) (whole : List Lookup) (room₀ out₀ : List ℕ) (start : ℕ) where
+module _ (f : Format) (archive : List ℕ) (context until : ℕ) (whole : List Lookup) (room₀ out₀ : List ℕ) (start : ℕ) where
   -- where references are registered one behind the other: with those that are left registered too, from here, all are
   pub record Registering (left : List Lookup) (room out : List ℕ) (at : ℕ) : Type 0 where
     pub tables : tablesIn f room ≡ tablesIn f room₀
     pub long : length room ≡ length room₀
     pub out-long : length out ≡ length out₀
-    pub slots : lookupsGivenSlots f archive (tablesIn f room₀) context limit (slotsIn f room₀) whole
-        ≡ lookupsGivenSlots f archive (tablesIn f room) context limit (slotsIn f room) left
-    pub bytes : written out₀ start (registeredBytes f archive room₀ context limit whole) ≡ written out at (registeredBytes f archive room context limit left)
-    pub behind : start + length (registeredBytes f archive room₀ context limit whole) ≡ at + length (registeredBytes f archive room context limit left)
-    pub fits : LookupsFitIn f archive room context limit left
-    pub space : at + length (registeredBytes f archive room context limit left) ≤ length out
+    pub slots : lookupsGivenSlots f archive (tablesIn f room₀) context until (slotsIn f room₀) whole
+        ≡ lookupsGivenSlots f archive (tablesIn f room) context until (slotsIn f room) left
+    pub bytes : overwritten out₀ start (registeredBytes f archive room₀ context until whole) ≡ overwritten out at (registeredBytes f archive room context until left)
+    pub behind : start + length (registeredBytes f archive room₀ context until whole) ≡ at + length (registeredBytes f archive room context until left)
+    pub fits : LookupsFitIn f archive room context until left
+    pub space : at + length (registeredBytes f archive room context until left) ≤ length out
 
   -- at the start all are left
-  pub registering-starts : LookupsFitIn f archive room₀ context limit whole → start + length (registeredBytes f archive room₀ context limit whole) ≤ length out₀
+  pub registering-starts : LookupsFitIn f archive room₀ context until whole → start + length (registeredBytes f archive room₀ context until whole) ≤ length out₀
       → Registering whole room₀ out₀ start
   registering-starts fits space =
       record { tables = refl; long = refl; out-long = refl; slots = refl; bytes = refl; behind = refl; fits = fits; space = space }
@@ -168,50 +168,50 @@ module _ (f : Format) (archive : List ℕ) (context limit : ℕ) (whole : List L
 
   -- once those that are left are registered, all are
   pub registering-ends : {left : List Lookup} {room out : List ℕ} {at : ℕ} {after now : List ℕ} {next : ℕ} → Registering left room out at
-      → Registered f archive context limit left room out at after now next → Registered f archive context limit whole room₀ out₀ start after now next
+      → Registered f archive context until left room out at after now next → Registered f archive context until whole room₀ out₀ start after now next
   registering-ends {left} {room} g r =
       (r .0 ∙ rw (g .slots, g .tables), (r .1 .0 ∙ sym (g .bytes), r .1 .1 ∙ sym (g .behind)))
 
   -- where none is left, all are
-  pub registering-done : {room out : List ℕ} {at : ℕ} → Registering [] room out at → Registered f archive context limit whole room₀ out₀ start room out at
+  pub registering-done : {room out : List ℕ} {at : ℕ} → Registering [] room out at → Registered f archive context until whole room₀ out₀ start room out at
   registering-done {room} {out} {at} g =
       registering-ends g (sym (take-append-drop (tableWords f) room), (nothing-written out at, omega arith))
 
   module _ {l : Lookup} {more : List Lookup} {room out : List ℕ} {at : ℕ} (g : Registering (l ∷ more) room out at) where
     -- the bytes of the next
     abbrev next-bytes : List ℕ
-    next-bytes = givenBytes f archive (slotsIn f room) context (l .table) (lookedUp f archive (tablesIn f room) context limit l)
+    next-bytes = givenBytes f archive (slotsIn f room) context (l .table) (lookedUp f archive (tablesIn f room) context until l)
 
     -- the slots after it
     abbrev next-slots : List ℕ
-    next-slots = givenSlots f archive (slotsIn f room) context (l .table) (lookedUp f archive (tablesIn f room) context limit l)
+    next-slots = givenSlots f archive (slotsIn f room) context (l .table) (lookedUp f archive (tablesIn f room) context until l)
 
     -- and the bytes of the others
     abbrev others : List ℕ
-    others = lookupsGivenBytes f archive (tablesIn f room) context limit next-slots more
+    others = lookupsGivenBytes f archive (tablesIn f room) context until next-slots more
 
     -- the next fits
-    pub next-fits : LookupsFitIn f archive room context limit (l ∷ [])
-        × (at + length (registeredBytes f archive room context limit (l ∷ [])) ≤ length out)
+    pub next-fits : LookupsFitIn f archive room context until (l ∷ [])
+        × (at + length (registeredBytes f archive room context until (l ∷ [])) ≤ length out)
     next-fits =
         ((g .fits .0, tt), rw (append-nil next-bytes) (omega (arith, g .space, length-append next-bytes others)))
 
     -- once it is registered the others are left
-    pub registering-next : {after now : List ℕ} {next : ℕ} → Registered f archive context limit (l ∷ []) room out at after now next
+    pub registering-next : {after now : List ℕ} {next : ℕ} → Registered f archive context until (l ∷ []) room out at after now next
         → tableWords f ≤ length room₀ → length after ≡ length room → Registering more after now next
     registering-next {after} {now} {next} r wide same =
         let tables-are : tablesIn f after ≡ tablesIn f room = tables-stay (tableWords f) room next-slots after (omega (arith, g .long)) (r .0) in
         let slots-are : slotsIn f after ≡ next-slots = slots-stand (tableWords f) room next-slots after (omega (arith, g .long)) (r .0) in
-        let bytes-are : now ≡ written out at next-bytes = r .1 .0 ∙ rw (append-nil next-bytes) in
+        let bytes-are : now ≡ overwritten out at next-bytes = r .1 .0 ∙ rw (append-nil next-bytes) in
         let place-is : next ≡ at + length next-bytes = r .1 .1 ∙ rw (append-nil next-bytes) in
         let sum = length-append next-bytes others in
-        let now-long : length now ≡ length out = ap length bytes-are ∙ length-written out at next-bytes (omega (arith, g .space, sum)) in
+        let now-long : length now ≡ length out = ap length bytes-are ∙ length-overwritten out at next-bytes (omega (arith, g .space, sum)) in
         record {
           tables = tables-are ∙ g .tables;
           long = same ∙ g .long;
           out-long = now-long ∙ g .out-long;
           slots = g .slots ∙ rw (tables-are, slots-are);
-          bytes = g .bytes ∙ rw (tables-are, slots-are, bytes-are, place-is) (sym (written-written out at next-bytes others (omega (arith, g .space, sum))));
+          bytes = g .bytes ∙ rw (tables-are, slots-are, bytes-are, place-is) (sym (overwritten-twice out at next-bytes others (omega (arith, g .space, sum))));
           behind = rw (tables-are, slots-are) (omega (arith, g .behind, place-is, sum));
           fits = rw (tables-are, slots-are) (g .fits .1);
           space = rw (tables-are, slots-are) (omega (arith, g .space, place-is, sum, now-long));
@@ -252,15 +252,15 @@ module _ (f : Format) (archive room out : List ℕ) (at : ℕ) (s : State) (r : 
     record-fits same fit = rw (kept, changed) (fit, omega (arith, length-append given body, g .1 .1))
 
     -- and once it is written, both are
-    pub record-written : (then : List ℕ) (last : ℕ) → then ≡ written now end (reportIn f archive after s r next)
+    pub record-written : (then : List ℕ) (last : ℕ) → then ≡ overwritten now end (reportIn f archive after s r next)
         → last ≡ end + length (reportIn f archive after s r next)
-        → (after ≡ tablesIn f room ++ slots) × ((then ≡ written out at (given ++ body)) × (last ≡ at + length (given ++ body)))
+        → (after ≡ tablesIn f room ++ slots) × ((then ≡ overwritten out at (given ++ body)) × (last ≡ at + length (given ++ body)))
     record-written then last w n =
-        let w′ : then ≡ written now end body = rw (kept, changed) at w in
+        let w′ : then ≡ overwritten now end body = rw (kept, changed) at w in
         let n′ : last ≡ end + length body = rw (kept, changed) at n in (
           g .0,
           (
-            w′ ∙ rw (g .1 .0, g .1 .1) (written-written out at given body (omega (arith, length-append given body))),
+            w′ ∙ rw (g .1 .0, g .1 .1) (overwritten-twice out at given body (omega (arith, length-append given body))),
             omega (arith, length-append given body, g .1 .1),
           ),
         )

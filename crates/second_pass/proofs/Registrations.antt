@@ -36,7 +36,7 @@ use Rattle.tables.specs.declared.Resolved.the-variants.{Bad, Known, Unresolved}
 use Rattle.tables.specs.Table.{tableWords, resolved, lookedUp}
 use Rattle.reader.specs.Shown.{shownText, shownThread, shownReferent, shownValue}
 use Rattle.reader.specs.Reads.{textItem, threadItem, referentItem, providerItem, valueItem}
-use Rattle.reader.proofs.Changes.{Kind}
+use Rattle.reader.proofs.Changes.{IsTable}
 use Rattle.rule.specs.Rule.{Entry, nextIndex, isNew, useBytes, chosenIn}
 use Rattle.rule.proofs.Length.{next-index-pos}
 use Rattle.rule.proofs.Plain.{TextPlain, ThreadPlain, ReferentPlain}
@@ -65,62 +65,62 @@ referent-plain f index (threadReferent t) fit = thread-plain f index t fit
 pub can-look-up : (archive : List ℕ) (l : Lookup) → length archive < 2 ^ 31 → LookupStands archive l → CanLookUp l
 can-look-up archive l short h = record { low = low (h .table); high = high (h .table); reference = lookup-fits archive l short h }
   where
-    low : Kind (l .table) → 2 ≤ l .table
+    low : IsTable (l .table) → 2 ≤ l .table
     low (inl k) = omega arith
     low (inr k) = omega arith
 
-    high : Kind (l .table) → l .table ≤ 3
+    high : IsTable (l .table) → l .table ≤ 3
     high (inl k) = omega arith
     high (inr k) = omega arith
 
 -- ---- what is asked for a reference
 
 -- nothing for an empty text
-given-empty : (f : Format) (archive slots : List ℕ) (context kind place long : ℕ) → long ≡ 0
-    → (givenIndex f archive slots context kind (Known place long) ≡ 0) × (givenSlots f archive slots context kind (Known place long) ≡ slots)
+given-empty : (f : Format) (archive slots : List ℕ) (context table place long : ℕ) → long ≡ 0
+    → (givenIndex f archive slots context table (Known place long) ≡ 0) × (givenSlots f archive slots context table (Known place long) ≡ slots)
 unfolding givenIndex givenSlots
-given-empty f archive slots context kind place long e = rw (eq-eqb long 0 e) (refl, refl)
+given-empty f archive slots context table place long e = rw (eq-eqb long 0 e) (refl, refl)
 
 -- for any other the index of its key
-given-key : (f : Format) (archive slots : List ℕ) (context kind place long : ℕ) → (long ≡ 0 → ⊥)
-    → (givenIndex f archive slots context kind (Known place long)
-    ≡ newIndex (tableWords f) slots (labelOf context kind long)
-    (findOf archive (tableWords f) slots (keyOf archive place (labelOf context kind long))))
-    × (givenSlots f archive slots context kind (Known place long)
-    ≡ indexed (tableWords f) slots (labelOf context kind long)
-    (findOf archive (tableWords f) slots (keyOf archive place (labelOf context kind long))))
+given-key : (f : Format) (archive slots : List ℕ) (context table place long : ℕ) → (long ≡ 0 → ⊥)
+    → (givenIndex f archive slots context table (Known place long)
+    ≡ newIndex (tableWords f) slots (labelOf context table long)
+    (findOf archive (tableWords f) slots (keyOf archive place (labelOf context table long))))
+    × (givenSlots f archive slots context table (Known place long)
+    ≡ indexed (tableWords f) slots (labelOf context table long)
+    (findOf archive (tableWords f) slots (keyOf archive place (labelOf context table long))))
 unfolding givenIndex givenSlots
-given-key f archive slots context kind place long n = rw (ne-eqb long 0 n) (refl, refl)
+given-key f archive slots context table place long n = rw (ne-eqb long 0 n) (refl, refl)
 
 -- no registration where the index is 0
-none-registered : (kind index : ℕ) (bytes : List ℕ) → index ≡ 0 → registrationBytes kind index bytes ≡ []
+none-registered : (table index : ℕ) (bytes : List ℕ) → index ≡ 0 → registrationBytes table index bytes ≡ []
 unfolding registrationBytes
-none-registered kind index bytes e = rw (eq-eqb index 0 e)
+none-registered table index bytes e = rw (eq-eqb index 0 e)
 
 -- the registration of a text and of a thread where they are new
-text-registered : (chosen : Use → Bool) (table : List Entry) (provider : Option ℕ) (b : List ℕ) (index : ℕ)
-    → index ≡ cond (isNew chosen table (record { provider = provider; key = textKey b })) (nextIndex table (record { provider = provider; key = textKey b })) 0
-    → registrationBytes 2 index b ≡ useBytes chosen table (record { provider = provider; key = textKey b })
+text-registered : (chosen : Use → Bool) (entries : List Entry) (provider : Option ℕ) (b : List ℕ) (index : ℕ)
+    → index ≡ cond (isNew chosen entries (record { provider = provider; key = textKey b })) (nextIndex entries (record { provider = provider; key = textKey b })) 0
+    → registrationBytes 2 index b ≡ useBytes chosen entries (record { provider = provider; key = textKey b })
 unfolding registrationBytes
-text-registered chosen table provider b index is =
+text-registered chosen entries provider b index is =
     let u : Use = record { provider = provider; key = textKey b } in
-    cases (isNew chosen table u)
-    (λ e. let next : index ≡ nextIndex table u = rw e at is in
-    rw (e, next, ne-eqb (nextIndex table u) 0 (λ z. omega (arith, next-index-pos table u))))
+    cases (isNew chosen entries u)
+    (λ e. let next : index ≡ nextIndex entries u = rw e at is in
+    rw (e, next, ne-eqb (nextIndex entries u) 0 (λ z. omega (arith, next-index-pos entries u))))
     (λ e. let none : index ≡ 0 = rw e at is in rw (e, eq-eqb index 0 none))
 
-thread-registered : (chosen : Use → Bool) (table : List Entry) (provider : Option ℕ) (bytes : List ℕ) (p t index : ℕ)
+thread-registered : (chosen : Use → Bool) (entries : List Entry) (provider : Option ℕ) (bytes : List ℕ) (p t index : ℕ)
     → index
-    ≡ cond (isNew chosen table (record { provider = provider; key = threadKey (thread p t) }))
-    (nextIndex table (record { provider = provider; key = threadKey (thread p t) })) 0
+    ≡ cond (isNew chosen entries (record { provider = provider; key = threadKey (thread p t) }))
+    (nextIndex entries (record { provider = provider; key = threadKey (thread p t) })) 0
     → wordAt bytes 0 ≡ p → wordAt bytes 8 ≡ t
-    → registrationBytes 3 index bytes ≡ useBytes chosen table (record { provider = provider; key = threadKey (thread p t) })
+    → registrationBytes 3 index bytes ≡ useBytes chosen entries (record { provider = provider; key = threadKey (thread p t) })
 unfolding registrationBytes
-thread-registered chosen table provider bytes p t index is process own =
+thread-registered chosen entries provider bytes p t index is process own =
     let u : Use = record { provider = provider; key = threadKey (thread p t) } in
-    cases (isNew chosen table u)
-    (λ e. let next : index ≡ nextIndex table u = rw e at is in
-    rw (e, next, ne-eqb (nextIndex table u) 0 (λ z. omega (arith, next-index-pos table u)), process, own))
+    cases (isNew chosen entries u)
+    (λ e. let next : index ≡ nextIndex entries u = rw e at is in
+    rw (e, next, ne-eqb (nextIndex entries u) 0 (λ z. omega (arith, next-index-pos entries u)), process, own))
     (λ e. let none : index ≡ 0 = rw e at is in rw (e, eq-eqb index 0 none))
 
 -- ---- one reference
@@ -132,11 +132,11 @@ module _ (f : Format) (archive : List ℕ) (last : State) (uses : List Use) (few
   chosen = chosenIn uses
 
   -- the index that a use is given fits, where its key does
-  given-low : (table : List Entry) (u : Use) (index bound : ℕ) → index ≡ cond (isNew chosen table u) (nextIndex table u) 0 → 0 < bound
-      → (isNew chosen table u ≡ true → nextIndex table u < bound) → index < bound
-  given-low table u index bound is some fit =
-      cases (isNew chosen table u)
-      (λ e. let next : index ≡ nextIndex table u = rw e at is in omega (arith, fit e))
+  given-low : (entries : List Entry) (u : Use) (index bound : ℕ) → index ≡ cond (isNew chosen entries u) (nextIndex entries u) 0 → 0 < bound
+      → (isNew chosen entries u ≡ true → nextIndex entries u < bound) → index < bound
+  given-low entries u index bound is some fit =
+      cases (isNew chosen entries u)
+      (λ e. let next : index ≡ nextIndex entries u = rw e at is in omega (arith, fit e))
       (λ e. let none : index ≡ 0 = rw e at is in omega arith)
 
   -- a text whose bytes are these
@@ -155,23 +155,23 @@ module _ (f : Format) (archive : List ℕ) (last : State) (uses : List Use) (few
       } in
       rw (none .1, none-registered 2 (givenIndex f archive slots context 2 (Known place long)) [] (none .0))
       (gives-none f archive last uses slots fit)
-  text-known place long slots inside short (b ∷ bs) is = λ table I ready.
+  text-known place long slots inside short (b ∷ bs) is = λ entries I ready.
       let size = part-inside archive place long inside .1 in
       let l : length (b ∷ bs) ≡ long = sym (ap length is) ∙ size in
       let u : Use = record { provider = provider; key = textKey (b ∷ bs) } in
       let label = labelOf context 2 long in
       let code = text-use-code archive last provider context here place long inside (omega (arith, small .longest)) in
-      let g = use-given f archive last uses few plain (small .highest) slots table u place label I (omega (arith, small .longest)) (ready .0) (rw is at code)
+      let g = use-given f archive last uses few plain (small .highest) slots entries u place label I (omega (arith, small .longest)) (ready .0) (rw is at code)
       (omega (arith, label-mark context 2 long (omega (arith, small .longest)))) in
       let k = given-key f archive slots context 2 place long (λ z. omega arith) in
       let index = k .0 ∙ g .index-is in
       record {
-        bytes-are = text-registered chosen table provider (b ∷ bs) (givenIndex f archive slots context 2 (Known place long)) index
-            ∙ sym (append-nil (useBytes chosen table u));
+        bytes-are = text-registered chosen entries provider (b ∷ bs) (givenIndex f archive slots context 2 (Known place long)) index
+            ∙ sym (append-nil (useBytes chosen entries u));
         indexing = rw (k .1) (g .indexing);
         kept = rw (k .1) (g .kept);
         fits = record {
-          low = given-low table u (givenIndex f archive slots context 2 (Known place long)) (2 ^ 15) index (omega arith) (λ e. ready .0 .fits e .index-bits);
+          low = given-low entries u (givenIndex f archive slots context 2 (Known place long)) (2 ^ 15) index (omega arith) (λ e. ready .0 .fits e .index-bits);
           thread-low = λ e. absurd (omega arith);
           thread-long = λ e. absurd (omega arith);
           short = omega (arith, size, small .longest);
@@ -193,26 +193,26 @@ module _ (f : Format) (archive : List ℕ) (last : State) (uses : List Use) (few
       → Gives f archive last uses (threadUses provider (known (thread (wordAt archive place) (wordAt archive (place + 8))))) slots
       (givenBytes f archive slots context 3 (Known place long)) (givenSlots f archive slots context 3 (Known place long))
       (GivenFits f archive slots context 3 (Known place long))
-  thread-known place long slots inside sixteen table I ready =
+  thread-known place long slots inside sixteen entries I ready =
       let p = wordAt archive place in
       let t = wordAt archive (place + 8) in
       let size = part-inside archive place long inside .1 in
       let u : Use = record { provider = provider; key = threadKey (thread p t) } in
       let label = labelOf context 3 long in
       let code : keyOf archive place label ≡ codeIn last u = rw sixteen (thread-use-code archive last provider context here place bytes (omega arith)) in
-      let g = use-given f archive last uses few plain (small .highest) slots table u place label I (wordAt-lt archive place bytes, wordAt-lt archive (place + 8) bytes)
+      let g = use-given f archive last uses few plain (small .highest) slots entries u place label I (wordAt-lt archive place bytes, wordAt-lt archive (place + 8) bytes)
       (ready .0) code (omega (arith, label-mark context 3 long (omega arith))) in
       let k = given-key f archive slots context 3 place long (λ z. omega arith) in
       let index = k .0 ∙ g .index-is in
       let words = words-inside archive place (omega arith) in
       record {
-        bytes-are = thread-registered chosen table provider (partOf archive place long) p t (givenIndex f archive slots context 3 (Known place long)) index
-            (rw sixteen (words .0)) (rw sixteen (words .1)) ∙ sym (append-nil (useBytes chosen table u));
+        bytes-are = thread-registered chosen entries provider (partOf archive place long) p t (givenIndex f archive slots context 3 (Known place long)) index
+            (rw sixteen (words .0)) (rw sixteen (words .1)) ∙ sym (append-nil (useBytes chosen entries u));
         indexing = rw (k .1) (g .indexing);
         kept = rw (k .1) (g .kept);
         fits = record {
-          low = given-low table u (givenIndex f archive slots context 3 (Known place long)) (2 ^ 15) index (omega arith) (λ e. omega (arith, ready .0 .fits e .1));
-          thread-low = λ e. given-low table u (givenIndex f archive slots context 3 (Known place long)) (2 ^ 8) index (omega arith) (λ e. ready .0 .fits e .1);
+          low = given-low entries u (givenIndex f archive slots context 3 (Known place long)) (2 ^ 15) index (omega arith) (λ e. omega (arith, ready .0 .fits e .1));
+          thread-low = λ e. given-low entries u (givenIndex f archive slots context 3 (Known place long)) (2 ^ 8) index (omega arith) (λ e. ready .0 .fits e .1);
           thread-long = λ e some. omega (arith, size);
           short = omega (arith, size);
         };
@@ -228,7 +228,7 @@ module _ (f : Format) (archive : List ℕ) (last : State) (uses : List Use) (few
   thread-gives slots (Unresolved i) stands fit = absurd fit
 
   -- what is looked up in one of the two tables, as it is shown
-  referent-gives : (table : ℕ) (slots : List ℕ) (r : Resolved) → Kind table → ResolvedStands archive table r
+  referent-gives : (table : ℕ) (slots : List ℕ) (r : Resolved) → IsTable table → ResolvedStands archive table r
       → ReferentPlain f (referentItem archive (shownReferent archive table r))
       → Gives f archive last uses (referentUses provider (referentItem archive (shownReferent archive table r))) slots
       (givenBytes f archive slots context table r) (givenSlots f archive slots context table r) (GivenFits f archive slots context table r)
@@ -238,58 +238,58 @@ module _ (f : Format) (archive : List ℕ) (last : State) (uses : List Use) (few
 
   -- ---- references one after the other
 
-  module _ (short : length archive < 2 ^ 31) (tables : List ℕ) (limit : ℕ) where
+  module _ (short : length archive < 2 ^ 31) (tables : List ℕ) (until : ℕ) where
     -- the uses of references, and that each is known and fits
     abbrev lookupsUses : List Lookup → List Use
     lookupsUses [] = []
-    lookupsUses (l ∷ more) = referentUses provider (referentAt f archive tables context limit l) ++ lookupsUses more
+    lookupsUses (l ∷ more) = referentUses provider (referentAt f archive tables context until l) ++ lookupsUses more
 
     abbrev LookupsPlain : List Lookup → Type 0
     LookupsPlain [] = Unit {0}
-    LookupsPlain (l ∷ more) = ReferentPlain f (referentAt f archive tables context limit l) × LookupsPlain more
+    LookupsPlain (l ∷ more) = ReferentPlain f (referentAt f archive tables context until l) × LookupsPlain more
 
     -- their registrations are those of their uses
     lookups-give : (ls : List Lookup) (slots : List ℕ) → LookupsStand archive ls → LookupsPlain ls
-        → Gives f archive last uses (lookupsUses ls) slots (lookupsGivenBytes f archive tables context limit slots ls)
-        (lookupsGivenSlots f archive tables context limit slots ls) (LookupsGivenFit f archive tables context limit slots ls)
+        → Gives f archive last uses (lookupsUses ls) slots (lookupsGivenBytes f archive tables context until slots ls)
+        (lookupsGivenSlots f archive tables context until slots ls) (LookupsGivenFit f archive tables context until slots ls)
     lookups-give [] slots stands fit = gives-none f archive last uses slots tt
     lookups-give (l ∷ more) slots stands fit =
-        let r = lookedUp f archive tables context limit l in
+        let r = lookedUp f archive tables context until l in
         let slots′ = givenSlots f archive slots context (l .table) r in
         gives-fits f archive last uses (λ h. ((can-look-up archive l short (stands .0), h .0), h .1))
         (gives-both f archive last uses
-        (referent-gives (l .table) slots r (stands .0 .table) (resolved-stands f archive tables context limit l (stands .0)) (fit .0))
+        (referent-gives (l .table) slots r (stands .0 .table) (resolved-stands f archive tables context until l (stands .0)) (fit .0))
         (lookups-give more slots′ (stands .1) (fit .1)))
 
     -- ---- arguments
 
     -- the text of a value; a scalar has an empty one, which is no use
     value-uses : (v : ReadValue)
-        → valueUses provider (valueItem archive (shownValue f archive tables context limit v))
-        ≡ referentUses provider (referentAt f archive tables context limit (textLookup (textIn v)))
+        → valueUses provider (valueItem archive (shownValue f archive tables context until v))
+        ≡ referentUses provider (referentAt f archive tables context until (textLookup (textIn v)))
     unfolding shownValue shownReferent shownText resolved
     value-uses (ScalarValue s) = rw (part-inside archive 0 0 (omega arith) .0)
     value-uses (TextValue r) = refl
 
-    value-plain : (index : Key → ℕ) (v : ReadValue) → ValueFits f index (valueItem archive (shownValue f archive tables context limit v))
-        → ReferentPlain f (referentAt f archive tables context limit (textLookup (textIn v)))
+    value-plain : (index : Key → ℕ) (v : ReadValue) → ValueFits f index (valueItem archive (shownValue f archive tables context until v))
+        → ReferentPlain f (referentAt f archive tables context until (textLookup (textIn v)))
     unfolding shownValue shownReferent shownText resolved
     value-plain index (ScalarValue s) fit = omega (arith, part-inside archive 0 0 (omega arith) .1)
-    value-plain index (TextValue r) fit = text-plain f index (textItem archive (shownText (resolved f archive tables context 2 limit r))) fit
+    value-plain index (TextValue r) fit = text-plain f index (textItem archive (shownText (resolved f archive tables context 2 until r))) fit
 
     -- the uses of arguments are those of their names and texts
     arguments-uses : (l : List ReadArgument)
-        → argumentsUses provider (argumentsAt f archive tables context limit l) ≡ lookupsUses (argumentLookups l)
+        → argumentsUses provider (argumentsAt f archive tables context until l) ≡ lookupsUses (argumentLookups l)
     unfolding shownReferent
     arguments-uses [] = refl
     arguments-uses (a ∷ l) = rw (value-uses (a .value), arguments-uses l)
 
-    arguments-plain : (index : Key → ℕ) (l : List ReadArgument) → AllFit f index (argumentsAt f archive tables context limit l)
+    arguments-plain : (index : Key → ℕ) (l : List ReadArgument) → AllFit f index (argumentsAt f archive tables context until l)
         → LookupsPlain (argumentLookups l)
     unfolding shownReferent
     arguments-plain index [] fit = tt
     arguments-plain index (a ∷ l) fit = (
-      text-plain f index (textItem archive (shownText (resolved f archive tables context 2 limit (a .name)))) (fit .0 .name),
+      text-plain f index (textItem archive (shownText (resolved f archive tables context 2 until (a .name)))) (fit .0 .name),
       (value-plain index (a .value) (fit .0 .value), arguments-plain index l (fit .1)),
     )
 
@@ -308,18 +308,18 @@ module _ (f : Format) (archive : List ℕ) (last : State) (uses : List Use) (few
   report-gives tables slots s r next index here low stands fit =
       let provider = providerItem (providerOf s) in
       let context = s .current in
-      let limit = s .place in
+      let until = s .place in
       let pieces = fit .layout .pieces in
       let a = argumentsTo f archive r next in
-      let referent : Lookup → Referent = λ l. referentAt f archive tables context limit l in
-      rw (arguments-uses f archive last uses few plain small bytes provider context here low short tables limit a)
-      (lookups-give f archive last uses few plain small bytes provider context here low short tables limit (reportLookups f archive r next) slots stands (
+      let referent : Lookup → Referent = λ l. referentAt f archive tables context until l in
+      rw (arguments-uses f archive last uses few plain small bytes provider context here low short tables until a)
+      (lookups-give f archive last uses few plain small bytes provider context here low short tables until (reportLookups f archive r next) slots stands (
         referent-plain f index (referent (r .first)) (pieces .1 .0),
         (
           referent-plain f index (referent (r .second)) (pieces .1 .1 .0),
           (
             referent-plain f index (referent (r .third)) (pieces .1 .1 .1 .0),
-            arguments-plain f archive last uses few plain small bytes provider context here low short tables limit index a (fit .layout .arguments),
+            arguments-plain f archive last uses few plain small bytes provider context here low short tables until index a (fit .layout .arguments),
           ),
         ),
       ))

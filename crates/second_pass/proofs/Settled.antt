@@ -10,7 +10,7 @@ use Rattle.tally.specs.Models.Tally.{Wide}
 use Rattle.tally.specs.Models.Slots.{labelOf, keyOf}
 use Rattle.tables.specs.Models.Entries.{FormatFits}
 use Rattle.indexing.specs.Models.Indexes.{Settled, Waiting}
-use Rattle.words.specs.Stream.{written}
+use Rattle.words.specs.Stream.{overwritten}
 use Rattle.words.proofs.Tests.{on-pick}
 use Rattle.indexing.proofs.Settled.{settled-index, settled-table}
 use Rattle.format.specs.declared.Format.{Format}
@@ -33,40 +33,40 @@ use Rattle.second_pass.proofs.Registering.{registration-none}
 
 module _ (f : Format) (archive slots : List ℕ) (wide : Wide (tableWords f) slots) (settled : Settled (tableWords f) slots) where
   -- what a reference stands for gets no index
-  settled-none : (context kind : ℕ) (r : Resolved) → givenIndex f archive slots context kind r ≡ 0
+  settled-none : (context table : ℕ) (r : Resolved) → givenIndex f archive slots context table r ≡ 0
   unfolding givenIndex
-  settled-none context kind Bad = refl
-  settled-none context kind (Known place long) =
+  settled-none context table Bad = refl
+  settled-none context table (Known place long) =
       on-pick (λ x. x ≡ 0) (eqb long 0) 0 _ (λ e. refl)
-      (λ e. settled-index archive (keyOf archive place (labelOf context kind long)) (labelOf context kind long) wide settled)
-  settled-none context kind (Unresolved index) = refl
+      (λ e. settled-index archive (keyOf archive place (labelOf context table long)) (labelOf context table long) wide settled)
+  settled-none context table (Unresolved index) = refl
 
   -- so it is not registered
-  settled-bytes : (context kind : ℕ) (r : Resolved) → givenBytes f archive slots context kind r ≡ []
-  settled-bytes context kind r =
-      registration-none kind (givenIndex f archive slots context kind r) (knownBytes archive r) (settled-none context kind r)
+  settled-bytes : (context table : ℕ) (r : Resolved) → givenBytes f archive slots context table r ≡ []
+  settled-bytes context table r =
+      registration-none table (givenIndex f archive slots context table r) (knownBytes archive r) (settled-none context table r)
 
   -- and the slots stay
-  settled-slots : (context kind : ℕ) (r : Resolved) → givenSlots f archive slots context kind r ≡ slots
+  settled-slots : (context table : ℕ) (r : Resolved) → givenSlots f archive slots context table r ≡ slots
   unfolding givenSlots
-  settled-slots context kind Bad = refl
-  settled-slots context kind (Known place long) =
+  settled-slots context table Bad = refl
+  settled-slots context table (Known place long) =
       on-pick (λ x. x ≡ slots) (eqb long 0) slots _ (λ e. refl)
-      (λ e. settled-table archive (keyOf archive place (labelOf context kind long)) (labelOf context kind long) wide settled)
-  settled-slots context kind (Unresolved index) = refl
+      (λ e. settled-table archive (keyOf archive place (labelOf context table long)) (labelOf context table long) wide settled)
+  settled-slots context table (Unresolved index) = refl
 
   -- the slots stay behind references, one after the other
-  pub settled-lookups-slots : (tables : List ℕ) (context limit : ℕ) (ls : List Lookup) → lookupsGivenSlots f archive tables context limit slots ls ≡ slots
-  settled-lookups-slots tables context limit [] = refl
-  settled-lookups-slots tables context limit (l ∷ more) =
-      rw (settled-slots context (l .table) (lookedUp f archive tables context limit l)) (settled-lookups-slots tables context limit more)
+  pub settled-lookups-slots : (tables : List ℕ) (context until : ℕ) (ls : List Lookup) → lookupsGivenSlots f archive tables context until slots ls ≡ slots
+  settled-lookups-slots tables context until [] = refl
+  settled-lookups-slots tables context until (l ∷ more) =
+      rw (settled-slots context (l .table) (lookedUp f archive tables context until l)) (settled-lookups-slots tables context until more)
 
   -- which have no registrations
-  pub settled-lookups-bytes : (tables : List ℕ) (context limit : ℕ) (ls : List Lookup) → lookupsGivenBytes f archive tables context limit slots ls ≡ []
-  settled-lookups-bytes tables context limit [] = refl
-  settled-lookups-bytes tables context limit (l ∷ more) =
-      let r = lookedUp f archive tables context limit l in
-      rw (settled-bytes context (l .table) r, settled-slots context (l .table) r) (settled-lookups-bytes tables context limit more)
+  pub settled-lookups-bytes : (tables : List ℕ) (context until : ℕ) (ls : List Lookup) → lookupsGivenBytes f archive tables context until slots ls ≡ []
+  settled-lookups-bytes tables context until [] = refl
+  settled-lookups-bytes tables context until (l ∷ more) =
+      let r = lookedUp f archive tables context until l in
+      rw (settled-bytes context (l .table) r, settled-slots context (l .table) r) (settled-lookups-bytes tables context until more)
 
   -- the slots stay behind a record
   settled-content : (tables : List ℕ) (s : State) (c : Content) (next : ℕ) → contentSlots f archive tables slots s c next ≡ slots
@@ -83,15 +83,15 @@ room-wide : (f : Format) (room : List ℕ) → FormatFits f → 4 * tableWords f
 room-wide f room fit long = rw (part-from (tableWords f) room) at (slots-wide f (tableWords f) room fit refl long)
 
 -- where none waits, references are registered where nothing is done
-pub settled-registered : (f : Format) (archive room out : List ℕ) (at context limit : ℕ) (ls : List Lookup) → FormatFits f
+pub settled-registered : (f : Format) (archive room out : List ℕ) (at context until : ℕ) (ls : List Lookup) → FormatFits f
     → 4 * tableWords f ≤ length room → Settled (tableWords f) (slotsIn f room)
-    → (room ≡ registeredRoom f archive room context limit ls)
-    × ((out ≡ written out at (registeredBytes f archive room context limit ls)) × (at ≡ at + length (registeredBytes f archive room context limit ls)))
-settled-registered f archive room out at context limit ls fit long settled =
+    → (room ≡ registeredRoom f archive room context until ls)
+    × ((out ≡ overwritten out at (registeredBytes f archive room context until ls)) × (at ≡ at + length (registeredBytes f archive room context until ls)))
+settled-registered f archive room out at context until ls fit long settled =
     let wide = room-wide f room fit long in
     rw (
-      settled-lookups-slots f archive (slotsIn f room) wide settled (tablesIn f room) context limit ls,
-      settled-lookups-bytes f archive (slotsIn f room) wide settled (tablesIn f room) context limit ls,
+      settled-lookups-slots f archive (slotsIn f room) wide settled (tablesIn f room) context until ls,
+      settled-lookups-bytes f archive (slotsIn f room) wide settled (tablesIn f room) context until ls,
     )
     (sym (take-append-drop (tableWords f) room), (nothing-written out at, omega arith))
 

@@ -11,11 +11,11 @@ use borrow.Author.Tests.{eq-eqb, ne-eqb}
 use Rattle.tally.specs.Models.Tally.{Wide}
 use Rattle.tables.specs.Models.Entries.{FormatFits}
 use Rattle.encoding.specs.Encoded.{stream, referenceOf, wordsBytes, partBytes, partsBytes}
-use Rattle.encoding.specs.Part.{textPart, FieldsFit, reportHeader, textArgument, scalarArgument}
+use Rattle.encoding.specs.Models.Part.{textPart, FieldsFit, reportHeader, textArgument, scalarArgument}
 use Rattle.words.specs.Word.{bytesOf, Field, _of_, pack}
-use Rattle.words.specs.Stream.{written}
+use Rattle.words.specs.Stream.{overwritten}
 use Rattle.words.proofs.Words.{length-bytesOf}
-use Rattle.words.proofs.Streams.{length-written, written-written, none-written}
+use Rattle.words.proofs.Streams.{length-overwritten, overwritten-twice, none-overwritten}
 use Rattle.format.specs.declared.Format.{Format}
 use Rattle.format.specs.declared.Reference.{Reference}
 use Rattle.format.proofs.Headers.{part-from}
@@ -23,7 +23,7 @@ use Rattle.arguments.specs.declared.Scalar.{Scalar}
 use Rattle.arguments.specs.declared.Value.the-variants.{Scalar as ScalarValue, Text}
 use Rattle.arguments.specs.declared.Argument.{Argument}
 use Rattle.records.specs.declared.Report.{Report}
-use Rattle.records.specs.Item.{ownType, ownHeader, ownWords, ownBehind, lastWords}
+use Rattle.records.specs.Item.{ownLayout, lastWords}
 use Rattle.records.specs.Lookups.{textLookup, argumentsTo}
 use Rattle.contexts.specs.declared.State.{State}
 use Rattle.tables.specs.Table.{tableWords}
@@ -42,12 +42,12 @@ joined (part ∷ parts) = part ++ joined parts
 pub record Writing (out : List ℕ) (start : ℕ) (whole : List ℕ) (left : List (List ℕ)) (now : List ℕ) (at : ℕ) : Type 0 where
   pub done : List ℕ
   pub parts : whole ≡ done ++ joined left
-  pub is : now ≡ written out start done
+  pub is : now ≡ overwritten out start done
   pub behind : at ≡ start + length done
 
 -- at the start all parts are
 pub writing-starts : (out : List ℕ) (start : ℕ) (whole : List ℕ) (left : List (List ℕ)) → whole ≡ joined left → Writing out start whole left out start
-writing-starts out start whole left e = record { done = []; parts = e; is = none-written out start []; behind = omega arith }
+writing-starts out start whole left e = record { done = []; parts = e; is = none-overwritten out start []; behind = omega arith }
 
 -- the first of them fits where the whole does
 pub writing-fits : {out whole part now : List ℕ} {left : List (List ℕ)} {start at : ℕ} → start + length whole ≤ length out
@@ -55,24 +55,24 @@ pub writing-fits : {out whole part now : List ℕ} {left : List (List ℕ)} {sta
 writing-fits {out} {whole} {part} {now} {left} {start} h w =
     let sum : length whole ≡ length (w .done) + (length part + length (joined left)) =
     ap length (w .parts) ∙ rw (length-append (w .done) (part ++ joined left), length-append part (joined left)) in
-    let same : length now ≡ length out = ap length (w .is) ∙ length-written out start (w .done) (omega arith) in
+    let same : length now ≡ length out = ap length (w .is) ∙ length-overwritten out start (w .done) (omega arith) in
     omega (arith, w .behind)
 
 -- once it is written the others are left
 pub writing-goes-on : {out whole part now after : List ℕ} {left : List (List ℕ)} {start at next : ℕ} → start + length whole ≤ length out
-    → Writing out start whole (part ∷ left) now at → after ≡ written now at part → next ≡ at + length part → Writing out start whole left after next
+    → Writing out start whole (part ∷ left) now at → after ≡ overwritten now at part → next ≡ at + length part → Writing out start whole left after next
 writing-goes-on {out} {part = part} {left = left} {start} h w e n = record {
   done = w .done ++ part;
   parts = w .parts ∙ sym (append-assoc (w .done) part (joined left));
-  is = e ∙ rw (w .is, w .behind) (written-written out start (w .done) part (omega arith));
+  is = e ∙ rw (w .is, w .behind) (overwritten-twice out start (w .done) part (omega arith));
   behind = omega (arith, n, w .behind, length-append (w .done) part);
 }
 
 -- where none is left the whole is written
-pub writing-ends : {out whole now : List ℕ} {start at : ℕ} → Writing out start whole [] now at → (now ≡ written out start whole) × (at ≡ start + length whole)
+pub writing-ends : {out whole now : List ℕ} {start at : ℕ} → Writing out start whole [] now at → (now ≡ overwritten out start whole) × (at ≡ start + length whole)
 writing-ends {out} {whole} {start = start} w =
     let all : w .done ≡ whole = sym (append-nil (w .done)) ∙ sym (w .parts) in
-    (w .is ∙ ap (written out start) all, w .behind ∙ ap (λ (b : List ℕ). start + length b) all)
+    (w .is ∙ ap (overwritten out start) all, w .behind ∙ ap (λ (b : List ℕ). start + length b) all)
 
 -- a part that is two parts is written as these
 pub writing-splits : {out whole part now : List ℕ} {left : List (List ℕ)} {start at : ℕ} (first second : List ℕ) → part ≡ first ++ second
@@ -91,7 +91,7 @@ writing-leaves e w = record { done = w .done; parts = w .parts ∙ rw e; is = w 
 
 -- a body behind the place of a header, and then the header, are one writing of both
 pub header-last : (out : List ℕ) (place word : ℕ) (body : List ℕ) → place + 8 ≤ length out
-    → written (written out (place + 8) body) place (bytesOf 8 word) ≡ written out place (bytesOf 8 word ++ body)
+    → overwritten (overwritten out (place + 8) body) place (bytesOf 8 word) ≡ overwritten out place (bytesOf 8 word ++ body)
 header-last out place word body h =
     let front = take (place + 8) out in
     let behind = body ++ drop (place + 8 + length body) out in
@@ -133,35 +133,35 @@ last-word behind last some = rw (ne-eqb behind 0 some) (append-nil (bytesOf 8 la
 
 -- ---- arguments
 
-module _ (f : Format) (archive tables slots : List ℕ) (context limit : ℕ) where
+module _ (f : Format) (archive tables slots : List ℕ) (context until : ℕ) where
   -- an argument whose value is no text, from how its name is spelled
   pub scalar-argument : (a : Argument) (p : Spelled) (bytes : List ℕ) (s : Scalar)
-      → p ≡ spelledLookup f archive tables slots context limit (textLookup (a .name)) → bytes ≡ spelledBytes archive p → a .value ≡ ScalarValue s
-      → argumentBytes f archive tables slots context limit a ≡ scalarArgument (textPart (p .index) bytes) s
+      → p ≡ spelledLookup f archive tables slots context until (textLookup (a .name)) → bytes ≡ spelledBytes archive p → a .value ≡ ScalarValue s
+      → argumentBytes f archive tables slots context until a ≡ scalarArgument (textPart (p .index) bytes) s
   unfolding argumentBytes
   scalar-argument a p bytes s spelled is v = rw (is, spelled, v)
 
   -- an argument whose value is a text, from how its name and its text are spelled
   pub text-argument : (a : Argument) (p q : Spelled) (name text : List ℕ) (r : Reference)
-      → p ≡ spelledLookup f archive tables slots context limit (textLookup (a .name)) → name ≡ spelledBytes archive p
-      → q ≡ spelledLookup f archive tables slots context limit (textLookup r) → text ≡ spelledBytes archive q → a .value ≡ Text r
-      → argumentBytes f archive tables slots context limit a ≡ textArgument (textPart (p .index) name) (textPart (q .index) text)
+      → p ≡ spelledLookup f archive tables slots context until (textLookup (a .name)) → name ≡ spelledBytes archive p
+      → q ≡ spelledLookup f archive tables slots context until (textLookup r) → text ≡ spelledBytes archive q → a .value ≡ Text r
+      → argumentBytes f archive tables slots context until a ≡ textArgument (textPart (p .index) name) (textPart (q .index) text)
   unfolding argumentBytes
   text-argument a p q name text r named n held t v = rw (n, named, t, held, v)
 
   -- where a walk that writes arguments stands: those that are left are still to be written, and fit
   pub record Walk (whole : List Argument) (out : List ℕ) (start : ℕ) (left : List Argument) (now : List ℕ) (at : ℕ) : Type 0 where
-    pub writing : Writing out start (argumentsBytes f archive tables slots context limit whole)
-        (argumentsBytes f archive tables slots context limit left ∷ []) now at
-    pub fit : ArgumentsFit f archive tables slots context limit left
-    pub space : start + length (argumentsBytes f archive tables slots context limit whole) ≤ length out
+    pub writing : Writing out start (argumentsBytes f archive tables slots context until whole)
+        (argumentsBytes f archive tables slots context until left ∷ []) now at
+    pub fit : ArgumentsFit f archive tables slots context until left
+    pub space : start + length (argumentsBytes f archive tables slots context until whole) ≤ length out
     pub long : length now ≡ length out
 
   -- it starts with all left
-  pub walk-starts : (whole : List Argument) (out : List ℕ) (start : ℕ) → ArgumentsFit f archive tables slots context limit whole
-      → start + length (argumentsBytes f archive tables slots context limit whole) ≤ length out → Walk whole out start whole out start
+  pub walk-starts : (whole : List Argument) (out : List ℕ) (start : ℕ) → ArgumentsFit f archive tables slots context until whole
+      → start + length (argumentsBytes f archive tables slots context until whole) ≤ length out → Walk whole out start whole out start
   walk-starts whole out start fit space =
-      let bytes = argumentsBytes f archive tables slots context limit whole in
+      let bytes = argumentsBytes f archive tables slots context until whole in
       record { writing = writing-starts out start bytes (bytes ∷ []) (sym (append-nil bytes)); fit = fit; space = space; long = refl }
 
   -- the same list of those that are left
@@ -171,31 +171,31 @@ module _ (f : Format) (archive tables slots : List ℕ) (context limit : ℕ) wh
 
   -- the first of those that are left is the next part
   opened : {whole : List Argument} {out : List ℕ} {start : ℕ} (a : Argument) (l : List Argument) {now : List ℕ} {at : ℕ} → Walk whole out start (a ∷ l) now at
-      → Writing out start (argumentsBytes f archive tables slots context limit whole)
-      (argumentBytes f archive tables slots context limit a ∷ argumentsBytes f archive tables slots context limit l ∷ []) now at
+      → Writing out start (argumentsBytes f archive tables slots context until whole)
+      (argumentBytes f archive tables slots context until a ∷ argumentsBytes f archive tables slots context until l ∷ []) now at
   opened a l w =
-      writing-splits {left = []} (argumentBytes f archive tables slots context limit a) (argumentsBytes f archive tables slots context limit l) refl (w .writing)
+      writing-splits {left = []} (argumentBytes f archive tables slots context until a) (argumentsBytes f archive tables slots context until l) refl (w .writing)
 
   -- there is room for the first of those that are left
   pub walk-fits : {whole : List Argument} {out : List ℕ} {start : ℕ} {a : Argument} {l : List Argument} {now : List ℕ} {at : ℕ}
-      → Walk whole out start (a ∷ l) now at → at + length (argumentBytes f archive tables slots context limit a) ≤ length now
-  walk-fits {a = a} {l} w = writing-fits {part = argumentBytes f archive tables slots context limit a} (w .space) (opened a l w)
+      → Walk whole out start (a ∷ l) now at → at + length (argumentBytes f archive tables slots context until a) ≤ length now
+  walk-fits {a = a} {l} w = writing-fits {part = argumentBytes f archive tables slots context until a} (w .space) (opened a l w)
 
   -- and once it is written the walk goes on behind it
   pub walk-goes-on : {whole : List Argument} {out : List ℕ} {start : ℕ} {a : Argument} {l : List Argument} {now : List ℕ} {at : ℕ} {after : List ℕ} {next : ℕ}
-      → Walk whole out start (a ∷ l) now at → after ≡ written now at (argumentBytes f archive tables slots context limit a)
-      → next ≡ at + length (argumentBytes f archive tables slots context limit a) → Walk whole out start l after next
+      → Walk whole out start (a ∷ l) now at → after ≡ overwritten now at (argumentBytes f archive tables slots context until a)
+      → next ≡ at + length (argumentBytes f archive tables slots context until a) → Walk whole out start l after next
   walk-goes-on {a = a} {l} {now} {at} w k n = record {
     writing = writing-goes-on (w .space) (opened a l w) k n;
     fit = w .fit .1;
     space = w .space;
-    long = ap length k ∙ length-written now at (argumentBytes f archive tables slots context limit a) (walk-fits w) ∙ w .long;
+    long = ap length k ∙ length-overwritten now at (argumentBytes f archive tables slots context until a) (walk-fits w) ∙ w .long;
   }
 
   -- where none is left, all are written
   pub walk-ends : {whole : List Argument} {out : List ℕ} {start : ℕ} {now : List ℕ} {at : ℕ} → Walk whole out start [] now at
-      → (now ≡ written out start (argumentsBytes f archive tables slots context limit whole))
-      × (at ≡ start + length (argumentsBytes f archive tables slots context limit whole))
+      → (now ≡ overwritten out start (argumentsBytes f archive tables slots context until whole))
+      × (at ≡ start + length (argumentsBytes f archive tables slots context until whole))
   walk-ends w = writing-ends (writing-leaves refl (w .writing))
 
 -- ---- records
@@ -203,7 +203,7 @@ module _ (f : Format) (archive tables slots : List ℕ) (context limit : ℕ) wh
 -- the pieces of a record are still to be written: own words, three references and the stream
 pub pieces-start : (archive : List ℕ) (r : Report) (first second third : Spelled) (out : List ℕ) (at : ℕ)
     → Writing out at (partsBytes (spelledPieces archive r first second third))
-    (wordsBytes (ownWords (r .own))
+    (wordsBytes (ownLayout (r .own) .words)
     ∷ partBytes (spelledPart archive (r .first .table) first)
     ∷ partBytes (spelledPart archive (r .second .table) second)
     ∷ partBytes (spelledPart archive (r .third .table) third)
@@ -216,19 +216,19 @@ pieces-start archive r first second third out at =
 module _ (archive : List ℕ) (r : Report) (first second third : Spelled) (a b c long : ℕ) (one : a ≡ referenceOf (spelledPart archive (r .first .table) first))
     (two : b ≡ referenceOf (spelledPart archive (r .second .table) second)) (three : c ≡ referenceOf (spelledPart archive (r .third .table) third))
     (is : long ≡ length (streamOf archive r)) where
-  fields-are : ownHeader (r .own) (r .count) a b c long ≡ spelledFields archive r first second third
+  fields-are : ownLayout (r .own) .header (r .count) a b c long ≡ spelledFields archive r first second third
   fields-are =
-      ap (λ (n : ℕ). ownHeader (r .own) (r .count) n b c long) one
-      ∙ ap (λ (n : ℕ). ownHeader (r .own) (r .count) (referenceOf (spelledPart archive (r .first .table) first)) n c long) two
-      ∙ ap (λ (n : ℕ). ownHeader (r .own) (r .count) (referenceOf (spelledPart archive (r .first .table) first))
+      ap (λ (n : ℕ). ownLayout (r .own) .header (r .count) n b c long) one
+      ∙ ap (λ (n : ℕ). ownLayout (r .own) .header (r .count) (referenceOf (spelledPart archive (r .first .table) first)) n c long) two
+      ∙ ap (λ (n : ℕ). ownLayout (r .own) .header (r .count) (referenceOf (spelledPart archive (r .first .table) first))
       (referenceOf (spelledPart archive (r .second .table) second)) n long) three
-      ∙ ap (λ (n : ℕ). ownHeader (r .own) (r .count) (referenceOf (spelledPart archive (r .first .table) first))
+      ∙ ap (λ (n : ℕ). ownLayout (r .own) .header (r .count) (referenceOf (spelledPart archive (r .first .table) first))
       (referenceOf (spelledPart archive (r .second .table) second)) (referenceOf (spelledPart archive (r .third .table) third)) n) is
 
   pub header-is : (size : ℕ) → reportHeader (r .own) size (r .count) a b c long ≡ spelledHeader archive size r first second third
-  header-is size = ap (λ (fields : List Field). bytesOf 8 (pack (ownType (r .own) of 4 ∷ size of 12 ∷ fields))) fields-are
+  header-is size = ap (λ (fields : List Field). bytesOf 8 (pack (ownLayout (r .own) .type of 4 ∷ size of 12 ∷ fields))) fields-are
 
-  pub header-fits : SpelledHeaderFits archive r first second third → FieldsFit (ownHeader (r .own) (r .count) a b c long)
+  pub header-fits : SpelledHeaderFits archive r first second third → FieldsFit (ownLayout (r .own) .header (r .count) a b c long)
   header-fits fit = subst FieldsFit (sym fields-are) fit
 
 -- the parts of a record behind its header: its pieces, its arguments and its last word
@@ -236,7 +236,7 @@ abbrev pub reportParts : Format → (archive tables slots : List ℕ) → State 
 reportParts f archive tables slots s r next first second third =
     partsBytes (spelledPieces archive r first second third)
     ∷ argumentsBytes f archive tables slots (s .current) (s .place) (argumentsTo f archive r next)
-    ∷ wordsBytes (lastWords (ownBehind (r .own)) (r .last))
+    ∷ wordsBytes (lastWords (ownLayout (r .own) .behind) (r .last))
     ∷ []
 
 -- how its three references are spelled
@@ -250,7 +250,7 @@ module _ (f : Format) (archive tables slots : List ℕ) (s : State) (r : Report)
   -- a record behind its header is its parts
   report-parts : reportBody f archive tables slots s r next ≡ joined (reportParts f archive tables slots s r next first second third)
   unfolding reportBody
-  report-parts = rw (append-nil (wordsBytes (lastWords (ownBehind (r .own)) (r .last))), p .first-is, p .second-is, p .third-is)
+  report-parts = rw (append-nil (wordsBytes (lastWords (ownLayout (r .own) .behind) (r .last))), p .first-is, p .second-is, p .third-is)
 
   -- a record is as long as its header and what is behind it
   pub report-long : length (reportBytes f archive tables slots s r next) ≡ 8 + length (reportBody f archive tables slots s r next)
@@ -266,8 +266,8 @@ module _ (f : Format) (archive tables slots : List ℕ) (s : State) (r : Report)
   -- these parts, and then the header, are one writing of the record
   pub report-ends : (out now after : List ℕ) (at end : ℕ) → at + length (reportBytes f archive tables slots s r next) ≤ length out
       → Writing out (at + 8) (reportBody f archive tables slots s r next) [] now end
-      → after ≡ written now at (spelledHeader archive ((end - at) / 8) r first second third)
-      → (after ≡ written out at (reportBytes f archive tables slots s r next)) × (end ≡ at + length (reportBytes f archive tables slots s r next))
+      → after ≡ overwritten now at (spelledHeader archive ((end - at) / 8) r first second third)
+      → (after ≡ overwritten out at (reportBytes f archive tables slots s r next)) × (end ≡ at + length (reportBytes f archive tables slots s r next))
   unfolding reportBytes
   report-ends out now after at end h w a =
       let ended = writing-ends w in

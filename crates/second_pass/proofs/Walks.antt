@@ -68,7 +68,7 @@ read-count f (suc count) rest place all = go (λ size. read-count f count (drop 
     go more (Read a size) all = ap suc (more size (behind-read a (argumentsOf f count (drop size rest) (place + size)) all))
 
 -- and so many are shown
-pub shown-count : (f : Format) (archive tables : List ℕ) (context limit : ℕ) (l : List Argument)
-    → length (argumentsAt f archive tables context limit l) ≡ length l
-shown-count f archive tables context limit [] = refl
-shown-count f archive tables context limit (a ∷ l) = ap suc (shown-count f archive tables context limit l)
+pub shown-count : (f : Format) (archive tables : List ℕ) (context until : ℕ) (l : List Argument)
+    → length (argumentsAt f archive tables context until l) ≡ length l
+shown-count f archive tables context until [] = refl
+shown-count f archive tables context until (a ∷ l) = ap suc (shown-count f archive tables context until l)

@@ -10,11 +10,11 @@ ghost use Rattle.passes.specs.Models.Last.{tablesOf};
 ghost use Rattle.passes.specs.Models.Item.{plainItem};
 ghost use Rattle.indexing.specs.Models.Indexes.{Settled};
 ghost use Rattle.encoding.specs.Encoded.{referenceOf, wordsBytes, partBytes, partsBytes};
-ghost use Rattle.encoding.specs.Part.{reportHeader};
-ghost use Rattle.words.specs.Stream.{written};
+ghost use Rattle.encoding.specs.Models.Part.{reportHeader};
+ghost use Rattle.words.specs.Stream.{overwritten};
 ghost use Rattle.arguments.specs.Argument.{argumentsRead};
 ghost use Rattle.records.specs.Record.{recordAt};
-ghost use Rattle.records.specs.Item.{ownBehind, lastWords};
+ghost use Rattle.records.specs.Item.{ownLayout, lastWords};
 ghost use Rattle.records.specs.Lookups.{argumentLookups, reportLookups};
 ghost use Rattle.tables.specs.Table.{tableWords};
 ghost use Rattle.reader.specs.Shown.{shownStream};
@@ -48,7 +48,7 @@ pub struct Spelled {
 fn put_registration(out: &mut [u8], at: usize, table: u64, index: usize, bytes: &[u8]) -> usize
     requires { ⌜ RegistrationFits table index (now bytes) ⌝ }
     requires { ⌜ at + length (registrationBytes table index (now bytes)) ≤ length (now out) ⌝ }
-    ensures { λ _. ⌜ now (out .exit) ≡ written (now (out .entry)) at (registrationBytes table index (now (bytes .entry))) ⌝ }
+    ensures { λ _. ⌜ now (out .exit) ≡ overwritten (now (out .entry)) at (registrationBytes table index (now (bytes .entry))) ⌝ }
     ensures { λ r. ⌜ r ≡ at + length (registrationBytes table index (now (bytes .entry))) ⌝ }
 {
     if index == 0 {
@@ -74,19 +74,19 @@ fn register_lookup(
     out: &mut [u8],
     at: usize,
     context: usize,
-    limit: usize,
+    until: usize,
     lookup: Lookup,
 ) -> usize
-    requires { ⌜ RoomFits f (now archive) (now room) context × LookupsFitIn f (now archive) (now room) context limit (lookup ∷ []) ⌝ }
-    requires { ⌜ at + length (registeredBytes f (now archive) (now room) context limit (lookup ∷ [])) ≤ length (now out) ⌝ }
-    ensures { λ _. ⌜ now (room .exit) ≡ registeredRoom f (now (archive .entry)) (now (room .entry)) context limit (lookup ∷ []) ⌝ }
-    ensures { λ _. ⌜ now (out .exit) ≡ written (now (out .entry)) at (registeredBytes f (now (archive .entry)) (now (room .entry)) context limit (lookup ∷ [])) ⌝ }
-    ensures { λ r. ⌜ r ≡ at + length (registeredBytes f (now (archive .entry)) (now (room .entry)) context limit (lookup ∷ [])) ⌝ }
+    requires { ⌜ RoomFits f (now archive) (now room) context × LookupsFitIn f (now archive) (now room) context until (lookup ∷ []) ⌝ }
+    requires { ⌜ at + length (registeredBytes f (now archive) (now room) context until (lookup ∷ [])) ≤ length (now out) ⌝ }
+    ensures { λ _. ⌜ now (room .exit) ≡ registeredRoom f (now (archive .entry)) (now (room .entry)) context until (lookup ∷ []) ⌝ }
+    ensures { λ _. ⌜ now (out .exit) ≡ overwritten (now (out .entry)) at (registeredBytes f (now (archive .entry)) (now (room .entry)) context until (lookup ∷ [])) ⌝ }
+    ensures { λ r. ⌜ r ≡ at + length (registeredBytes f (now (archive .entry)) (now (room .entry)) context until (lookup ∷ [])) ⌝ }
 {
     let words = tables::table_words(f);
     let table = lookup.table;
     let reference = lookup.reference;
-    let resolved = tables::resolve(f, archive, &room[..words], context, table, reference, limit);
+    let resolved = tables::resolve(f, archive, &room[..words], context, table, reference, until);
     match resolved {
         Resolved::Bad => at,
         Resolved::Unresolved { index: _ } => at,
@@ -109,16 +109,16 @@ fn register_arguments(
     out: &mut [u8],
     start: usize,
     context: usize,
-    limit: usize,
+    until: usize,
     part: &[u8],
     place: usize,
     count: usize,
 ) -> usize
-    requires { ⌜ RoomFits f (now archive) (now room) context × LookupsFitIn f (now archive) (now room) context limit (argumentLookups (argumentsRead f count (now part) place)) ⌝ }
-    requires { ⌜ (place + length (now part) < 2 ^ 31) × (start + length (registeredBytes f (now archive) (now room) context limit (argumentLookups (argumentsRead f count (now part) place))) ≤ length (now out)) ⌝ }
-    ensures { λ _. ⌜ now (room .exit) ≡ registeredRoom f (now (archive .entry)) (now (room .entry)) context limit (argumentLookups (argumentsRead f count (now (part .entry)) place)) ⌝ }
-    ensures { λ _. ⌜ now (out .exit) ≡ written (now (out .entry)) start (registeredBytes f (now (archive .entry)) (now (room .entry)) context limit (argumentLookups (argumentsRead f count (now (part .entry)) place))) ⌝ }
-    ensures { λ r. ⌜ r ≡ start + length (registeredBytes f (now (archive .entry)) (now (room .entry)) context limit (argumentLookups (argumentsRead f count (now (part .entry)) place))) ⌝ }
+    requires { ⌜ RoomFits f (now archive) (now room) context × LookupsFitIn f (now archive) (now room) context until (argumentLookups (argumentsRead f count (now part) place)) ⌝ }
+    requires { ⌜ (place + length (now part) < 2 ^ 31) × (start + length (registeredBytes f (now archive) (now room) context until (argumentLookups (argumentsRead f count (now part) place))) ≤ length (now out)) ⌝ }
+    ensures { λ _. ⌜ now (room .exit) ≡ registeredRoom f (now (archive .entry)) (now (room .entry)) context until (argumentLookups (argumentsRead f count (now (part .entry)) place)) ⌝ }
+    ensures { λ _. ⌜ now (out .exit) ≡ overwritten (now (out .entry)) start (registeredBytes f (now (archive .entry)) (now (room .entry)) context until (argumentLookups (argumentsRead f count (now (part .entry)) place))) ⌝ }
+    ensures { λ r. ⌜ r ≡ start + length (registeredBytes f (now (archive .entry)) (now (room .entry)) context until (argumentLookups (argumentsRead f count (now (part .entry)) place))) ⌝ }
 {
     let mut rest = part;
     let mut from = place;
@@ -139,8 +139,8 @@ fn register_arguments(
                     table: 2,
                     reference: value,
                 };
-                at = register_lookup(f, archive, room, out, at, context, limit, named);
-                at = register_lookup(f, archive, room, out, at, context, limit, held);
+                at = register_lookup(f, archive, room, out, at, context, until, named);
+                at = register_lookup(f, archive, room, out, at, context, until, held);
                 rest = &rest[size..];
                 from += size;
                 left -= 1;
@@ -165,18 +165,18 @@ fn register_report(
     requires { ⌜ LookupsFitIn f (now archive) (now room) (s .current) (s .place) (reportLookups f (now archive) report next) ⌝ }
     requires { ⌜ at + length (registeredBytes f (now archive) (now room) (s .current) (s .place) (reportLookups f (now archive) report next)) ≤ length (now out) ⌝ }
     ensures { λ _. ⌜ now (room .exit) ≡ registeredRoom f (now (archive .entry)) (now (room .entry)) (s .current) (s .place) (reportLookups f (now (archive .entry)) report next) ⌝ }
-    ensures { λ _. ⌜ now (out .exit) ≡ written (now (out .entry)) at (registeredBytes f (now (archive .entry)) (now (room .entry)) (s .current) (s .place) (reportLookups f (now (archive .entry)) report next)) ⌝ }
+    ensures { λ _. ⌜ now (out .exit) ≡ overwritten (now (out .entry)) at (registeredBytes f (now (archive .entry)) (now (room .entry)) (s .current) (s .place) (reportLookups f (now (archive .entry)) report next)) ⌝ }
     ensures { λ r. ⌜ r ≡ at + length (registeredBytes f (now (archive .entry)) (now (room .entry)) (s .current) (s .place) (reportLookups f (now (archive .entry)) report next)) ⌝ }
 {
-    let limit = s.place;
+    let until = s.place;
     let context = s.current;
     let start = report.arguments;
     let one = report.first;
     let two = report.second;
     let three = report.third;
-    let first = register_lookup(f, archive, room, out, at, context, limit, one);
-    let second = register_lookup(f, archive, room, out, first, context, limit, two);
-    let third = register_lookup(f, archive, room, out, second, context, limit, three);
+    let first = register_lookup(f, archive, room, out, at, context, until, one);
+    let second = register_lookup(f, archive, room, out, first, context, until, two);
+    let third = register_lookup(f, archive, room, out, second, context, until, three);
     register_arguments(
         f,
         archive,
@@ -184,7 +184,7 @@ fn register_report(
         out,
         third,
         context,
-        limit,
+        until,
         &archive[start..next],
         start,
         report.count,
@@ -208,7 +208,7 @@ fn register_waiting(
     requires { ⌜ at + length (registeredBytes f (now archive) (now room) (s .current) (s .place) (reportLookups f (now archive) report next)) ≤ length (now out) ⌝ }
     requires { ⌜ (waits ≡ false → Settled (tableWords f) (slotsIn f (now room))) ⌝ }
     ensures { λ _. ⌜ now (room .exit) ≡ registeredRoom f (now (archive .entry)) (now (room .entry)) (s .current) (s .place) (reportLookups f (now (archive .entry)) report next) ⌝ }
-    ensures { λ _. ⌜ now (out .exit) ≡ written (now (out .entry)) at (registeredBytes f (now (archive .entry)) (now (room .entry)) (s .current) (s .place) (reportLookups f (now (archive .entry)) report next)) ⌝ }
+    ensures { λ _. ⌜ now (out .exit) ≡ overwritten (now (out .entry)) at (registeredBytes f (now (archive .entry)) (now (room .entry)) (s .current) (s .place) (reportLookups f (now (archive .entry)) report next)) ⌝ }
     ensures { λ r. ⌜ r ≡ at + length (registeredBytes f (now (archive .entry)) (now (room .entry)) (s .current) (s .place) (reportLookups f (now (archive .entry)) report next)) ⌝ }
 {
     if waits {
@@ -223,16 +223,16 @@ fn spell(
     archive: &[u8],
     room: &[u32],
     context: usize,
-    limit: usize,
+    until: usize,
     lookup: Lookup,
 ) -> Spelled
     requires { ⌜ RoomFits f (now archive) (now room) context × CanLookUp lookup ⌝ }
-    ensures { λ r. ⌜ r ≡ spelledIn f (now (archive .entry)) (now (room .entry)) context limit lookup ⌝ }
+    ensures { λ r. ⌜ r ≡ spelledIn f (now (archive .entry)) (now (room .entry)) context until lookup ⌝ }
 {
     let words = tables::table_words(f);
     let table = lookup.table;
     let reference = lookup.reference;
-    let resolved = tables::resolve(f, archive, &room[..words], context, table, reference, limit);
+    let resolved = tables::resolve(f, archive, &room[..words], context, table, reference, until);
     match resolved {
         Resolved::Bad => Spelled {
             index: 0,
@@ -259,7 +259,7 @@ fn spell(
 // A text or a thread that is spelled so, in a body.
 fn put_spelled(archive: &[u8], out: &mut [u8], at: usize, table: u64, spelled: Spelled) -> usize
     requires { ⌜ SpelledThread table (now archive) spelled × (at + length (partBytes (spelledPart (now archive) table spelled)) ≤ length (now out)) ⌝ }
-    ensures { λ _. ⌜ now (out .exit) ≡ written (now (out .entry)) at (partBytes (spelledPart (now (archive .entry)) table spelled)) ⌝ }
+    ensures { λ _. ⌜ now (out .exit) ≡ overwritten (now (out .entry)) at (partBytes (spelledPart (now (archive .entry)) table spelled)) ⌝ }
     ensures { λ r. ⌜ r ≡ at + length (partBytes (spelledPart (now (archive .entry)) table spelled)) ⌝ }
 {
     let bytes = reader::text(archive, spelled.place, spelled.long);
@@ -282,13 +282,13 @@ fn put_argument(
     out: &mut [u8],
     at: usize,
     context: usize,
-    limit: usize,
+    until: usize,
     argument: Argument,
 ) -> usize
-    requires { ⌜ RoomFits f (now archive) (now room) context × ArgumentFitsIn f (now archive) (now room) context limit argument ⌝ }
-    requires { ⌜ at + length (argumentIn f (now archive) (now room) context limit argument) ≤ length (now out) ⌝ }
-    ensures { λ _. ⌜ now (out .exit) ≡ written (now (out .entry)) at (argumentIn f (now (archive .entry)) (now (room .entry)) context limit argument) ⌝ }
-    ensures { λ r. ⌜ r ≡ at + length (argumentIn f (now (archive .entry)) (now (room .entry)) context limit argument) ⌝ }
+    requires { ⌜ RoomFits f (now archive) (now room) context × ArgumentFitsIn f (now archive) (now room) context until argument ⌝ }
+    requires { ⌜ at + length (argumentIn f (now archive) (now room) context until argument) ≤ length (now out) ⌝ }
+    ensures { λ _. ⌜ now (out .exit) ≡ overwritten (now (out .entry)) at (argumentIn f (now (archive .entry)) (now (room .entry)) context until argument) ⌝ }
+    ensures { λ r. ⌜ r ≡ at + length (argumentIn f (now (archive .entry)) (now (room .entry)) context until argument) ⌝ }
 {
     let reference = argument.name;
     let value = argument.value;
@@ -296,7 +296,7 @@ fn put_argument(
         table: 2,
         reference,
     };
-    let named = spell(f, archive, room, context, limit, name);
+    let named = spell(f, archive, room, context, until, name);
     let bytes = reader::text(archive, named.place, named.long);
     match value {
         Value::Scalar(scalar) => encoding::put_scalar_argument(out, at, scalar, named.index, bytes),
@@ -305,7 +305,7 @@ fn put_argument(
                 table: 2,
                 reference: inside,
             };
-            let held = spell(f, archive, room, context, limit, text);
+            let held = spell(f, archive, room, context, until, text);
             let content = reader::text(archive, held.place, held.long);
             encoding::put_text_argument(out, at, named.index, bytes, held.index, content)
         }
@@ -320,15 +320,15 @@ fn put_arguments(
     out: &mut [u8],
     start: usize,
     context: usize,
-    limit: usize,
+    until: usize,
     part: &[u8],
     place: usize,
     count: usize,
 ) -> usize
-    requires { ⌜ RoomFits f (now archive) (now room) context × ArgumentsFitIn f (now archive) (now room) context limit (argumentsRead f count (now part) place) ⌝ }
-    requires { ⌜ (place + length (now part) < 2 ^ 31) × (start + length (argumentsIn f (now archive) (now room) context limit (argumentsRead f count (now part) place)) ≤ length (now out)) ⌝ }
-    ensures { λ _. ⌜ now (out .exit) ≡ written (now (out .entry)) start (argumentsIn f (now (archive .entry)) (now (room .entry)) context limit (argumentsRead f count (now (part .entry)) place)) ⌝ }
-    ensures { λ r. ⌜ r ≡ start + length (argumentsIn f (now (archive .entry)) (now (room .entry)) context limit (argumentsRead f count (now (part .entry)) place)) ⌝ }
+    requires { ⌜ RoomFits f (now archive) (now room) context × ArgumentsFitIn f (now archive) (now room) context until (argumentsRead f count (now part) place) ⌝ }
+    requires { ⌜ (place + length (now part) < 2 ^ 31) × (start + length (argumentsIn f (now archive) (now room) context until (argumentsRead f count (now part) place)) ≤ length (now out)) ⌝ }
+    ensures { λ _. ⌜ now (out .exit) ≡ overwritten (now (out .entry)) start (argumentsIn f (now (archive .entry)) (now (room .entry)) context until (argumentsRead f count (now (part .entry)) place)) ⌝ }
+    ensures { λ r. ⌜ r ≡ start + length (argumentsIn f (now (archive .entry)) (now (room .entry)) context until (argumentsRead f count (now (part .entry)) place)) ⌝ }
 {
     let mut rest = part;
     let mut from = place;
@@ -341,7 +341,7 @@ fn put_arguments(
                 return at;
             }
             Argued::Argument { argument, size } => {
-                at = put_argument(f, archive, room, out, at, context, limit, argument);
+                at = put_argument(f, archive, room, out, at, context, until, argument);
                 rest = &rest[size..];
                 from += size;
                 left -= 1;
@@ -353,9 +353,9 @@ fn put_arguments(
 
 // The last word of a record, where its kind has one.
 fn put_last(out: &mut [u8], at: usize, own: Event, last: u64) -> usize
-    requires { ⌜ at + length (wordsBytes (lastWords (ownBehind own) last)) ≤ length (now out) ⌝ }
-    ensures { λ _. ⌜ now (out .exit) ≡ written (now (out .entry)) at (wordsBytes (lastWords (ownBehind own) last)) ⌝ }
-    ensures { λ r. ⌜ r ≡ at + length (wordsBytes (lastWords (ownBehind own) last)) ⌝ }
+    requires { ⌜ at + length (wordsBytes (lastWords (ownLayout own .behind) last)) ≤ length (now out) ⌝ }
+    ensures { λ _. ⌜ now (out .exit) ≡ overwritten (now (out .entry)) at (wordsBytes (lastWords (ownLayout own .behind) last)) ⌝ }
+    ensures { λ r. ⌜ r ≡ at + length (wordsBytes (lastWords (ownLayout own .behind) last)) ⌝ }
 {
     if records::own_behind(own) == 0 {
         return at;
@@ -386,7 +386,7 @@ fn put_pieces(
 ) -> usize
     requires { ⌜ SpelledThread (report .first .table) (now archive) first × SpelledThread (report .second .table) (now archive) second × SpelledThread (report .third .table) (now archive) third ⌝ }
     requires { ⌜ at + length (partsBytes (spelledPieces (now archive) report first second third)) ≤ length (now out) ⌝ }
-    ensures { λ _. ⌜ now (out .exit) ≡ written (now (out .entry)) at (partsBytes (spelledPieces (now (archive .entry)) report first second third)) ⌝ }
+    ensures { λ _. ⌜ now (out .exit) ≡ overwritten (now (out .entry)) at (partsBytes (spelledPieces (now (archive .entry)) report first second third)) ⌝ }
     ensures { λ r. ⌜ r ≡ at + length (partsBytes (spelledPieces (now (archive .entry)) report first second third)) ⌝ }
 {
     let one = report.first;
@@ -412,7 +412,7 @@ fn put_header(
     third: Spelled,
 ) -> usize
     requires { ⌜ (size < 2 ^ 12) × SpelledHeaderFits (now archive) report first second third × (at + 8 ≤ length (now out)) ⌝ }
-    ensures { λ _. ⌜ now (out .exit) ≡ written (now (out .entry)) at (spelledHeader (now (archive .entry)) size report first second third) ⌝ }
+    ensures { λ _. ⌜ now (out .exit) ≡ overwritten (now (out .entry)) at (spelledHeader (now (archive .entry)) size report first second third) ⌝ }
     ensures { λ r. ⌜ r ≡ at + 8 ⌝ }
 {
     let one = report.first;
@@ -445,19 +445,19 @@ fn put_report(
 ) -> usize
     requires { ⌜ RoomFits f (now archive) (now room) (s .current) × ReportAt f (now archive) s report next × ReportFitsIn f (now archive) (now room) s report next ⌝ }
     requires { ⌜ at + length (reportIn f (now archive) (now room) s report next) ≤ length (now out) ⌝ }
-    ensures { λ _. ⌜ now (out .exit) ≡ written (now (out .entry)) at (reportIn f (now (archive .entry)) (now (room .entry)) s report next) ⌝ }
+    ensures { λ _. ⌜ now (out .exit) ≡ overwritten (now (out .entry)) at (reportIn f (now (archive .entry)) (now (room .entry)) s report next) ⌝ }
     ensures { λ r. ⌜ r ≡ at + length (reportIn f (now (archive .entry)) (now (room .entry)) s report next) ⌝ }
 {
-    let limit = s.place;
+    let until = s.place;
     let context = s.current;
     let start = report.arguments;
     let one = report.first;
     let two = report.second;
     let three = report.third;
     let own = report.own;
-    let first = spell(f, archive, room, context, limit, one);
-    let second = spell(f, archive, room, context, limit, two);
-    let third = spell(f, archive, room, context, limit, three);
+    let first = spell(f, archive, room, context, until, one);
+    let second = spell(f, archive, room, context, until, two);
+    let third = spell(f, archive, room, context, until, three);
     let pieced = put_pieces(archive, out, at + 8, report, first, second, third);
     let argued = put_arguments(
         f,
@@ -466,7 +466,7 @@ fn put_report(
         out,
         pieced,
         context,
-        limit,
+        until,
         &archive[start..next],
         start,
         report.count,
@@ -488,7 +488,7 @@ fn put_report(
 // The record of an item that refers to nothing; nothing for a record that shows none.
 fn put_plain(archive: &[u8], out: &mut [u8], at: usize, content: Content) -> usize
     requires { ⌜ PlainFits (plainItem (now archive) content) × (at + length (plainBytes (plainItem (now archive) content)) ≤ length (now out)) ⌝ }
-    ensures { λ _. ⌜ now (out .exit) ≡ written (now (out .entry)) at (plainBytes (plainItem (now (archive .entry)) content)) ⌝ }
+    ensures { λ _. ⌜ now (out .exit) ≡ overwritten (now (out .entry)) at (plainBytes (plainItem (now (archive .entry)) content)) ⌝ }
     ensures { λ r. ⌜ r ≡ at + length (plainBytes (plainItem (now (archive .entry)) content)) ⌝ }
 {
     match content {
@@ -531,7 +531,7 @@ fn put_record(
     requires { ⌜ ContentFitsIn f (now archive) (now room) s content next × (waits ≡ false → Settled (tableWords f) (slotsIn f (now room))) ⌝ }
     requires { ⌜ at + length (contentIn f (now archive) (now room) s content next) ≤ length (now out) ⌝ }
     ensures { λ _. ⌜ now (room .exit) ≡ contentRoom f (now (archive .entry)) (now (room .entry)) s content next ⌝ }
-    ensures { λ _. ⌜ now (out .exit) ≡ written (now (out .entry)) at (contentIn f (now (archive .entry)) (now (room .entry)) s content next) ⌝ }
+    ensures { λ _. ⌜ now (out .exit) ≡ overwritten (now (out .entry)) at (contentIn f (now (archive .entry)) (now (room .entry)) s content next) ⌝ }
     ensures { λ r. ⌜ r ≡ at + length (contentIn f (now (archive .entry)) (now (room .entry)) s content next) ⌝ }
 {
     match content {
@@ -547,7 +547,7 @@ fn put_record(
 pub fn write_all(f: Format, archive: &[u8], room: &mut [u32], out: &mut [u8])
     requires { ⌜ Asks f (now archive) (now room) (now out) ⌝ }
     requires { ⌜ Chosen f (now archive) (slotsIn f (now room)) ⌝ }
-    ensures { λ _. ⌜ now (out .exit) ≡ written (now (out .entry)) 0 (ruleOf (itemsOf (runOf f (now (archive .entry))))) ⌝ }
+    ensures { λ _. ⌜ now (out .exit) ≡ overwritten (now (out .entry)) 0 (ruleOf (itemsOf (runOf f (now (archive .entry))))) ⌝ }
     ensures { λ _. ⌜ tablesIn f (now (room .exit)) ≡ tablesOf f (now (archive .entry)) ⌝ }
     ensures { λ _. ⌜ SlotsIndexed f (now (archive .entry)) (slotsIn f (now (room .entry))) (slotsIn f (now (room .exit))) ⌝ }
     ensures { λ _. ⌜ (length (now (room .exit)) ≡ length (now (room .entry))) × (drop (4 * tableWords f) (now (room .exit)) ≡ drop (4 * tableWords f) (now (room .entry))) ⌝ }

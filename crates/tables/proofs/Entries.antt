@@ -54,35 +54,35 @@ content-registers f source place h =
 -- ---- an entry
 
 -- an entry behind the archive's end, or of a record that has no extent, is bad
-pub entry-refused : (f : Format) (archive : List ℕ) (kind index entry limit number : ℕ)
-    → extentOf (drop entry archive) ≡ ExtentRefused number → entryAt f archive kind index entry limit ≡ Bad
+pub entry-refused : (f : Format) (archive : List ℕ) (table index entry until number : ℕ)
+    → extentOf (drop entry archive) ≡ ExtentRefused number → entryAt f archive table index entry until ≡ Bad
 unfolding entryAt recordOf registrationOf effectOf
-entry-refused f archive kind index entry limit number e =
+entry-refused f archive table index entry until number e =
     rw e
-    (on-pick (λ r. r ≡ Bad) (eqb (entry % 8) 0) _ _ (λ a. on-pick (λ r. r ≡ Bad) (ltb limit entry) _ _ (λ b. refl) (λ b. refl)) (λ a. refl))
+    (on-pick (λ r. r ≡ Bad) (eqb (entry % 8) 0) _ _ (λ a. on-pick (λ r. r ≡ Bad) (ltb until entry) _ _ (λ b. refl) (λ b. refl)) (λ a. refl))
 
-pub entry-behind : (f : Format) (archive : List ℕ) (kind index entry limit : ℕ)
-    → length archive < entry → entryAt f archive kind index entry limit ≡ Bad
+pub entry-behind : (f : Format) (archive : List ℕ) (table index entry until : ℕ)
+    → length archive < entry → entryAt f archive table index entry until ≡ Bad
 unfolding extentOf
-entry-behind f archive kind index entry limit h =
+entry-behind f archive table index entry until h =
     let l : length archive ≤ entry = omega arith in
-    entry-refused f archive kind index entry limit 5 (rw (drop-of-length-le archive {i = entry} l))
+    entry-refused f archive table index entry until 5 (rw (drop-of-length-le archive {i = entry} l))
 
--- an entry of a record that ends behind the limit is bad
-pub entry-late : (f : Format) (archive : List ℕ) (kind index entry limit size : ℕ)
-    → extentOf (drop entry archive) ≡ Bytes size → limit < entry + size → entryAt f archive kind index entry limit ≡ Bad
+-- an entry of a record that ends behind `until` is bad
+pub entry-late : (f : Format) (archive : List ℕ) (table index entry until size : ℕ)
+    → extentOf (drop entry archive) ≡ Bytes size → until < entry + size → entryAt f archive table index entry until ≡ Bad
 unfolding entryAt recordOf
-entry-late f archive kind index entry limit size e h =
-    rw (e, lt-ltb limit (entry + size) h) (on-pick (λ r. r ≡ Bad) (eqb (entry % 8) 0) _ _ (λ a. refl) (λ a. refl))
+entry-late f archive table index entry until size e h =
+    rw (e, lt-ltb until (entry + size) h) (on-pick (λ r. r ≡ Bad) (eqb (entry % 8) 0) _ _ (λ a. refl) (λ a. refl))
 
 -- every other entry stands for what its record's header registers
-pub entry-read : (f : Format) (archive : List ℕ) (kind index entry limit size : ℕ)
-    → entry % 8 ≡ 0 → extentOf (drop entry archive) ≡ Bytes size → entry + size ≤ limit
-    → entryAt f archive kind index entry limit
-    ≡ belonging kind index (registrationAt f (wordAt (drop entry archive) 0) entry (entry + size))
+pub entry-read : (f : Format) (archive : List ℕ) (table index entry until size : ℕ)
+    → entry % 8 ≡ 0 → extentOf (drop entry archive) ≡ Bytes size → entry + size ≤ until
+    → entryAt f archive table index entry until
+    ≡ belonging table index (registrationAt f (wordAt (drop entry archive) 0) entry (entry + size))
 unfolding entryAt recordOf belonging
-entry-read f archive kind index entry limit size a e h =
-    rw (e, eq-eqb (entry % 8) 0 a, le-ltb limit (entry + size) h, content-registers f (take size rest) entry (rw long (w .some)), word, long)
+entry-read f archive table index entry until size a e h =
+    rw (e, eq-eqb (entry % 8) 0 a, le-ltb until (entry + size) h, content-registers f (take size rest) entry (rw long (w .some)), word, long)
   where
     rest : List ℕ
     rest = drop entry archive

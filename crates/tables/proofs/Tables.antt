@@ -46,15 +46,15 @@ place-lt true highest context index h i = omega (arith, mul-le-mul-right (highes
 place-lt false highest context index h i = omega (arith, mul-le-mul-right (highest + 257) h)
 
 -- an entry stands inside the tables
-pub position-lt : (f : Format) (context kind index : ℕ) → context ≤ 8 → index ≤ highestOf f kind
-    → position f context kind index < tableWords f
+pub position-lt : (f : Format) (context table index : ℕ) → context ≤ 8 → index ≤ highestOf f table
+    → position f context table index < tableWords f
 unfolding highestOf position
-position-lt f context kind index = place-lt (eqb kind 3) (f .highest) context index
+position-lt f context table index = place-lt (eqb table 3) (f .highest) context index
 
 -- so does one that is known to be a position
-pub at-lt : (f : Format) (context kind index at : ℕ) → at ≡ position f context kind index → context ≤ 8 → index ≤ highestOf f kind
+pub at-lt : (f : Format) (context table index at : ℕ) → at ≡ position f context table index → context ≤ 8 → index ≤ highestOf f table
     → at < tableWords f
-at-lt f context kind index at e h i = omega (arith, e, position-lt f context kind index h i)
+at-lt f context table index at e h i = omega (arith, e, position-lt f context table index h i)
 
 digits-same : (w q q′ r r′ : ℕ) → r < w → r′ < w → q * w + r ≡ q′ * w + r′ → (q ≡ q′) × (r ≡ r′)
 digits-same w q q′ r r′ h h′ e = (
@@ -79,20 +79,20 @@ places-apart false false highest c c′ i i′ h h′ e =
     let s = digits-same (highest + 257) c c′ i i′ (omega arith) (omega arith) (omega arith) in
     (s .0, refl, s .1)
 
-kinds-same : (k k′ : ℕ) → (k ≡ 2) ⊎ (k ≡ 3) → (k′ ≡ 2) ⊎ (k′ ≡ 3) → eqb k 3 ≡ eqb k′ 3 → k ≡ k′
-kinds-same k k′ (inl p) (inl q) e = omega arith
-kinds-same k k′ (inl p) (inr q) e = absurd (true≢false (sym (rw (p, q) at e)))
-kinds-same k k′ (inr p) (inl q) e = absurd (true≢false (rw (p, q) at e))
-kinds-same k k′ (inr p) (inr q) e = omega arith
+tables-same : (k k′ : ℕ) → (k ≡ 2) ⊎ (k ≡ 3) → (k′ ≡ 2) ⊎ (k′ ≡ 3) → eqb k 3 ≡ eqb k′ 3 → k ≡ k′
+tables-same k k′ (inl p) (inl q) e = omega arith
+tables-same k k′ (inl p) (inr q) e = absurd (true≢false (sym (rw (p, q) at e)))
+tables-same k k′ (inr p) (inl q) e = absurd (true≢false (rw (p, q) at e))
+tables-same k k′ (inr p) (inr q) e = omega arith
 
--- two entries that stand at one position are of one context, kind and index
-pub position-apart : (f : Format) (context kind index context′ kind′ index′ : ℕ) → (kind ≡ 2) ⊎ (kind ≡ 3) → (kind′ ≡ 2) ⊎ (kind′ ≡ 3)
-    → index ≤ highestOf f kind → index′ ≤ highestOf f kind′ → position f context kind index ≡ position f context′ kind′ index′
-    → (context ≡ context′) × (kind ≡ kind′) × (index ≡ index′)
+-- two entries that stand at one position are of one context, table and index
+pub position-apart : (f : Format) (context table index context′ table′ index′ : ℕ) → (table ≡ 2) ⊎ (table ≡ 3) → (table′ ≡ 2) ⊎ (table′ ≡ 3)
+    → index ≤ highestOf f table → index′ ≤ highestOf f table′ → position f context table index ≡ position f context′ table′ index′
+    → (context ≡ context′) × (table ≡ table′) × (index ≡ index′)
 unfolding highestOf position
 position-apart f c k i c′ k′ i′ n n′ h h′ e =
     let s = places-apart (eqb k 3) (eqb k′ 3) (f .highest) c c′ i i′ h h′ e in
-    (s .0, kinds-same k k′ n n′ (s .1), s .2)
+    (s .0, tables-same k k′ n n′ (s .1), s .2)
 
 -- ---- cleared tables
 
@@ -109,50 +109,50 @@ length-cleared n tables h =
 -- ---- what a set entry stands for
 
 -- what is known of an entry that stands for the bytes at a place: it is the place, a multiple of 8, of a record
--- that ends at or before the limit and registers these bytes with this kind and index
-pub record EntryKnown (f : Format) (archive : List ℕ) (kind index entry limit place long : ℕ) : Type 0 where
+-- that ends at or before `until` and registers these bytes in this table with this index
+pub record EntryKnown (f : Format) (archive : List ℕ) (table index entry until place long : ℕ) : Type 0 where
   pub whole : entry % 8 ≡ 0
-  pub ends : recordAt f archive entry .next ≤ limit
-  pub registers : registrationOf (recordAt f archive entry .content) ≡ Entry kind index place long
+  pub ends : recordAt f archive entry .next ≤ until
+  pub registers : registrationOf (recordAt f archive entry .content) ≡ Entry table index place long
 
 abbrev EntryMeans : Format → List ℕ → ℕ → ℕ → ℕ → ℕ → Resolved → Type 0
-EntryMeans f archive kind index entry limit Bad = Unit {0}
-EntryMeans f archive kind index entry limit (Known place long) = EntryKnown f archive kind index entry limit place long
-EntryMeans f archive kind index entry limit (Unresolved number) = Unit {0}
+EntryMeans f archive table index entry until Bad = Unit {0}
+EntryMeans f archive table index entry until (Known place long) = EntryKnown f archive table index entry until place long
+EntryMeans f archive table index entry until (Unresolved number) = Unit {0}
 
-entry-means : (f : Format) (archive : List ℕ) (kind index entry limit : ℕ)
-    → EntryMeans f archive kind index entry limit (entryAt f archive kind index entry limit)
+entry-means : (f : Format) (archive : List ℕ) (table index entry until : ℕ)
+    → EntryMeans f archive table index entry until (entryAt f archive table index entry until)
 unfolding entryAt
-entry-means f archive kind index entry limit =
+entry-means f archive table index entry until =
     on-pick P (eqb (entry % 8) 0) _ _
-    (λ a. on-pick P (ltb limit (recordAt f archive entry .next)) _ _ (λ b. tt)
-    (λ b. go (eqb-true (entry % 8) 0 a) (ltb-false limit (recordAt f archive entry .next) b) (registrationOf (recordAt f archive entry .content)) refl))
+    (λ a. on-pick P (ltb until (recordAt f archive entry .next)) _ _ (λ b. tt)
+    (λ b. go (eqb-true (entry % 8) 0 a) (ltb-false until (recordAt f archive entry .next) b) (registrationOf (recordAt f archive entry .content)) refl))
     (λ a. tt)
   where
     P : Resolved → Type 0
-    P = EntryMeans f archive kind index entry limit
+    P = EntryMeans f archive table index entry until
 
-    go : entry % 8 ≡ 0 → recordAt f archive entry .next ≤ limit → (r : Registration)
+    go : entry % 8 ≡ 0 → recordAt f archive entry .next ≤ until → (r : Registration)
         → registrationOf (recordAt f archive entry .content) ≡ r
-        → P (onRegistration r Bad (λ k i place long. pick (eqb k kind) (pick (eqb i index) (Known place long) Bad) Bad))
+        → P (onRegistration r Bad (λ k i place long. pick (eqb k table) (pick (eqb i index) (Known place long) Bad) Bad))
     go a b Nothing e = tt
     go a b (Entry k i place long) e =
-        on-pick P (eqb k kind) _ _
+        on-pick P (eqb k table) _ _
         (λ s. on-pick P (eqb i index) _ _
-        (λ t. record { whole = a; ends = b; registers = e ∙ rw (eqb-true k kind s, eqb-true i index t) })
+        (λ t. record { whole = a; ends = b; registers = e ∙ rw (eqb-true k table s, eqb-true i index t) })
         (λ t. tt))
         (λ s. tt)
 
 -- a known entry is so
-pub entry-known : (f : Format) (archive : List ℕ) (kind index entry limit place long : ℕ)
-    → entryAt f archive kind index entry limit ≡ Known place long → EntryKnown f archive kind index entry limit place long
-entry-known f archive kind index entry limit place long e =
-    subst (EntryMeans f archive kind index entry limit) e (entry-means f archive kind index entry limit)
+pub entry-known : (f : Format) (archive : List ℕ) (table index entry until place long : ℕ)
+    → entryAt f archive table index entry until ≡ Known place long → EntryKnown f archive table index entry until place long
+entry-known f archive table index entry until place long e =
+    subst (EntryMeans f archive table index entry until) e (entry-means f archive table index entry until)
 
 -- what a record registers stands inside it
 abbrev RegistrationInside : ℕ → ℕ → Registration → Type 0
 RegistrationInside from to Nothing = Unit {0}
-RegistrationInside from to (Entry kind index place long) = Inside from to (Inline place long)
+RegistrationInside from to (Entry table index place long) = Inside from to (Inline place long)
 
 registration-inside : (from to : ℕ) (c : Content) → ContentInside from to c → RegistrationInside from to (registrationOf c)
 unfolding registrationOf effectOf
@@ -169,11 +169,11 @@ registration-inside from to Ignored i = tt
 registration-inside from to (Skipped type size) i = tt
 
 -- the bytes that the record at a place registers stand inside it
-pub registered-inside : (f : Format) (archive : List ℕ) (entry kind index place long : ℕ)
-    → registrationOf (recordAt f archive entry .content) ≡ Entry kind index place long
+pub registered-inside : (f : Format) (archive : List ℕ) (entry table index place long : ℕ)
+    → registrationOf (recordAt f archive entry .content) ≡ Entry table index place long
     → Inside entry (recordAt f archive entry .next) (Inline place long)
 unfolding registrationOf effectOf
-registered-inside f archive entry kind index place long e =
+registered-inside f archive entry table index place long e =
     subst (RegistrationInside entry (recordAt f archive entry .next)) e
     (on-record (λ r. RegistrationInside entry (r .next) (registrationOf (r .content))) f archive entry (λ number. tt)
     (λ size s. rw (s .next) (registration-inside entry (entry + size) (recordAt f archive entry .content) (s .shows))))
@@ -181,48 +181,48 @@ registered-inside f archive entry kind index place long e =
 -- ---- what a reference stands for
 
 -- an index that is resolved has a set entry that is known
-pub record IndexKnown (f : Format) (archive tables : List ℕ) (context kind index limit place long : ℕ) : Type 0 where
-  pub low : index ≤ highestOf f kind
-  pub is-set : getD tables (position f context kind index) 0 ≡ 0 → ⊥
-  pub known : EntryKnown f archive kind index (getD tables (position f context kind index) 0) limit place long
+pub record IndexKnown (f : Format) (archive tables : List ℕ) (context table index until place long : ℕ) : Type 0 where
+  pub low : index ≤ highestOf f table
+  pub is-set : getD tables (position f context table index) 0 ≡ 0 → ⊥
+  pub known : EntryKnown f archive table index (getD tables (position f context table index) 0) until place long
 
 abbrev IndexMeans : Format → List ℕ → List ℕ → ℕ → ℕ → ℕ → ℕ → Resolved → Type 0
-IndexMeans f archive tables context kind index limit Bad = Unit {0}
-IndexMeans f archive tables context kind index limit (Known place long) =
-    IndexKnown f archive tables context kind index limit place long
-IndexMeans f archive tables context kind index limit (Unresolved number) = Unit {0}
+IndexMeans f archive tables context table index until Bad = Unit {0}
+IndexMeans f archive tables context table index until (Known place long) =
+    IndexKnown f archive tables context table index until place long
+IndexMeans f archive tables context table index until (Unresolved number) = Unit {0}
 
-index-means : (f : Format) (archive tables : List ℕ) (context kind index limit : ℕ)
-    → IndexMeans f archive tables context kind index limit (resolved f archive tables context kind limit (Index index))
+index-means : (f : Format) (archive tables : List ℕ) (context table index until : ℕ)
+    → IndexMeans f archive tables context table index until (resolved f archive tables context table until (Index index))
 unfolding resolved
-index-means f archive tables context kind index limit =
-    on-pick P (ltb (highestOf f kind) index) _ _ (λ a. tt)
+index-means f archive tables context table index until =
+    on-pick P (ltb (highestOf f table) index) _ _ (λ a. tt)
     (λ a. on-pick P (eqb entry 0) _ _ (λ b. tt)
-    (λ b. go (ltb-false (highestOf f kind) index a) (eqb-false entry 0 b) (entryAt f archive kind index entry limit)
-    (entry-means f archive kind index entry limit)))
+    (λ b. go (ltb-false (highestOf f table) index a) (eqb-false entry 0 b) (entryAt f archive table index entry until)
+    (entry-means f archive table index entry until)))
   where
     entry : ℕ
-    entry = getD tables (position f context kind index) 0
+    entry = getD tables (position f context table index) 0
 
     P : Resolved → Type 0
-    P = IndexMeans f archive tables context kind index limit
+    P = IndexMeans f archive tables context table index until
 
-    go : index ≤ highestOf f kind → (entry ≡ 0 → ⊥) → (r : Resolved) → EntryMeans f archive kind index entry limit r → P r
+    go : index ≤ highestOf f table → (entry ≡ 0 → ⊥) → (r : Resolved) → EntryMeans f archive table index entry until r → P r
     go a b Bad e = tt
     go a b (Known place long) e = record { low = a; is-set = b; known = e }
     go a b (Unresolved number) e = tt
 
 -- an index that stands for known bytes is so
-pub resolved-known : (f : Format) (archive tables : List ℕ) (context kind index limit place long : ℕ)
-    → resolved f archive tables context kind limit (Index index) ≡ Known place long
-    → IndexKnown f archive tables context kind index limit place long
-resolved-known f archive tables context kind index limit place long e =
-    subst (IndexMeans f archive tables context kind index limit) e (index-means f archive tables context kind index limit)
+pub resolved-known : (f : Format) (archive tables : List ℕ) (context table index until place long : ℕ)
+    → resolved f archive tables context table until (Index index) ≡ Known place long
+    → IndexKnown f archive tables context table index until place long
+resolved-known f archive tables context table index until place long e =
+    subst (IndexMeans f archive tables context table index until) e (index-means f archive tables context table index until)
 
--- and its bytes, with their padding, end at or before the limit
-pub resolved-inside : (f : Format) (archive tables : List ℕ) (context kind index limit place long : ℕ)
-    → resolved f archive tables context kind limit (Index index) ≡ Known place long → place + 8 * streamWords long ≤ limit
-resolved-inside f archive tables context kind index limit place long e =
-    let k = resolved-known f archive tables context kind index limit place long e .known in
-    let i = registered-inside f archive (getD tables (position f context kind index) 0) kind index place long (k .registers) in
+-- and its bytes, with their padding, end at or before `until`
+pub resolved-inside : (f : Format) (archive tables : List ℕ) (context table index until place long : ℕ)
+    → resolved f archive tables context table until (Index index) ≡ Known place long → place + 8 * streamWords long ≤ until
+resolved-inside f archive tables context table index until place long e =
+    let k = resolved-known f archive tables context table index until place long e .known in
+    let i = registered-inside f archive (getD tables (position f context table index) 0) table index place long (k .registers) in
     omega (arith, k .ends, i .1)

@@ -25,14 +25,14 @@ contextWords f = f .highest + 257
 abbrev pub tableWords : Format → ℕ
 tableWords f = 9 * contextWords f
 
--- the highest index of a kind: the record type 2 for strings, 3 for threads
+-- the highest index of a table, which is named by the type of its records: 2 for strings, 3 for threads
 unfoldable pub highestOf : Format → ℕ → ℕ
-highestOf f kind = pick (eqb kind 3) 255 (f .highest)
+highestOf f table = pick (eqb table 3) 255 (f .highest)
 
--- where the entry of a kind and index stands in a context
+-- where the entry of an index stands in a table of a context
 unfoldable pub position : Format → ℕ → ℕ → ℕ → ℕ
-position f context kind index =
-    pick (eqb kind 3) (context * contextWords f + (f .highest + 1) + index) (context * contextWords f + index)
+position f context table index =
+    pick (eqb table 3) (context * contextWords f + (f .highest + 1) + index) (context * contextWords f + index)
 
 -- the first n words 0, the others as they were
 abbrev pub cleared : ℕ → List ℕ → List ℕ
@@ -51,26 +51,26 @@ registrationOf content = registering (effectOf content)
 
 abbrev pub onRegistration : {A : Type 0} → Registration → A → (ℕ → ℕ → ℕ → ℕ → A) → A
 onRegistration Nothing none some = none
-onRegistration (Entry kind index place length) none some = some kind index place length
+onRegistration (Entry table index place length) none some = some table index place length
 
 -- number 4 for an entry: "set but is not the place, a multiple of 8, of a record of that kind and index that passes 7 and 6
 -- and ends at or before the state's place"
 unfoldable pub entryAt : Format → List ℕ → ℕ → ℕ → ℕ → ℕ → Resolved
-entryAt f archive kind index entry limit =
+entryAt f archive table index entry until =
     pick (eqb (entry % 8) 0)
-    (pick (ltb limit (recordAt f archive entry .next)) Bad
+    (pick (ltb until (recordAt f archive entry .next)) Bad
     (onRegistration (registrationOf (recordAt f archive entry .content)) Bad
-    (λ k i place length. pick (eqb k kind) (pick (eqb i index) (Known place length) Bad) Bad)))
+    (λ k i place length. pick (eqb k table) (pick (eqb i index) (Known place length) Bad) Bad)))
     Bad
 
 -- "A reference whose entry is not set, or whose index is above 511, is shown as unresolved with its index."
 unfoldable pub resolved : Format → List ℕ → List ℕ → ℕ → ℕ → ℕ → Reference → Resolved
-resolved f archive tables context kind limit (Inline place length) = Known place length
-resolved f archive tables context kind limit (Index index) =
-    pick (ltb (highestOf f kind) index) (Unresolved index)
-    (pick (eqb (getD tables (position f context kind index) 0) 0) (Unresolved index)
-    (entryAt f archive kind index (getD tables (position f context kind index) 0) limit))
+resolved f archive tables context table until (Inline place length) = Known place length
+resolved f archive tables context table until (Index index) =
+    pick (ltb (highestOf f table) index) (Unresolved index)
+    (pick (eqb (getD tables (position f context table index) 0) 0) (Unresolved index)
+    (entryAt f archive table index (getD tables (position f context table index) 0) until))
 
 -- what a reference of a record stands for in a context
 abbrev pub lookedUp : Format → List ℕ → List ℕ → ℕ → ℕ → Lookup → Resolved
-lookedUp f archive tables context limit l = resolved f archive tables context (l .table) limit (l .reference)
+lookedUp f archive tables context until l = resolved f archive tables context (l .table) until (l .reference)

@@ -11,11 +11,11 @@ use format::Reference;
 use records::Content;
 use records::Effect;
 
-// What a string or thread record registers: its kind, the record type 2 or 3, its index, and where its bytes stand.
+// What a string or thread record registers: its table, 2 for texts and 3 for threads, its index, and where its bytes stand.
 pub enum Registration {
     Nothing,
     Entry {
-        kind: u64,
+        table: u64,
         index: usize,
         place: usize,
         length: usize,
@@ -38,22 +38,22 @@ pub fn table_words(f: Format) -> usize
 }
 
 // The highest index of a table.
-pub fn highest_of(f: Format, kind: u64) -> usize
-    ensures { λ r. ⌜ r ≡ highestOf f kind ⌝ }
+pub fn highest_of(f: Format, table: u64) -> usize
+    ensures { λ r. ⌜ r ≡ highestOf f table ⌝ }
 {
-    if kind == 3 {
+    if table == 3 {
         return 255;
     }
     f.highest
 }
 
 // The position of an entry.
-pub fn position_of(f: Format, context: usize, kind: u64, index: usize) -> usize
-    requires { ⌜ FormatFits f × (context ≤ 8) × (index ≤ highestOf f kind) ⌝ }
-    ensures { λ r. ⌜ r ≡ position f context kind index ⌝ }
+pub fn position_of(f: Format, context: usize, table: u64, index: usize) -> usize
+    requires { ⌜ FormatFits f × (context ≤ 8) × (index ≤ highestOf f table) ⌝ }
+    ensures { λ r. ⌜ r ≡ position f context table index ⌝ }
 {
     let start = context * (f.highest + 257);
-    if kind == 3 {
+    if table == 3 {
         return start + (f.highest + 1) + index;
     }
     start + index
@@ -83,7 +83,7 @@ pub fn registration_of(content: Content) -> Registration
             place,
             length,
         } => Registration::Entry {
-            kind: table,
+            table,
             index,
             place,
             length,
@@ -100,29 +100,29 @@ fn registration_at(f: Format, header: u64, place: usize, end: usize) -> Registra
     requires { ⌜ place < 2 ^ 62 ⌝ }
     ensures { λ r. ⌜ r ≡ registrationAt f header place end ⌝ }
 {
-    let kind = words::field(header, 0, 3);
-    if kind == 2 {
+    let record_type = words::field(header, 0, 3);
+    if record_type == 2 {
         return registration_of(records::string_of(f, header, place, end));
     }
-    if kind == 3 {
+    if record_type == 3 {
         return registration_of(records::thread_of(f, header, place, end));
     }
     Registration::Nothing
 }
 
-// What a registration stands for where one of this kind and index is wanted.
-fn belonging(registration: Registration, kind: u64, index: usize) -> Resolved
-    ensures { λ r. ⌜ r ≡ belonging kind index registration ⌝ }
+// What a registration stands for where one of this table and index is wanted.
+fn belonging(registration: Registration, table: u64, index: usize) -> Resolved
+    ensures { λ r. ⌜ r ≡ belonging table index registration ⌝ }
 {
     match registration {
         Registration::Nothing => Resolved::Bad,
         Registration::Entry {
-            kind: k,
+            table: k,
             index: i,
             place,
             length,
         } => {
-            if k != kind {
+            if k != table {
                 return Resolved::Bad;
             }
             if i != index {
@@ -133,18 +133,18 @@ fn belonging(registration: Registration, kind: u64, index: usize) -> Resolved
     }
 }
 
-// What a set entry stands for: the registration of this kind and index at its place, which ends at or before `limit`.
+// What a set entry stands for: the registration of this table and index at its place, which ends at or before `until`.
 // Only string and thread records register, so nothing but the extent of another record is read.
 fn entry_at(
     f: Format,
     archive: &[u8],
-    kind: u64,
+    table: u64,
     index: usize,
     entry: usize,
-    limit: usize,
+    until: usize,
 ) -> Resolved
     requires { ⌜ length (now archive) < 2 ^ 62 ⌝ }
-    ensures { λ r. ⌜ r ≡ entryAt f (now (archive .entry)) kind index entry limit ⌝ }
+    ensures { λ r. ⌜ r ≡ entryAt f (now (archive .entry)) table index entry until ⌝ }
 {
     if entry % 8 != 0 {
         return Resolved::Bad;
@@ -158,40 +158,40 @@ fn entry_at(
         Extent::Refused(_) => Resolved::Bad,
         Extent::Bytes(size) => {
             let end = entry + size;
-            if limit < end {
+            if until < end {
                 return Resolved::Bad;
             }
             let registration = registration_at(f, words::word(rest, 0), entry, end);
-            belonging(registration, kind, index)
+            belonging(registration, table, index)
         }
     }
 }
 
-// What a reference of this kind stands for in a context.
+// What a reference into this table stands for in a context.
 pub fn resolve(
     f: Format,
     archive: &[u8],
     tables: &[u32],
     context: usize,
-    kind: u64,
+    table: u64,
     reference: Reference,
-    limit: usize,
+    until: usize,
 ) -> Resolved
     requires { ⌜ FormatFits f × (length (now archive) < 2 ^ 62) × (tableWords f ≤ length (now tables)) × (context ≤ 8) ⌝ }
-    ensures { λ r. ⌜ r ≡ resolved f (now (archive .entry)) (now (tables .entry)) context kind limit reference ⌝ }
+    ensures { λ r. ⌜ r ≡ resolved f (now (archive .entry)) (now (tables .entry)) context table until reference ⌝ }
 {
     match reference {
         Reference::Inline { place, length } => Resolved::Known { place, length },
         Reference::Index(index) => {
-            if highest_of(f, kind) < index {
+            if highest_of(f, table) < index {
                 return Resolved::Unresolved { index };
             }
-            let at = position_of(f, context, kind, index);
+            let at = position_of(f, context, table, index);
             let entry = tables[at] as usize;
             if entry == 0 {
                 return Resolved::Unresolved { index };
             }
-            entry_at(f, archive, kind, index, entry, limit)
+            entry_at(f, archive, table, index, entry, until)
         }
     }
 }

@@ -18,22 +18,22 @@ use Rattle.tally.proofs.Probing.{found-low}
 -- ---- labels
 
 -- the mark that a label holds
-pub label-mark : (context kind long : ℕ) → long < 65536 → labelOf context kind long / 65536 ≡ 2 * context + (kind - 2)
+pub label-mark : (context table long : ℕ) → long < 65536 → labelOf context table long / 65536 ≡ 2 * context + (table - 2)
 unfolding labelOf
-label-mark context kind long h = omega arith
+label-mark context table long h = omega arith
 
 -- and the length that it holds
-pub label-long : (context kind long : ℕ) → long < 65536 → labelOf context kind long % 65536 ≡ long
+pub label-long : (context table long : ℕ) → long < 65536 → labelOf context table long % 65536 ≡ long
 unfolding labelOf
-label-long context kind long h = omega arith
+label-long context table long h = omega arith
 
--- labels are equal only in one context, for one kind and one length
-pub label-one : (context context′ kind kind′ long long′ : ℕ) → long < 65536 → long′ < 65536 → kind - 2 < 2 → kind′ - 2 < 2
-    → labelOf context kind long ≡ labelOf context′ kind′ long′ → (context ≡ context′) × (kind - 2 ≡ kind′ - 2)
-label-one context context′ kind kind′ long long′ h h′ k k′ e =
-    let m = label-mark context kind long h in
-    let m′ = label-mark context′ kind′ long′ h′ in
-    let same : labelOf context kind long / 65536 ≡ labelOf context′ kind′ long′ / 65536 = ap (λ (n : ℕ). n / 65536) e in
+-- labels are equal only in one context, for one table and one length
+pub label-one : (context context′ table table′ long long′ : ℕ) → long < 65536 → long′ < 65536 → table - 2 < 2 → table′ - 2 < 2
+    → labelOf context table long ≡ labelOf context′ table′ long′ → (context ≡ context′) × (table - 2 ≡ table′ - 2)
+label-one context context′ table table′ long long′ h h′ k k′ e =
+    let m = label-mark context table long h in
+    let m′ = label-mark context′ table′ long′ h′ in
+    let same : labelOf context table long / 65536 ≡ labelOf context′ table′ long′ / 65536 = ap (λ (n : ℕ). n / 65536) e in
     (omega arith, omega arith)
 
 -- keys with different labels are different
@@ -47,38 +47,38 @@ place-same archive p a q b e f = rw (e, f) (same-refl (keyOf archive q b))
 -- ---- a search
 
 -- a search of no slots finds none
-pub seek-none : (archive : List ℕ) (stretch : ℕ) (table key : List ℕ) (s : ℕ) → seek archive stretch table key 0 s ≡ Full
+pub seek-none : (archive : List ℕ) (stretch : ℕ) (slots key : List ℕ) (s : ℕ) → seek archive stretch slots key 0 s ≡ Full
 unfolding seek probe
-seek-none archive stretch table key s = refl
+seek-none archive stretch slots key s = refl
 
 -- one turn of a search: the slot is free, or has the key, or the search goes on behind it
-seek-turn : (archive : List ℕ) (stretch : ℕ) (table key : List ℕ) (left s : ℕ) → 0 < left → seek archive stretch table key left s
-    ≡ pick (isFree table s) (Free s)
-    (pick (sameBytes (keyAt archive stretch table s) key) (Here s) (seek archive stretch table key (left - 1) (nextOf (stretch - 18) s)))
+seek-turn : (archive : List ℕ) (stretch : ℕ) (slots key : List ℕ) (left s : ℕ) → 0 < left → seek archive stretch slots key left s
+    ≡ pick (isFree slots s) (Free s)
+    (pick (sameBytes (keyAt archive stretch slots s) key) (Here s) (seek archive stretch slots key (left - 1) (nextOf (stretch - 18) s)))
 unfolding seek probe
-seek-turn archive stretch table key zero s more = absurd (omega arith)
-seek-turn archive stretch table key (suc n) s more = let e : suc n - 1 ≡ n = omega arith in rw e
+seek-turn archive stretch slots key zero s more = absurd (omega arith)
+seek-turn archive stretch slots key (suc n) s more = let e : suc n - 1 ≡ n = omega arith in rw e
 
-module _ (archive : List ℕ) (stretch : ℕ) (table key : List ℕ) (left s : ℕ) (more : 0 < left) where
+module _ (archive : List ℕ) (stretch : ℕ) (slots key : List ℕ) (left s : ℕ) (more : 0 < left) where
   -- a free slot ends it
-  pub seek-free : placeAt table s ≡ 0 → seek archive stretch table key left s ≡ Free s
-  seek-free e = seek-turn archive stretch table key left s more ∙ rw (eq-eqb (placeAt table s) 0 e)
+  pub seek-free : placeAt slots s ≡ 0 → seek archive stretch slots key left s ≡ Free s
+  seek-free e = seek-turn archive stretch slots key left s more ∙ rw (eq-eqb (placeAt slots s) 0 e)
 
   -- the key's slot ends it
-  pub seek-here : (placeAt table s ≡ 0 → ⊥) → sameBytes (keyAt archive stretch table s) key ≡ true → seek archive stretch table key left s ≡ Here s
-  seek-here taken e = seek-turn archive stretch table key left s more ∙ rw (ne-eqb (placeAt table s) 0 taken, e)
+  pub seek-here : (placeAt slots s ≡ 0 → ⊥) → sameBytes (keyAt archive stretch slots s) key ≡ true → seek archive stretch slots key left s ≡ Here s
+  seek-here taken e = seek-turn archive stretch slots key left s more ∙ rw (ne-eqb (placeAt slots s) 0 taken, e)
 
   -- a slot of another key does not
-  pub seek-on : (placeAt table s ≡ 0 → ⊥) → sameBytes (keyAt archive stretch table s) key ≡ false → (next : ℕ) → next ≡ nextOf (stretch - 18) s
-      → seek archive stretch table key left s ≡ seek archive stretch table key (left - 1) next
-  seek-on taken e next q = seek-turn archive stretch table key left s more ∙ rw (ne-eqb (placeAt table s) 0 taken, e, q)
+  pub seek-on : (placeAt slots s ≡ 0 → ⊥) → sameBytes (keyAt archive stretch slots s) key ≡ false → (next : ℕ) → next ≡ nextOf (stretch - 18) s
+      → seek archive stretch slots key left s ≡ seek archive stretch slots key (left - 1) next
+  seek-on taken e next q = seek-turn archive stretch slots key left s more ∙ rw (ne-eqb (placeAt slots s) 0 taken, e, q)
 
-module _ {stretch : ℕ} {table : List ℕ} {slot : Slot} {s : ℕ} (archive key : List ℕ) (wide : Wide stretch table)
-    (found : slot ≡ findOf archive stretch table key) where
+module _ {stretch : ℕ} {slots : List ℕ} {slot : Slot} {s : ℕ} (archive key : List ℕ) (wide : Wide stretch slots)
+    (found : slot ≡ findOf archive stretch slots key) where
   -- the slot where a key was found is one of the slots
   pub here-below : slot ≡ Here s → s < stretch - 18
-  here-below e = found-low archive stretch table key (wide .some) (Here s) (sym found ∙ e)
+  here-below e = found-low archive stretch slots key (wide .some) (Here s) (sym found ∙ e)
 
   -- and so is the free slot where it would go
   pub free-below : slot ≡ Free s → s < stretch - 18
-  free-below e = found-low archive stretch table key (wide .some) (Free s) (sym found ∙ e)
+  free-below e = found-low archive stretch slots key (wide .some) (Free s) (sym found ∙ e)

@@ -124,76 +124,76 @@ Low stretch (Here s) = s < stretch - 18
 Low stretch (Free s) = s < stretch - 18
 Low stretch Full = Unit {0}
 
-module _ (archive : List ℕ) (stretch : ℕ) (table key : List ℕ) (some : 18 < stretch) where
+module _ (archive : List ℕ) (stretch : ℕ) (slots key : List ℕ) (some : 18 < stretch) where
   -- what the search for a key finds is so
-  find-right : (slot : Slot) → findOf archive stretch table key ≡ slot
-      → Right (isFree table) (λ s. sameBytes (keyAt archive stretch table s) key) (stretch - 18) slot
+  find-right : (slot : Slot) → findOf archive stretch slots key ≡ slot
+      → Right (isFree slots) (λ s. sameBytes (keyAt archive stretch slots s) key) (stretch - 18) slot
   unfolding findOf seek
   find-right slot e =
-      subst (Right (isFree table) (λ s. sameBytes (keyAt archive stretch table s) key) (stretch - 18)) e
-      (probe-right (isFree table) (λ s. sameBytes (keyAt archive stretch table s) key) (stretch - 18) (stretch - 18)
+      subst (Right (isFree slots) (λ s. sameBytes (keyAt archive stretch slots s) key) (stretch - 18)) e
+      (probe-right (isFree slots) (λ s. sameBytes (keyAt archive stretch slots s) key) (stretch - 18) (stretch - 18)
       (startOf (stretch - 18) key) (start-low (stretch - 18) key (omega arith)))
 
   -- a slot that is found stands before the last 18 words of a stretch
-  pub found-low : (slot : Slot) → findOf archive stretch table key ≡ slot → Low stretch slot
+  pub found-low : (slot : Slot) → findOf archive stretch slots key ≡ slot → Low stretch slot
   found-low (Here s) e = find-right (Here s) e .0
   found-low (Free s) e = find-right (Free s) e .0
   found-low Full e = tt
 
   -- the slot found for a key is taken, and holds the key
-  pub here-key : (s : ℕ) → findOf archive stretch table key ≡ Here s → (isFree table s ≡ false) × (keyAt archive stretch table s ≡ key)
-  here-key s e = let r = find-right (Here s) e in (r .1, same-true (keyAt archive stretch table s) key (r .2))
+  pub here-key : (s : ℕ) → findOf archive stretch slots key ≡ Here s → (isFree slots s ≡ false) × (keyAt archive stretch slots s ≡ key)
+  here-key s e = let r = find-right (Here s) e in (r .1, same-true (keyAt archive stretch slots s) key (r .2))
 
   -- the free slot found for a key is free
-  pub free-slot : (s : ℕ) → findOf archive stretch table key ≡ Free s → isFree table s ≡ true
+  pub free-slot : (s : ℕ) → findOf archive stretch slots key ≡ Free s → isFree slots s ≡ true
   free-slot s e = find-right (Free s) e .1
 
   -- where there is no slot for a key, none is free
-  pub full-slots : findOf archive stretch table key ≡ Full → (s : ℕ) → s < stretch - 18 → isFree table s ≡ false
+  pub full-slots : findOf archive stretch slots key ≡ Full → (s : ℕ) → s < stretch - 18 → isFree slots s ≡ false
   unfolding findOf seek
   full-slots e s l =
-      all-taken (isFree table) (λ x. sameBytes (keyAt archive stretch table x) key) (stretch - 18) (startOf (stretch - 18) key)
+      all-taken (isFree slots) (λ x. sameBytes (keyAt archive stretch slots x) key) (stretch - 18) (startOf (stretch - 18) key)
       (start-low (stretch - 18) key (omega arith)) e s l
 
 -- a table of which each slot that was taken holds what it held
-module _ (archive : List ℕ) (stretch : ℕ) (table table′ : List ℕ) (some : 18 < stretch)
-    (stay : (s : ℕ) → s < stretch - 18 → isFree table s ≡ false
-    → (isFree table′ s ≡ false) × (keyAt archive stretch table′ s ≡ keyAt archive stretch table s)) where
+module _ (archive : List ℕ) (stretch : ℕ) (slots table′ : List ℕ) (some : 18 < stretch)
+    (stay : (s : ℕ) → s < stretch - 18 → isFree slots s ≡ false
+    → (isFree table′ s ≡ false) × (keyAt archive stretch table′ s ≡ keyAt archive stretch slots s)) where
   -- a slot that was taken is still taken, and by the same key
-  stay-same : (key : List ℕ) (s : ℕ) → s < stretch - 18 → isFree table s ≡ false
-      → (isFree table′ s ≡ false) × (sameBytes (keyAt archive stretch table′ s) key ≡ sameBytes (keyAt archive stretch table s) key)
+  stay-same : (key : List ℕ) (s : ℕ) → s < stretch - 18 → isFree slots s ≡ false
+      → (isFree table′ s ≡ false) × (sameBytes (keyAt archive stretch table′ s) key ≡ sameBytes (keyAt archive stretch slots s) key)
   stay-same key s l f = (stay s l f .0, ap (λ (k : List ℕ). sameBytes k key) (stay s l f .1))
 
   -- a key that was found is found at its slot
-  pub find-still : (key : List ℕ) (s : ℕ) → findOf archive stretch table key ≡ Here s → findOf archive stretch table′ key ≡ Here s
+  pub find-still : (key : List ℕ) (s : ℕ) → findOf archive stretch slots key ≡ Here s → findOf archive stretch table′ key ≡ Here s
   unfolding findOf seek
   find-still key s e =
-      probe-still (isFree table) (λ x. sameBytes (keyAt archive stretch table x) key)
+      probe-still (isFree slots) (λ x. sameBytes (keyAt archive stretch slots x) key)
       (isFree table′) (λ x. sameBytes (keyAt archive stretch table′ x) key)
       (stretch - 18) (stay-same key) (stretch - 18) (startOf (stretch - 18) key) s (start-low (stretch - 18) key (omega arith)) e
 
   -- a key that was not found is found at the free slot that it was given
   pub find-taken : (key : List ℕ) (s : ℕ) → isFree table′ s ≡ false → keyAt archive stretch table′ s ≡ key
-      → findOf archive stretch table key ≡ Free s → findOf archive stretch table′ key ≡ Here s
+      → findOf archive stretch slots key ≡ Free s → findOf archive stretch table′ key ≡ Here s
   unfolding findOf seek
   find-taken key s f k e =
-      probe-taken (isFree table) (λ x. sameBytes (keyAt archive stretch table x) key)
+      probe-taken (isFree slots) (λ x. sameBytes (keyAt archive stretch slots x) key)
       (isFree table′) (λ x. sameBytes (keyAt archive stretch table′ x) key)
       (stretch - 18) (stay-same key) (stretch - 18) (startOf (stretch - 18) key) s (start-low (stretch - 18) key (omega arith))
       f (ap (λ (x : List ℕ). sameBytes x key) k ∙ same-refl key) e
 
 -- a slot with the same place and label holds the same key
-pub key-alike : (archive : List ℕ) (stretch : ℕ) (table table′ : List ℕ) (s : ℕ) → placeAt table′ s ≡ placeAt table s
-    → labelAt stretch table′ s ≡ labelAt stretch table s → keyAt archive stretch table′ s ≡ keyAt archive stretch table s
-key-alike archive stretch table table′ s p l = rw (p, l)
+pub key-alike : (archive : List ℕ) (stretch : ℕ) (slots table′ : List ℕ) (s : ℕ) → placeAt table′ s ≡ placeAt slots s
+    → labelAt stretch table′ s ≡ labelAt stretch slots s → keyAt archive stretch table′ s ≡ keyAt archive stretch slots s
+key-alike archive stretch slots table′ s p l = rw (p, l)
 
 -- a search reads only the places and the labels
-pub find-alike : (archive : List ℕ) (stretch : ℕ) (table table′ : List ℕ) → 18 < stretch
-    → ((s : ℕ) → s < stretch - 18 → (placeAt table′ s ≡ placeAt table s) × (labelAt stretch table′ s ≡ labelAt stretch table s))
-    → (key : List ℕ) → findOf archive stretch table′ key ≡ findOf archive stretch table key
+pub find-alike : (archive : List ℕ) (stretch : ℕ) (slots table′ : List ℕ) → 18 < stretch
+    → ((s : ℕ) → s < stretch - 18 → (placeAt table′ s ≡ placeAt slots s) × (labelAt stretch table′ s ≡ labelAt stretch slots s))
+    → (key : List ℕ) → findOf archive stretch table′ key ≡ findOf archive stretch slots key
 unfolding findOf seek
-find-alike archive stretch table table′ some alike key =
-    probe-alike (isFree table) (λ x. sameBytes (keyAt archive stretch table x) key)
+find-alike archive stretch slots table′ some alike key =
+    probe-alike (isFree slots) (λ x. sameBytes (keyAt archive stretch slots x) key)
     (isFree table′) (λ x. sameBytes (keyAt archive stretch table′ x) key) (stretch - 18)
-    (λ s l. (rw (alike s l .0), ap (λ (k : List ℕ). sameBytes k key) (key-alike archive stretch table table′ s (alike s l .0) (alike s l .1))))
+    (λ s l. (rw (alike s l .0), ap (λ (k : List ℕ). sameBytes k key) (key-alike archive stretch slots table′ s (alike s l .0) (alike s l .1))))
     (stretch - 18) (startOf (stretch - 18) key) (start-low (stretch - 18) key (omega arith))

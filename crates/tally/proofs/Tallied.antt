@@ -24,24 +24,24 @@ use Rattle.tally.proofs.Frames.{raised-more, filled-other, filled-place
 use Rattle.tally.proofs.Sums.{sum-alike, sum-ones, at-bounds, held, held-none, held-once, held-keys, count-low, distinct-low, distinct-old, distinct-own, distinct-other, distinct-alike, distinct-sum}
 
 -- a table of zeros tells of no uses
-pub empty-tally : (archive : List ℕ) (stretch : ℕ) (table : List ℕ) → Wide stretch table → ((i : ℕ) → i < 3 * stretch → getD table i 0 ≡ 0)
-    → Tallies archive stretch table []
-empty-tally archive stretch table wide zeros = record {
+pub empty-tally : (archive : List ℕ) (stretch : ℕ) (slots : List ℕ) → Wide stretch slots → ((i : ℕ) → i < 3 * stretch → getD slots i 0 ≡ 0)
+    → Tallies archive stretch slots []
+empty-tally archive stretch slots wide zeros = record {
   wide = wide;
-  counted = λ s l f. absurd (eqb-false (placeAt table s) 0 f (zeros s (omega arith)));
-  used = λ s l f. absurd (eqb-false (placeAt table s) 0 f (zeros s (omega arith)));
-  own = λ s l f. absurd (eqb-false (placeAt table s) 0 f (zeros s (omega arith)));
+  counted = λ s l f. absurd (eqb-false (placeAt slots s) 0 f (zeros s (omega arith)));
+  used = λ s l f. absurd (eqb-false (placeAt slots s) 0 f (zeros s (omega arith)));
+  own = λ s l f. absurd (eqb-false (placeAt slots s) 0 f (zeros s (omega arith)));
   kept = λ key h. absurd (omega arith);
   spare = λ s g l. zeros s (omega arith);
   marks = λ mark l. zeros (counterAt stretch mark) (omega arith);
 }
 
 -- a table tells the same of uses in another order
-pub tally-alike : {archive : List ℕ} {stretch : ℕ} {table : List ℕ} (us vs : List (List ℕ)) → Tallies archive stretch table us
-    → ((key : List ℕ) → count sameBytes key us ≡ count sameBytes key vs) → Tallies archive stretch table vs
-tally-alike {archive} {stretch} {table} us vs T h = record {
+pub tally-alike : {archive : List ℕ} {stretch : ℕ} {slots : List ℕ} (us vs : List (List ℕ)) → Tallies archive stretch slots us
+    → ((key : List ℕ) → count sameBytes key us ≡ count sameBytes key vs) → Tallies archive stretch slots vs
+tally-alike {archive} {stretch} {slots} us vs T h = record {
   wide = T .wide;
-  counted = λ s l f. T .counted s l f ∙ h (keyAt archive stretch table s);
+  counted = λ s l f. T .counted s l f ∙ h (keyAt archive stretch slots s);
   used = T .used;
   own = T .own;
   kept = λ key p. T .kept key (omega (arith, h key));
@@ -49,21 +49,21 @@ tally-alike {archive} {stretch} {table} us vs T h = record {
   marks = λ mark l. T .marks mark l ∙ distinct-alike mark us vs h;
 }
 
-module _ {archive : List ℕ} {stretch : ℕ} {table : List ℕ} {us : List (List ℕ)} (T : Tallies archive stretch table us) where
+module _ {archive : List ℕ} {stretch : ℕ} {slots : List ℕ} {us : List (List ℕ)} (T : Tallies archive stretch slots us) where
   -- ---- what a search finds
 
   -- a key that is found was used as often as its slot says
-  pub here-used : (key : List ℕ) (s : ℕ) → findOf archive stretch table key ≡ Here s
-      → (usesAt stretch table s ≡ count sameBytes key us) × (0 < count sameBytes key us)
+  pub here-used : (key : List ℕ) (s : ℕ) → findOf archive stretch slots key ≡ Here s
+      → (usesAt stretch slots s ≡ count sameBytes key us) × (0 < count sameBytes key us)
   here-used key s e =
-      let l = found-low archive stretch table key (T .wide .some) (Here s) e in
-      let h = here-key archive stretch table key (T .wide .some) s e in
-      let same : usesAt stretch table s ≡ count sameBytes key us =
+      let l = found-low archive stretch slots key (T .wide .some) (Here s) e in
+      let h = here-key archive stretch slots key (T .wide .some) s e in
+      let same : usesAt stretch slots s ≡ count sameBytes key us =
       T .counted s l (h .0) ∙ ap (λ (k : List ℕ). count sameBytes k us) (h .1) in
       (same, omega (arith, T .used s l (h .0)))
 
   -- a key that is not found was not used
-  not-here : (key : List ℕ) → ((s : ℕ) → findOf archive stretch table key ≡ Here s → ⊥) → count sameBytes key us ≡ 0
+  not-here : (key : List ℕ) → ((s : ℕ) → findOf archive stretch slots key ≡ Here s → ⊥) → count sameBytes key us ≡ 0
   not-here key h =
       cases (eqb (count sameBytes key us) 0)
       (λ e. eqb-true (count sameBytes key us) 0 e)
@@ -72,77 +72,77 @@ module _ {archive : List ℕ} {stretch : ℕ} {table : List ℕ} {us : List (Lis
       absurd (h (T .kept key p .0) (T .kept key p .1)))
 
   -- a key for which a free slot is found was not used
-  free-new : (key : List ℕ) (s : ℕ) → findOf archive stretch table key ≡ Free s → count sameBytes key us ≡ 0
+  free-new : (key : List ℕ) (s : ℕ) → findOf archive stretch slots key ≡ Free s → count sameBytes key us ≡ 0
   free-new key s e = not-here key (λ x p. let z : _≡_ {A = ℕ} 0 1 = cc in omega arith)
 
   -- nor was one for which no slot is left
-  full-new : (key : List ℕ) → findOf archive stretch table key ≡ Full → count sameBytes key us ≡ 0
+  full-new : (key : List ℕ) → findOf archive stretch slots key ≡ Full → count sameBytes key us ≡ 0
   full-new key e = not-here key (λ x p. let z : _≡_ {A = ℕ} 0 1 = cc in omega arith)
 
   -- a slot that holds a key is the one found for it
-  own-slot : (key : List ℕ) (s : ℕ) → s < stretch - 18 → isFree table s ≡ false → sameBytes (keyAt archive stretch table s) key ≡ true
-      → findOf archive stretch table key ≡ Here s
-  own-slot key s l f q = rw (← same-true (keyAt archive stretch table s) key q) (T .own s l f)
+  own-slot : (key : List ℕ) (s : ℕ) → s < stretch - 18 → isFree slots s ≡ false → sameBytes (keyAt archive stretch slots s) key ≡ true
+      → findOf archive stretch slots key ≡ Here s
+  own-slot key s l f q = rw (← same-true (keyAt archive stretch slots s) key q) (T .own s l f)
 
   -- ---- sums over the slots
 
   -- each key that was used is held once
   held-count : (key : List ℕ)
-      → count sameBytes key (held (isFree table) (keyAt archive stretch table) (stretch - 18)) ≡ min 1 (count sameBytes key us)
+      → count sameBytes key (held (isFree slots) (keyAt archive stretch slots) (stretch - 18)) ≡ min 1 (count sameBytes key us)
   held-count key =
       cases (eqb (count sameBytes key us) 0)
       (λ e. let z = eqb-true (count sameBytes key us) 0 e in
       omega (
         arith,
-        held-none (isFree table) (keyAt archive stretch table) key (stretch - 18)
-            (λ s l f. cases (sameBytes (keyAt archive stretch table s) key) (λ q. absurd (omega (arith, here-used key s (own-slot key s l f q)))) (λ q. q)),
+        held-none (isFree slots) (keyAt archive stretch slots) key (stretch - 18)
+            (λ s l f. cases (sameBytes (keyAt archive stretch slots s) key) (λ q. absurd (omega (arith, here-used key s (own-slot key s l f q)))) (λ q. q)),
       ))
       (λ e. let n = eqb-false (count sameBytes key us) 0 e in
       let p : 0 < count sameBytes key us = omega arith in
       let s = T .kept key p .0 in
       let found = T .kept key p .1 in
-      let h = here-key archive stretch table key (T .wide .some) s found in
+      let h = here-key archive stretch slots key (T .wide .some) s found in
       omega (
         arith,
-        held-once (isFree table) (keyAt archive stretch table) key s (stretch - 18) (found-low archive stretch table key (T .wide .some) (Here s) found)
+        held-once (isFree slots) (keyAt archive stretch slots) key s (stretch - 18) (found-low archive stretch slots key (T .wide .some) (Here s) found)
             (h .0) (ap (λ (k : List ℕ). sameBytes k key) (h .1) ∙ same-refl key)
-            (λ x l i f. cases (sameBytes (keyAt archive stretch table x) key)
+            (λ x l i f. cases (sameBytes (keyAt archive stretch slots x) key)
             (λ q. let same = own-slot key x l f q in let j : x ≡ s = cc in absurd (i j)) (λ q. q)),
       ))
 
   -- a sum over the slots is a sum over the distinct keys
-  slots-sum : (f : List ℕ → ℕ) → sumTo (stretch - 18) (λ s. pick (isFree table s) 0 (f (keyAt archive stretch table s))) ≡ sumBy f (keys sameBytes [] us)
-  slots-sum f = held-keys (isFree table) (keyAt archive stretch table) (stretch - 18) us held-count f
+  slots-sum : (f : List ℕ → ℕ) → sumTo (stretch - 18) (λ s. pick (isFree slots s) 0 (f (keyAt archive stretch slots s))) ≡ sumBy f (keys sameBytes [] us)
+  slots-sum f = held-keys (isFree slots) (keyAt archive stretch slots) (stretch - 18) us held-count f
 
   -- the words that the table measures are those of the distinct keys, each registered where that is shorter
-  pub measure-best : measureOf stretch table
+  pub measure-best : measureOf stretch slots
       ≡ sumBy (λ key. pick (registers (keyWords key) (count sameBytes key us)) (1 + keyWords key) (count sameBytes key us * keyWords key)) (keys sameBytes [] us)
   unfolding measureOf costOf
   measure-best =
       sum-alike (stretch - 18) _
-      (λ s. pick (isFree table s) 0
-      (pick (registers (keyWords (keyAt archive stretch table s)) (count sameBytes (keyAt archive stretch table s) us))
-      (1 + keyWords (keyAt archive stretch table s)) (count sameBytes (keyAt archive stretch table s) us * keyWords (keyAt archive stretch table s))))
-      (λ s l. cases (isFree table s) (λ e. rw e) (λ e. rw (e, T .counted s l e)))
+      (λ s. pick (isFree slots s) 0
+      (pick (registers (keyWords (keyAt archive stretch slots s)) (count sameBytes (keyAt archive stretch slots s) us))
+      (1 + keyWords (keyAt archive stretch slots s)) (count sameBytes (keyAt archive stretch slots s) us * keyWords (keyAt archive stretch slots s))))
+      (λ s l. cases (isFree slots s) (λ e. rw e) (λ e. rw (e, T .counted s l e)))
       ∙ slots-sum (λ key. pick (registers (keyWords key) (count sameBytes key us)) (1 + keyWords key) (count sameBytes key us * keyWords key))
 
   -- where no slot is left, there are as many distinct keys as slots
-  full-keys : (key : List ℕ) → findOf archive stretch table key ≡ Full → sumBy (λ k. 1) (keys sameBytes [] us) ≡ stretch - 18
+  full-keys : (key : List ℕ) → findOf archive stretch slots key ≡ Full → sumBy (λ k. 1) (keys sameBytes [] us) ≡ stretch - 18
   full-keys key e =
       sym (slots-sum (λ k. 1))
-      ∙ sum-alike (stretch - 18) _ (λ s. 1) (λ s l. rw (full-slots archive stretch table key (T .wide .some) e s l)) ∙ sum-ones (stretch - 18)
+      ∙ sum-alike (stretch - 18) _ (λ s. 1) (λ s l. rw (full-slots archive stretch slots key (T .wide .some) e s l)) ∙ sum-ones (stretch - 18)
 
   -- ---- one use more
 
   -- a table in which each slot but one says what it said, and that one says one use more of its key
   module _ (table′ : List ℕ) (key : List ℕ) (s : ℕ)
-      (stay : (x : ℕ) → x < stretch - 18 → isFree table x ≡ false
-      → (isFree table′ x ≡ false) × (keyAt archive stretch table′ x ≡ keyAt archive stretch table x))
-      (other : (x : ℕ) → x < stretch - 18 → (x ≡ s → ⊥) → (isFree table′ x ≡ isFree table x) × (usesAt stretch table′ x ≡ usesAt stretch table x))
+      (stay : (x : ℕ) → x < stretch - 18 → isFree slots x ≡ false
+      → (isFree table′ x ≡ false) × (keyAt archive stretch table′ x ≡ keyAt archive stretch slots x))
+      (other : (x : ℕ) → x < stretch - 18 → (x ≡ s → ⊥) → (isFree table′ x ≡ isFree slots x) × (usesAt stretch table′ x ≡ usesAt stretch slots x))
       (holds : keyAt archive stretch table′ s ≡ key) (more : usesAt stretch table′ s ≡ 1 + count sameBytes key us)
       (found : findOf archive stretch table′ key ≡ Here s) where
     -- any other slot that is taken was taken
-    was-taken : (x : ℕ) → x < stretch - 18 → (x ≡ s → ⊥) → isFree table′ x ≡ false → isFree table x ≡ false
+    was-taken : (x : ℕ) → x < stretch - 18 → (x ≡ s → ⊥) → isFree table′ x ≡ false → isFree slots x ≡ false
     was-taken x l n f = sym (other x l n .0) ∙ f
 
     -- each slot that is taken is found by its key
@@ -153,7 +153,7 @@ module _ {archive : List ℕ} {stretch : ℕ} {table : List ℕ} {us : List (Lis
         ap (findOf archive stretch table′) (ap (keyAt archive stretch table′) i ∙ holds) ∙ found ∙ ap Here (sym i))
         (λ e. let g = was-taken x l (eqb-false x s e) f in
         ap (findOf archive stretch table′) (stay x l g .1)
-        ∙ find-still archive stretch table table′ (T .wide .some) stay (keyAt archive stretch table x) x (T .own x l g))
+        ∙ find-still archive stretch slots table′ (T .wide .some) stay (keyAt archive stretch slots x) x (T .own x l g))
 
     -- each slot that is taken has the number of uses of its key
     counted-more : (x : ℕ) → x < stretch - 18 → isFree table′ x ≡ false
@@ -186,7 +186,7 @@ module _ {archive : List ℕ} {stretch : ℕ} {table : List ℕ} {us : List (Lis
         (λ q. (s, rw (same-true key k q) at found))
         (λ q. let g = rw q at h in
         let r = T .kept k (omega arith) in
-        (r .0, find-still archive stretch table table′ (T .wide .some) stay k (r .0) (r .1)))
+        (r .0, find-still archive stretch slots table′ (T .wide .some) stay k (r .0) (r .1)))
 
     -- so the table tells of one use more
     tally-more : Wide stretch table′ → ((x : ℕ) → stretch - 18 ≤ x → x < stretch → placeAt table′ x ≡ 0)
@@ -202,98 +202,98 @@ module _ {archive : List ℕ} {stretch : ℕ} {table : List ℕ} {us : List (Lis
     }
 
   -- a table of the same length is long enough
-  wide-more : (table′ : List ℕ) → length table′ ≡ length table → Wide stretch table′
+  wide-more : (table′ : List ℕ) → length table′ ≡ length slots → Wide stretch table′
   wide-more table′ e = record { some = T .wide .some; low = T .wide .low; long = rw e (T .wide .long) }
 
   -- one use more of a key that has a slot
-  raised-tally : (key : List ℕ) (s : ℕ) → length us < 2 ^ 32 - 1 → findOf archive stretch table key ≡ Here s
-      → Tallies archive stretch (usedAgain stretch table s) (key ∷ us)
+  raised-tally : (key : List ℕ) (s : ℕ) → length us < 2 ^ 32 - 1 → findOf archive stretch slots key ≡ Here s
+      → Tallies archive stretch (usedAgain stretch slots s) (key ∷ us)
   raised-tally key s short e =
       tally-more table′ key s stay other
       (stay s l (h .0) .1 ∙ h .1)
-      (getD-set-same table (2 * stretch + s) (raised (usesAt stretch table s)) 0 (omega (arith, l))
-      ∙ raised-more (usesAt stretch table s) (omega (arith, u .0, count-low key us)) ∙ omega (arith, u .0))
-      (find-still archive stretch table table′ (T .wide .some) stay key s e)
-      (wide-more table′ (length-set table (2 * stretch + s) (raised (usesAt stretch table s))))
+      (getD-set-same slots (2 * stretch + s) (raised (usesAt stretch slots s)) 0 (omega (arith, l))
+      ∙ raised-more (usesAt stretch slots s) (omega (arith, u .0, count-low key us)) ∙ omega (arith, u .0))
+      (find-still archive stretch slots table′ (T .wide .some) stay key s e)
+      (wide-more table′ (length-set slots (2 * stretch + s) (raised (usesAt stretch slots s))))
       (λ x g k. place-same x k ∙ T .spare x g k)
       (λ m g. left (counterAt stretch m) (λ q. omega (arith, l)) ∙ T .marks m g ∙ sym (distinct-old m key us (u .1)))
     where
       table′ : List ℕ
-      table′ = usedAgain stretch table s
+      table′ = usedAgain stretch slots s
 
       l : s < stretch - 18
-      l = found-low archive stretch table key (T .wide .some) (Here s) e
+      l = found-low archive stretch slots key (T .wide .some) (Here s) e
 
-      h : (isFree table s ≡ false) × (keyAt archive stretch table s ≡ key)
-      h = here-key archive stretch table key (T .wide .some) s e
+      h : (isFree slots s ≡ false) × (keyAt archive stretch slots s ≡ key)
+      h = here-key archive stretch slots key (T .wide .some) s e
 
-      u : (usesAt stretch table s ≡ count sameBytes key us) × (0 < count sameBytes key us)
+      u : (usesAt stretch slots s ≡ count sameBytes key us) × (0 < count sameBytes key us)
       u = here-used key s e
 
-      left : (i : ℕ) → (i ≡ 2 * stretch + s → ⊥) → getD table′ i 0 ≡ getD table i 0
-      left i n = getD-set-other table (2 * stretch + s) i (raised (usesAt stretch table s)) 0 n
+      left : (i : ℕ) → (i ≡ 2 * stretch + s → ⊥) → getD table′ i 0 ≡ getD slots i 0
+      left i n = getD-set-other slots (2 * stretch + s) i (raised (usesAt stretch slots s)) 0 n
 
-      place-same : (x : ℕ) → x < stretch → placeAt table′ x ≡ placeAt table x
+      place-same : (x : ℕ) → x < stretch → placeAt table′ x ≡ placeAt slots x
       place-same x g = left x (λ q. omega arith)
 
-      stay : (x : ℕ) → x < stretch - 18 → isFree table x ≡ false
-          → (isFree table′ x ≡ false) × (keyAt archive stretch table′ x ≡ keyAt archive stretch table x)
+      stay : (x : ℕ) → x < stretch - 18 → isFree slots x ≡ false
+          → (isFree table′ x ≡ false) × (keyAt archive stretch table′ x ≡ keyAt archive stretch slots x)
       stay x g f = (
         ap (λ (p : ℕ). eqb p 0) (place-same x (omega arith)) ∙ f,
-        key-alike archive stretch table table′ x (place-same x (omega arith)) (left (stretch + x) (λ q. omega arith)),
+        key-alike archive stretch slots table′ x (place-same x (omega arith)) (left (stretch + x) (λ q. omega arith)),
       )
 
-      other : (x : ℕ) → x < stretch - 18 → (x ≡ s → ⊥) → (isFree table′ x ≡ isFree table x) × (usesAt stretch table′ x ≡ usesAt stretch table x)
+      other : (x : ℕ) → x < stretch - 18 → (x ≡ s → ⊥) → (isFree table′ x ≡ isFree slots x) × (usesAt stretch table′ x ≡ usesAt stretch slots x)
       other x g n = (ap (λ (p : ℕ). eqb p 0) (place-same x (omega arith)), left (2 * stretch + x) (λ q. n (omega arith)))
 
   -- the first use of a key, in a free slot
   filled-tally : (place label s : ℕ) → 0 < place → label / 65536 < 18 → length us < 2 ^ 32 - 1
-      → findOf archive stretch table (keyOf archive place label) ≡ Free s
-      → Tallies archive stretch (filled stretch table place label s) (keyOf archive place label ∷ us)
+      → findOf archive stretch slots (keyOf archive place label) ≡ Free s
+      → Tallies archive stretch (filled stretch slots place label s) (keyOf archive place label ∷ us)
   filled-tally place label s some mark short e =
       tally-more table′ (keyOf archive place label) s stay other own-key
-      (filled-uses stretch table place label s l mark (T .wide) ∙ omega (arith, new))
-      (find-taken archive stretch table table′ (T .wide .some) stay (keyOf archive place label) s taken own-key e)
+      (filled-uses stretch slots place label s l mark (T .wide) ∙ omega (arith, new))
+      (find-taken archive stretch slots table′ (T .wide .some) stay (keyOf archive place label) s taken own-key e)
       (wide-more table′ long)
       (λ x g k. left x (λ q. omega (arith, l)) (λ q. omega arith) (λ q. omega arith) (λ q. omega arith) ∙ T .spare x g k)
       marks
     where
       table′ : List ℕ
-      table′ = filled stretch table place label s
+      table′ = filled stretch slots place label s
 
       l : s < stretch - 18
-      l = found-low archive stretch table (keyOf archive place label) (T .wide .some) (Free s) e
+      l = found-low archive stretch slots (keyOf archive place label) (T .wide .some) (Free s) e
 
       new : count sameBytes (keyOf archive place label) us ≡ 0
       new = free-new (keyOf archive place label) s e
 
-      long : length table′ ≡ length table
+      long : length table′ ≡ length slots
       long = simp length-set
 
       left : (i : ℕ) → (i ≡ s → ⊥) → (i ≡ stretch + s → ⊥) → (i ≡ 2 * stretch + s → ⊥) → (i ≡ counterAt stretch (label / 65536) → ⊥)
-          → getD table′ i 0 ≡ getD table i 0
-      left = filled-other stretch table place label s l mark
+          → getD table′ i 0 ≡ getD slots i 0
+      left = filled-other stretch slots place label s l mark
 
       taken : isFree table′ s ≡ false
-      taken = rw (filled-place stretch table place label s l mark (T .wide)) (ne-eqb place 0 (λ z. omega arith))
+      taken = rw (filled-place stretch slots place label s l mark (T .wide)) (ne-eqb place 0 (λ z. omega arith))
 
       own-key : keyAt archive stretch table′ s ≡ keyOf archive place label
-      own-key = rw (filled-place stretch table place label s l mark (T .wide), filled-label stretch table place label s l mark (T .wide))
+      own-key = rw (filled-place stretch slots place label s l mark (T .wide), filled-label stretch slots place label s l mark (T .wide))
 
-      place-same : (x : ℕ) → x < stretch - 18 → (x ≡ s → ⊥) → placeAt table′ x ≡ placeAt table x
+      place-same : (x : ℕ) → x < stretch - 18 → (x ≡ s → ⊥) → placeAt table′ x ≡ placeAt slots x
       place-same x g n = left x n (λ q. omega arith) (λ q. omega arith) (λ q. omega arith)
 
-      stay : (x : ℕ) → x < stretch - 18 → isFree table x ≡ false
-          → (isFree table′ x ≡ false) × (keyAt archive stretch table′ x ≡ keyAt archive stretch table x)
+      stay : (x : ℕ) → x < stretch - 18 → isFree slots x ≡ false
+          → (isFree table′ x ≡ false) × (keyAt archive stretch table′ x ≡ keyAt archive stretch slots x)
       stay x g f =
           let n : x ≡ s → ⊥ =
-          λ i. true≢false (sym (free-slot archive stretch table (keyOf archive place label) (T .wide .some) s e) ∙ ap (isFree table) (sym i) ∙ f) in (
+          λ i. true≢false (sym (free-slot archive stretch slots (keyOf archive place label) (T .wide .some) s e) ∙ ap (isFree slots) (sym i) ∙ f) in (
             ap (λ (p : ℕ). eqb p 0) (place-same x g n) ∙ f,
-            key-alike archive stretch table table′ x (place-same x g n)
+            key-alike archive stretch slots table′ x (place-same x g n)
                 (left (stretch + x) (λ q. omega (arith, l)) (λ q. n (omega arith)) (λ q. omega arith) (λ q. omega arith)),
           )
 
-      other : (x : ℕ) → x < stretch - 18 → (x ≡ s → ⊥) → (isFree table′ x ≡ isFree table x) × (usesAt stretch table′ x ≡ usesAt stretch table x)
+      other : (x : ℕ) → x < stretch - 18 → (x ≡ s → ⊥) → (isFree table′ x ≡ isFree slots x) × (usesAt stretch table′ x ≡ usesAt stretch slots x)
       other x g n = (
         ap (λ (p : ℕ). eqb p 0) (place-same x g n),
         left (2 * stretch + x) (λ q. omega (arith, l)) (λ q. omega (arith, l)) (λ q. n (omega arith)) (λ q. omega arith),
@@ -303,12 +303,12 @@ module _ {archive : List ℕ} {stretch : ℕ} {table : List ℕ} {us : List (Lis
       marks m g =
           cases (eqb (label / 65536) m)
           (λ q. let i = eqb-true (label / 65536) m q in
-          let same = ap (λ (x : ℕ). getD table (counterAt stretch x) 0) i in
+          let same = ap (λ (x : ℕ). getD slots (counterAt stretch x) 0) i in
           let before = T .marks m g in
           let more = distinct-own m (keyOf archive place label) us new i in
           ap (λ (x : ℕ). getD table′ (counterAt stretch x) 0) (sym i)
-          ∙ filled-counter stretch table place label s l mark (T .wide)
-          ∙ raised-more (countAt stretch table label) (omega (arith, distinct-low m us))
+          ∙ filled-counter stretch slots place label s l mark (T .wide)
+          ∙ raised-more (countAt stretch slots label) (omega (arith, distinct-low m us))
           ∙ omega arith)
           (λ q. let i = eqb-false (label / 65536) m q in
           left (counterAt stretch m) (λ z. omega (arith, l)) (λ z. omega (arith, l)) (λ z. omega (arith, l)) (λ z. i (omega arith))
@@ -316,13 +316,13 @@ module _ {archive : List ℕ} {stretch : ℕ} {table : List ℕ} {us : List (Lis
 
   -- a use that is counted keeps the tally
   pub add-tally : (place label most : ℕ) → 0 < place → label / 65536 < 18 → length us < 2 ^ 32 - 1
-      → isAdded stretch table label most (findOf archive stretch table (keyOf archive place label)) ≡ true
-      → Tallies archive stretch (added stretch table place label most (findOf archive stretch table (keyOf archive place label)))
+      → isAdded stretch slots label most (findOf archive stretch slots (keyOf archive place label)) ≡ true
+      → Tallies archive stretch (added stretch slots place label most (findOf archive stretch slots (keyOf archive place label)))
       (keyOf archive place label ∷ us)
-  add-tally place label most some mark short = go (findOf archive stretch table (keyOf archive place label)) refl
+  add-tally place label most some mark short = go (findOf archive stretch slots (keyOf archive place label)) refl
     where
-      go : (slot : Slot) → findOf archive stretch table (keyOf archive place label) ≡ slot → isAdded stretch table label most slot ≡ true
-          → Tallies archive stretch (added stretch table place label most slot) (keyOf archive place label ∷ us)
+      go : (slot : Slot) → findOf archive stretch slots (keyOf archive place label) ≡ slot → isAdded stretch slots label most slot ≡ true
+          → Tallies archive stretch (added stretch slots place label most slot) (keyOf archive place label ∷ us)
       go (Here s) e a = raised-tally (keyOf archive place label) s short e
       go (Free s) e a = rw a (filled-tally place label s some mark short e)
       go Full e a = absurd (true≢false (sym a))
@@ -331,12 +331,12 @@ module _ {archive : List ℕ} {stretch : ℕ} {table : List ℕ} {us : List (Lis
 
   -- a use that is counted leaves no mark with more keys than it may have
   pub added-within : (most : ℕ → ℕ) (place label : ℕ) → ((mark : ℕ) → mark < 18 → distinct mark us ≤ most mark) → label / 65536 < 18
-      → isAdded stretch table label (most (label / 65536)) (findOf archive stretch table (keyOf archive place label)) ≡ true
+      → isAdded stretch slots label (most (label / 65536)) (findOf archive stretch slots (keyOf archive place label)) ≡ true
       → (mark : ℕ) → mark < 18 → distinct mark (keyOf archive place label ∷ us) ≤ most mark
-  added-within most place label within low = go (findOf archive stretch table (keyOf archive place label)) refl
+  added-within most place label within low = go (findOf archive stretch slots (keyOf archive place label)) refl
     where
-      go : (slot : Slot) → findOf archive stretch table (keyOf archive place label) ≡ slot
-          → isAdded stretch table label (most (label / 65536)) slot ≡ true
+      go : (slot : Slot) → findOf archive stretch slots (keyOf archive place label) ≡ slot
+          → isAdded stretch slots label (most (label / 65536)) slot ≡ true
           → (mark : ℕ) → mark < 18 → distinct mark (keyOf archive place label ∷ us) ≤ most mark
       go (Here s) e a mark l =
           rw (distinct-old mark (keyOf archive place label) us (here-used (keyOf archive place label) s e .1)) (within mark l)
@@ -344,7 +344,7 @@ module _ {archive : List ℕ} {stretch : ℕ} {table : List ℕ} {us : List (Lis
           let new = free-new (keyOf archive place label) s e in
           cases (eqb (label / 65536) mark)
           (λ q. let i = eqb-true (label / 65536) mark q in
-          let below = ltb-true (countAt stretch table label) (most (label / 65536)) a in
+          let below = ltb-true (countAt stretch slots label) (most (label / 65536)) a in
           let here = rw i at below in
           omega (arith, distinct-own mark (keyOf archive place label) us new i, T .marks mark l))
           (λ q. rw (distinct-other mark (keyOf archive place label) us new (eqb-false (label / 65536) mark q)) (within mark l))
@@ -353,18 +353,18 @@ module _ {archive : List ℕ} {stretch : ℕ} {table : List ℕ} {us : List (Lis
   -- a use is not counted only where its mark would then have more keys than it may have
   pub not-added : (most : ℕ → ℕ) (place label : ℕ) → ((mark : ℕ) → mark < 18 → distinct mark us ≤ most mark)
       → sumTo 18 most ≤ stretch - 18 → ((key : List ℕ) → 0 < count sameBytes key us → keyMark key < 18) → label / 65536 < 18
-      → isAdded stretch table label (most (label / 65536)) (findOf archive stretch table (keyOf archive place label)) ≡ false
+      → isAdded stretch slots label (most (label / 65536)) (findOf archive stretch slots (keyOf archive place label)) ≡ false
       → most (label / 65536) < distinct (label / 65536) (keyOf archive place label ∷ us)
-  not-added most place label within room marked low = go (findOf archive stretch table (keyOf archive place label)) refl
+  not-added most place label within room marked low = go (findOf archive stretch slots (keyOf archive place label)) refl
     where
-      go : (slot : Slot) → findOf archive stretch table (keyOf archive place label) ≡ slot
-          → isAdded stretch table label (most (label / 65536)) slot ≡ false
+      go : (slot : Slot) → findOf archive stretch slots (keyOf archive place label) ≡ slot
+          → isAdded stretch slots label (most (label / 65536)) slot ≡ false
           → most (label / 65536) < distinct (label / 65536) (keyOf archive place label ∷ us)
       go (Here s) e a = absurd (true≢false a)
       go (Free s) e a =
           omega (
             arith,
-            ltb-false (countAt stretch table label) (most (label / 65536)) a,
+            ltb-false (countAt stretch slots label) (most (label / 65536)) a,
             T .marks (label / 65536) low,
             distinct-own (label / 65536) (keyOf archive place label) us (free-new (keyOf archive place label) s e) refl,
           )

@@ -14,12 +14,12 @@ pub enum Slot {
     Full,
 }
 
-// The label of a key: the length of its bytes and, above 16 bits, its mark, which is of its context and its kind, 2 for a text and 3 for a thread.
-pub fn label_of(context: usize, kind: u64, long: usize) -> usize
-    requires { ⌜ (context ≤ 8) × (2 ≤ kind) × (kind ≤ 3) × (long < 65536) ⌝ }
-    ensures { λ r. ⌜ r ≡ labelOf context kind long ⌝ }
+// The label of a key: the length of its bytes and, above 16 bits, its mark, which is of its context and its table, 2 for a text and 3 for a thread.
+pub fn label_of(context: usize, table: u64, long: usize) -> usize
+    requires { ⌜ (context ≤ 8) × (2 ≤ table) × (table ≤ 3) × (long < 65536) ⌝ }
+    ensures { λ r. ⌜ r ≡ labelOf context table long ⌝ }
 {
-    (2 * context + (kind as usize - 2)) * 65536 + long
+    (2 * context + (table as usize - 2)) * 65536 + long
 }
 
 // The first slot of a key.
@@ -59,19 +59,19 @@ fn same_key(archive: &[u8], p: usize, a: usize, q: usize, b: usize) -> bool
 }
 
 // The slot of a key: its own, or the free one where it would go.
-pub fn find(archive: &[u8], table: &[u32], stretch: usize, place: usize, label: usize) -> Slot
-    requires { ⌜ Wide stretch (now table) × (label < 2 ^ 32) ⌝ }
-    ensures { λ r. ⌜ r ≡ findOf (now (archive .entry)) stretch (now (table .entry)) (keyOf (now (archive .entry)) place label) ⌝ }
+pub fn find(archive: &[u8], slots: &[u32], stretch: usize, place: usize, label: usize) -> Slot
+    requires { ⌜ Wide stretch (now slots) × (label < 2 ^ 32) ⌝ }
+    ensures { λ r. ⌜ r ≡ findOf (now (archive .entry)) stretch (now (slots .entry)) (keyOf (now (archive .entry)) place label) ⌝ }
 {
     let capacity = stretch - 18;
     let mut s = first_slot(archive, capacity, place, label);
     let mut left = capacity;
     while 0 < left {
-        let p = table[s] as usize;
+        let p = slots[s] as usize;
         if p == 0 {
             return Slot::Free(s);
         }
-        if same_key(archive, p, table[stretch + s] as usize, place, label) {
+        if same_key(archive, p, slots[stretch + s] as usize, place, label) {
             return Slot::Here(s);
         }
         s = next_slot(capacity, s);
@@ -91,51 +91,51 @@ pub fn raise(n: u32) -> u32
 }
 
 // One use more of the key of a slot.
-fn use_again(table: &mut [u32], stretch: usize, s: usize)
-    requires { ⌜ Wide stretch (now table) × (s < stretch - 18) ⌝ }
-    ensures { λ _. ⌜ now (table .exit) ≡ usedAgain stretch (now (table .entry)) s ⌝ }
+fn use_again(slots: &mut [u32], stretch: usize, s: usize)
+    requires { ⌜ Wide stretch (now slots) × (s < stretch - 18) ⌝ }
+    ensures { λ _. ⌜ now (slots .exit) ≡ usedAgain stretch (now (slots .entry)) s ⌝ }
 {
     let uses = 2 * stretch + s;
-    table[uses] = raise(table[uses]);
+    slots[uses] = raise(slots[uses]);
 }
 
 // A free slot, taken by a key with its first use; its mark has one key more.
-fn fill(table: &mut [u32], stretch: usize, s: usize, place: usize, label: usize)
-    requires { ⌜ Wide stretch (now table) × (s < stretch - 18) × (place < 2 ^ 32) × (label < 18 * 65536) ⌝ }
-    ensures { λ _. ⌜ now (table .exit) ≡ filled stretch (now (table .entry)) place label s ⌝ }
+fn fill(slots: &mut [u32], stretch: usize, s: usize, place: usize, label: usize)
+    requires { ⌜ Wide stretch (now slots) × (s < stretch - 18) × (place < 2 ^ 32) × (label < 18 * 65536) ⌝ }
+    ensures { λ _. ⌜ now (slots .exit) ≡ filled stretch (now (slots .entry)) place label s ⌝ }
 {
     let counter = 3 * stretch - 18 + label / 65536;
-    let keys = raise(table[counter]);
-    table[s] = place as u32;
-    table[stretch + s] = label as u32;
-    table[2 * stretch + s] = 1;
-    table[counter] = keys;
+    let keys = raise(slots[counter]);
+    slots[s] = place as u32;
+    slots[stretch + s] = label as u32;
+    slots[2 * stretch + s] = 1;
+    slots[counter] = keys;
 }
 
 // One use more of a key. A key that is new is taken only where fewer than `most` of its mark were.
 pub fn add_use(
     archive: &[u8],
-    table: &mut [u32],
+    slots: &mut [u32],
     stretch: usize,
     place: usize,
     label: usize,
     most: usize,
 ) -> bool
-    requires { ⌜ Wide stretch (now table) × (place < 2 ^ 32) × (label < 18 * 65536) ⌝ }
-    ensures { λ r. ⌜ r ≡ isAdded stretch (now (table .entry)) label most (findOf (now (archive .entry)) stretch (now (table .entry)) (keyOf (now (archive .entry)) place label)) ⌝ }
-    ensures { λ _. ⌜ now (table .exit) ≡ added stretch (now (table .entry)) place label most (findOf (now (archive .entry)) stretch (now (table .entry)) (keyOf (now (archive .entry)) place label)) ⌝ }
+    requires { ⌜ Wide stretch (now slots) × (place < 2 ^ 32) × (label < 18 * 65536) ⌝ }
+    ensures { λ r. ⌜ r ≡ isAdded stretch (now (slots .entry)) label most (findOf (now (archive .entry)) stretch (now (slots .entry)) (keyOf (now (archive .entry)) place label)) ⌝ }
+    ensures { λ _. ⌜ now (slots .exit) ≡ added stretch (now (slots .entry)) place label most (findOf (now (archive .entry)) stretch (now (slots .entry)) (keyOf (now (archive .entry)) place label)) ⌝ }
 {
     let counter = 3 * stretch - 18 + label / 65536;
-    let slot = find(archive, table, stretch, place, label);
+    let slot = find(archive, slots, stretch, place, label);
     match slot {
         Slot::Here(s) => {
-            use_again(table, stretch, s);
+            use_again(slots, stretch, s);
             true
         }
         Slot::Free(s) => {
-            let keys = table[counter];
+            let keys = slots[counter];
             if (keys as usize) < most {
-                fill(table, stretch, s, place, label);
+                fill(slots, stretch, s, place, label);
                 return true;
             }
             false
@@ -159,14 +159,14 @@ fn cost(place: u32, label: u32, uses: u32) -> usize
 }
 
 // The words that all keys take.
-pub fn measure(table: &[u32], stretch: usize) -> usize
-    requires { ⌜ Wide stretch (now table) ⌝ }
-    ensures { λ r. ⌜ (r ≡ measureOf stretch (now (table .entry))) × (r < 2 ^ 45) ⌝ }
+pub fn measure(slots: &[u32], stretch: usize) -> usize
+    requires { ⌜ Wide stretch (now slots) ⌝ }
+    ensures { λ r. ⌜ (r ≡ measureOf stretch (now (slots .entry))) × (r < 2 ^ 45) ⌝ }
 {
     let mut sum = 0;
     let mut s = 0;
     while s < stretch - 18 {
-        sum += cost(table[s], table[stretch + s], table[2 * stretch + s]);
+        sum += cost(slots[s], slots[stretch + s], slots[2 * stretch + s]);
         s += 1;
     }
     sum

@@ -9,7 +9,7 @@ use native.Mathlib.Nat.{add-assoc}
 use native.Mathlib.Omega.{arith}
 use lib.ListN.{length, getD, set, take, drop, replicate, length-append, length-drop, length-replicate}
 use lib.Seq.{length-take-le, take-all, take-at, drop-at, drop-drop, drop-append-seam, sets, sets-eq, paste-zero, paste-suc}
-use Rattle.words.specs.Stream.{streamWords, paddingOf, padded, written, allZero}
+use Rattle.words.specs.Stream.{streamWords, paddingOf, padded, overwritten, allZero}
 use Rattle.words.proofs.Words.{At}
 use Rattle.words.proofs.Same.{zero-zeros}
 
@@ -42,32 +42,32 @@ head-length : (out : List ℕ) (place : ℕ) (bytes : List ℕ) → place ≤ le
 head-length out place bytes h = rw (length-append (take place out) bytes, length-take-le place out h)
 
 -- writing inside of a buffer keeps its length
-pub length-written : (out : List ℕ) (place : ℕ) (bytes : List ℕ) → place + length bytes ≤ length out
-    → length (written out place bytes) ≡ length out
-length-written out place bytes h =
+pub length-overwritten : (out : List ℕ) (place : ℕ) (bytes : List ℕ) → place + length bytes ≤ length out
+    → length (overwritten out place bytes) ≡ length out
+length-overwritten out place bytes h =
     rw (length-append (take place out), length-append bytes, length-take-le place out (omega arith), length-drop) (omega arith)
 
 -- up to the end of the bytes written stand what was before the place, and those bytes
 pub take-written : (out : List ℕ) (place : ℕ) (bytes : List ℕ) → place ≤ length out
-    → take (place + length bytes) (written out place bytes) ≡ take place out ++ bytes
+    → take (place + length bytes) (overwritten out place bytes) ≡ take place out ++ bytes
 take-written out place bytes h =
     rw (← append-assoc (take place out) bytes (drop (place + length bytes) out))
     (take-at (take place out ++ bytes) (drop (place + length bytes) out) (place + length bytes) (head-length out place bytes h))
 
 -- what stands behind the bytes written is as it was
 pub drop-written : (out : List ℕ) (place : ℕ) (bytes : List ℕ) → place ≤ length out
-    → drop (place + length bytes) (written out place bytes) ≡ drop (place + length bytes) out
+    → drop (place + length bytes) (overwritten out place bytes) ≡ drop (place + length bytes) out
 drop-written out place bytes h =
     rw (← append-assoc (take place out) bytes (drop (place + length bytes) out))
     (drop-at (take place out ++ bytes) (drop (place + length bytes) out) (place + length bytes) (head-length out place bytes h))
 
 -- writing a, and right behind it b, is writing a ++ b
-pub written-written : (out : List ℕ) (place : ℕ) (a b : List ℕ) → place ≤ length out
-    → written (written out place a) (place + length a) b ≡ written out place (a ++ b)
-written-written out place a b h =
+pub overwritten-twice : (out : List ℕ) (place : ℕ) (a b : List ℕ) → place ≤ length out
+    → overwritten (overwritten out place a) (place + length a) b ≡ overwritten out place (a ++ b)
+overwritten-twice out place a b h =
     rw (
       take-written out place a h,
-      ← drop-drop (length b) (place + length a) (written out place a),
+      ← drop-drop (length b) (place + length a) (overwritten out place a),
       drop-written out place a h,
       drop-drop (length b) (place + length a) out,
       length-append a b,
@@ -77,23 +77,23 @@ written-written out place a b h =
     )
 
 -- what is written stands where it was written
-pub read-written : (out : List ℕ) (place : ℕ) (bytes : List ℕ) → place ≤ length out → At (written out place bytes) place bytes
+pub read-written : (out : List ℕ) (place : ℕ) (bytes : List ℕ) → place ≤ length out → At (overwritten out place bytes) place bytes
 read-written out place bytes h =
     let rest = drop (place + length bytes) out in
     (rest, drop-at (take place out) (bytes ++ rest) place (length-take-le place out h))
 
 -- stores of bytes one behind the other are one writing
 pub stores-written : (out : List ℕ) (place : ℕ) (bytes : List ℕ) → place + length bytes ≤ length out
-    → sets out place bytes ≡ written out place bytes
+    → sets out place bytes ≡ overwritten out place bytes
 stores-written out place bytes h = sets-eq bytes out place h ∙ append-assoc (take place out) bytes (drop (place + length bytes) out)
 
 -- a loop that writes byte by byte: none is written before the first turn
-pub none-written : (out : List ℕ) (place : ℕ) (bytes : List ℕ) → out ≡ written out place (take 0 bytes)
-none-written out place bytes = paste-zero out place bytes ∙ append-assoc (take place out) [] (drop (place + 0) out)
+pub none-overwritten : (out : List ℕ) (place : ℕ) (bytes : List ℕ) → out ≡ overwritten out place (take 0 bytes)
+none-overwritten out place bytes = paste-zero out place bytes ∙ append-assoc (take place out) [] (drop (place + 0) out)
 
 -- a loop that writes byte by byte: a turn's store writes one byte more
 pub more-written : (out : List ℕ) (place : ℕ) (bytes : List ℕ) (i : ℕ) → place + length bytes ≤ length out → i < length bytes
-    → set (written out place (take i bytes)) (place + i) (getD bytes i 0) ≡ written out place (take (i + 1) bytes)
+    → set (overwritten out place (take i bytes)) (place + i) (getD bytes i 0) ≡ overwritten out place (take (i + 1) bytes)
 more-written out place bytes i h l =
     rw (
       length-take-le i bytes (omega arith),
@@ -106,5 +106,5 @@ more-written out place bytes i h l =
 
 -- a loop that writes byte by byte: all is written behind the last turn
 pub all-written : (out : List ℕ) (place : ℕ) (bytes : List ℕ) (i : ℕ) → length bytes ≤ i
-    → written out place (take i bytes) ≡ written out place bytes
+    → overwritten out place (take i bytes) ≡ overwritten out place bytes
 all-written out place bytes i h = rw (take-all i bytes h)

@@ -19,8 +19,8 @@ abbrev pub padded : List ℕ → List ℕ
 padded bytes = bytes ++ replicate (paddingOf (length bytes)) 0
 
 -- out with these bytes at a place; what stands before and behind them is as it was
-abbrev pub written : List ℕ → ℕ → List ℕ → List ℕ
-written out place bytes = take place out ++ (bytes ++ drop (place + length bytes) out)
+abbrev pub overwritten : List ℕ → ℕ → List ℕ → List ℕ
+overwritten out place bytes = take place out ++ (bytes ++ drop (place + length bytes) out)
 
 -- "A string is answered as the part of the archive it stands in, by the place and length shown; for a place and length not inside the archive, as the empty part."
 unfoldable pub partOf : List ℕ → ℕ → ℕ → List ℕ

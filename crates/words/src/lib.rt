@@ -3,7 +3,7 @@ ghost use mathlib.Core.Path.{_≡_};
 ghost use Prim.Native.Nat.{_+_, _-_, _*_, _^_, _<_, _≤_};
 ghost use lib.ListN.{length, getD, replicate};
 ghost use Rattle.words.specs.Word.{wordAt, bytesOf, field, signed};
-ghost use Rattle.words.specs.Stream.{streamWords, padded, written, partOf, sameBytes, allZero, startsWithMagic};
+ghost use Rattle.words.specs.Stream.{streamWords, padded, overwritten, partOf, sameBytes, allZero, startsWithMagic};
 
 pub fn byte(bytes: &[u8], place: usize) -> u64
     requires { ⌜ place < length (now bytes) ⌝ }
@@ -46,7 +46,7 @@ fn byte_of(word: u64, low: u32) -> u8
 // The word, written at a byte place.
 pub fn put_word(out: &mut [u8], place: usize, word: u64)
     requires { ⌜ place + 8 ≤ length (now out) ⌝ }
-    ensures { λ _. ⌜ now (out .exit) ≡ written (now (out .entry)) place (bytesOf 8 word) ⌝ }
+    ensures { λ _. ⌜ now (out .exit) ≡ overwritten (now (out .entry)) place (bytesOf 8 word) ⌝ }
 {
     out[place] = byte_of(word, 0);
     out[place + 1] = byte_of(word, 8);
@@ -106,7 +106,7 @@ pub fn stream_words(n: usize) -> usize
 
 fn copy(out: &mut [u8], place: usize, bytes: &[u8])
     requires { ⌜ place + length (now bytes) ≤ length (now out) ⌝ }
-    ensures { λ _. ⌜ now (out .exit) ≡ written (now (out .entry)) place (now (bytes .entry)) ⌝ }
+    ensures { λ _. ⌜ now (out .exit) ≡ overwritten (now (out .entry)) place (now (bytes .entry)) ⌝ }
 {
     let mut i = 0;
     while i < bytes.len() {
@@ -117,7 +117,7 @@ fn copy(out: &mut [u8], place: usize, bytes: &[u8])
 
 fn fill_zero(out: &mut [u8], place: usize, n: usize)
     requires { ⌜ place + n ≤ length (now out) ⌝ }
-    ensures { λ _. ⌜ now (out .exit) ≡ written (now (out .entry)) place (replicate n 0) ⌝ }
+    ensures { λ _. ⌜ now (out .exit) ≡ overwritten (now (out .entry)) place (replicate n 0) ⌝ }
 {
     let mut i = 0;
     while i < n {
@@ -129,7 +129,7 @@ fn fill_zero(out: &mut [u8], place: usize, n: usize)
 // The stream of these bytes, written at a byte place with its padding.
 pub fn put_stream(out: &mut [u8], place: usize, bytes: &[u8])
     requires { ⌜ place + 8 * streamWords (length (now bytes)) ≤ length (now out) ⌝ }
-    ensures { λ _. ⌜ now (out .exit) ≡ written (now (out .entry)) place (padded (now (bytes .entry))) ⌝ }
+    ensures { λ _. ⌜ now (out .exit) ≡ overwritten (now (out .entry)) place (padded (now (bytes .entry))) ⌝ }
 {
     let n = bytes.len();
     copy(out, place, bytes);

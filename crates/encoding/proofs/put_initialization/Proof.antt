@@ -4,7 +4,7 @@ use mathlib.Core.Path.{ap, sym, _∙_}
 use mathlib.Core.List.{List, [], _∷_}
 use Prim.Native.Nat.{ℕ, _+_}
 use Rattle.words.specs.Word.{_of_, bytesOf}
-use Rattle.words.specs.Stream.{written}
+use Rattle.words.specs.Stream.{overwritten}
 use Rattle.words.proofs.Words.{length-bytesOf}
 use Rattle.encoding.proofs.Headers.{record-written, length-plain}
 use Rattle.encoding.proofs.EncodedItems.{initialization-record}
@@ -27,10 +27,10 @@ returns c =
     let header = c .before .before .before .before .before .before .before .header in
     let given = c .before .before .before .before .before .before .before .before .before .before .args in
     let a = given in let long = length-plain (initialization (a .rate)) in (
-      c .before .before .put-word2 .ensures ∙ ap (λ (out : List ℕ). written out (a .place + 8) (bytesOf 8 (a .rate))) (put-word .ensures)
+      c .before .before .put-word2 .ensures ∙ ap (λ (out : List ℕ). overwritten out (a .place + 8) (bytesOf 8 (a .rate))) (put-word .ensures)
           ∙ record-written (a .out .now) (a .place) 1 1 (header .result) (0 of 48 ∷ []) (bytesOf 8 (a .rate)) (omega (arith, long))
           (length-bytesOf 8 (a .rate)) (omega (arith, header .ensures))
-          ∙ ap (written (a .out .now) (a .place)) (sym (initialization-record (λ key. 0) (a .rate))),
+          ∙ ap (overwritten (a .out .now) (a .place)) (sym (initialization-record (λ key. 0) (a .rate))),
       omega (arith, long),
     )
 

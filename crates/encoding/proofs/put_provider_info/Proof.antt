@@ -5,7 +5,7 @@ use mathlib.Core.List.{List, [], _∷_}
 use Prim.Native.Nat.{ℕ, _+_}
 use lib.ListN.{length}
 use Rattle.words.specs.Word.{_of_}
-use Rattle.words.specs.Stream.{padded, written}
+use Rattle.words.specs.Stream.{padded, overwritten}
 use Rattle.words.proofs.Streams.{length-padded}
 use Rattle.encoding.proofs.Headers.{record-written, length-plain}
 use Rattle.encoding.proofs.EncodedItems.{provider-info-record}
@@ -31,7 +31,7 @@ returns c =
     let words = c .before .before .before .before .before .before .before .before .before .before .before .before .stream-words in
     let long = length-plain (providerInfo (a .id) (a .name .now)) in (
       c .before .before .put-stream .ensures
-          ∙ ap (λ (out : List ℕ). written out (a .place + 8) (padded (a .name .now))) (c .before .before .before .before .before .before .put-word .ensures)
+          ∙ ap (λ (out : List ℕ). overwritten out (a .place + 8) (padded (a .name .now))) (c .before .before .before .before .before .before .put-word .ensures)
           ∙ record-written (a .out .now) (a .place) 0 (words .result) (c .before .before .before .before .before .before .before .before .with-field3 .result) (1 of 4 ∷ a .id of 32 ∷ n of 8 ∷ 0 of 4 ∷ []) (padded (a .name .now))
           (omega (arith, long)) (omega (arith, length-padded (a .name .now), words .ensures))
           (omega (
@@ -41,7 +41,7 @@ returns c =
             c .before .before .before .before .before .before .before .before .before .before .with-field .ensures,
             c .before .before .before .before .before .before .before .before .before .before .before .header .ensures,
           ))
-          ∙ ap (written (a .out .now) (a .place)) (sym (provider-info-record (λ key. 0) (a .id) (a .name .now))),
+          ∙ ap (overwritten (a .out .now) (a .place)) (sym (provider-info-record (λ key. 0) (a .id) (a .name .now))),
       omega (arith, long, words .ensures),
     )
 

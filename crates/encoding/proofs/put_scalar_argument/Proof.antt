@@ -8,7 +8,7 @@ use mir.Syntax.{w32, w64}
 use Rattle.arguments.specs.declared.Scalar.{Scalar}
 use Rattle.encoding.specs.Encoded.{word, encodedArgument}
 use Rattle.arguments.specs.Argument.{scalarType}
-use Rattle.encoding.specs.Part.{textPart, scalarArgument}
+use Rattle.encoding.specs.Models.Part.{textPart, scalarArgument}
 use Rattle.encoding.proofs.Signs.{handed-on}
 use borrow.Author.Needs.{needs}
 use Rattle.encoding.proofs.put_scalar_argument.Statement.{statement}

@@ -5,7 +5,7 @@ use mathlib.Core.List.{List, [], _∷_}
 use Prim.Native.Nat.{ℕ, _+_}
 use lib.ListN.{length}
 use Rattle.words.specs.Word.{_of_}
-use Rattle.words.specs.Stream.{padded, written}
+use Rattle.words.specs.Stream.{padded, overwritten}
 use Rattle.words.proofs.Streams.{length-padded}
 use Rattle.encoding.proofs.Headers.{record-written, length-string}
 use borrow.Author.Needs.{needs}
@@ -37,7 +37,7 @@ returns c =
     let words = c .before .before .before .before .before .before .before .before .before .before .before .stream-words in
     let given = c .before .before .before .before .before .before .before .before .before .before .before .before .before .before .args in
     let a = given in let n = length (a .bytes .now) in let long = length-string (a .index) (a .bytes .now) in (
-      c .before .before .put-stream .ensures ∙ ap (λ (out : List ℕ). written out (a .place + 8) (padded (a .bytes .now))) (put-word .ensures)
+      c .before .before .put-stream .ensures ∙ ap (λ (out : List ℕ). overwritten out (a .place + 8) (padded (a .bytes .now))) (put-word .ensures)
           ∙ record-written (a .out .now) (a .place) 2 (words .result) (with-field2 .result) (a .index of 15 ∷ 0 of 1 ∷ n of 15 ∷ 0 of 17 ∷ [])
           (padded (a .bytes .now)) (omega (arith, long)) (omega (arith, length-padded (a .bytes .now), words .ensures))
           (omega (arith, with-field2 .ensures, with-field .ensures, header′ .ensures)),

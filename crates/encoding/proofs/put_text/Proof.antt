@@ -2,7 +2,7 @@
 use native.Mathlib.Omega.{arith}
 use mathlib.Core.Path.{sym, ap, _∙_}
 use lib.ListN.{length}
-use Rattle.words.specs.Stream.{written}
+use Rattle.words.specs.Stream.{overwritten}
 use Rattle.words.proofs.Streams.{length-padded}
 use borrow.Author.Tests.{ne-eqb}
 use Rattle.encoding.proofs.Parts.{nothing-written, inline-text}
@@ -25,7 +25,7 @@ returns-2 c =
     let if1′ = c .before .before .before .before .before .if1 in
     let given = c .before .before .before .before .before .before .before .before .args in
     let a = given in let inline = inline-text (a .index) (a .bytes .now) (if1′ .left) in (
-      c .before .before .before .put-stream .ensures ∙ ap (written (a .out .now) (a .place)) (sym inline),
+      c .before .before .before .put-stream .ensures ∙ ap (overwritten (a .out .now) (a .place)) (sym inline),
       omega (arith, c .stream-words .ensures, length-padded (a .bytes .now), ap length inline),
     )
 

@@ -3,9 +3,9 @@ use native.Mathlib.Omega.{arith}
 use mathlib.Core.Path.{sym, ap, _∙_}
 use mathlib.Core.List.{List}
 use Prim.Native.Nat.{ℕ}
-use Rattle.words.specs.Stream.{written}
+use Rattle.words.specs.Stream.{overwritten}
 use Rattle.encoding.specs.Encoded.{referenceOf, partBytes}
-use Rattle.encoding.specs.Part.{textPart}
+use Rattle.encoding.specs.Models.Part.{textPart}
 use Rattle.encoding.proofs.Parts.{reference-lt, length-start, length-argument-one, argument-written}
 use borrow.Author.Needs.{needs}
 use Rattle.encoding.proofs.put_text_argument.Statement.{statement}
@@ -45,7 +45,7 @@ returns c =
     let long = length-start 6 (more .result) (half .result) part in
     let all = length-argument-one 6 (referenceOf text) part text in (
       c .before .before .put-text .ensures .0
-          ∙ ap (λ (out : List ℕ). written out (start .result) (partBytes text)) (start .ensures .0)
+          ∙ ap (λ (out : List ℕ). overwritten out (start .result) (partBytes text)) (start .ensures .0)
           ∙ rw (start .ensures .1, half .ensures)
           (argument-written (a .out .now) (a .place) 6 (more .result) (referenceOf text) part text (omega (arith, long, all)) (sym (more .ensures))),
       omega (arith, c .before .before .put-text .ensures .1, start .ensures .1, long, all),

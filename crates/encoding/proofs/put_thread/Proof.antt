@@ -5,10 +5,10 @@ use mathlib.Core.List.{List}
 use Prim.Native.Nat.{ℕ, _+_}
 use lib.ListN.{length}
 use Rattle.words.specs.Word.{bytesOf}
-use Rattle.words.specs.Stream.{written}
+use Rattle.words.specs.Stream.{overwritten}
 use Rattle.words.proofs.Words.{length-bytesOf}
 use borrow.Author.Tests.{ne-eqb}
-use Rattle.words.proofs.Streams.{written-written}
+use Rattle.words.proofs.Streams.{overwritten-twice}
 use Rattle.records.specs.Item.{thread}
 use Rattle.encoding.specs.Encoded.{threadInline}
 use Rattle.encoding.proofs.EncodedParts.{length-part}
@@ -41,10 +41,10 @@ returns-2 c =
     let given = c .before .before .before .before .before .before .before .before .before .before .args in
     let a = given in let t = thread (a .process) (a .thread) in let inline = inline-thread (a .index) t (if1′ .left) in
     let first = bytesOf 8 (a .process) in let second = bytesOf 8 (a .thread) in let long = length-part (threadInline t) in (
-      c .before .before .put-word2 .ensures ∙ ap (λ (out : List ℕ). written out (a .place + 8) second) (put-word .ensures)
-          ∙ ap (λ (n : ℕ). written (written (a .out .now) (a .place) first) (a .place + n) second) (sym (length-bytesOf 8 (a .process)))
-          ∙ written-written (a .out .now) (a .place) first second (omega (arith, long, ap length inline))
-          ∙ ap (written (a .out .now) (a .place)) (sym inline),
+      c .before .before .put-word2 .ensures ∙ ap (λ (out : List ℕ). overwritten out (a .place + 8) second) (put-word .ensures)
+          ∙ ap (λ (n : ℕ). overwritten (overwritten (a .out .now) (a .place) first) (a .place + n) second) (sym (length-bytesOf 8 (a .process)))
+          ∙ overwritten-twice (a .out .now) (a .place) first second (omega (arith, long, ap length inline))
+          ∙ ap (overwritten (a .out .now) (a .place)) (sym inline),
       omega (arith, long, ap length inline),
     )
 

@@ -1,12 +1,12 @@
 -- `put_thread_record` meets its contract: a header, and right behind it two words, are one writing of the record (thread-written, record-written).
-use Rattle.words.proofs.Streams.{length-written}
+use Rattle.words.proofs.Streams.{length-overwritten}
 use native.Mathlib.Omega.{arith}
 use mathlib.Core.Path.{_≡_, ap, _∙_}
 use mathlib.Core.List.{List, [], _∷_}
 use Prim.Native.Nat.{ℕ, _+_}
 use lib.ListN.{length}
 use Rattle.words.specs.Word.{_of_, bytesOf}
-use Rattle.words.specs.Stream.{written}
+use Rattle.words.specs.Stream.{overwritten}
 use Rattle.words.proofs.Words.{length-bytesOf}
 use Rattle.records.specs.Item.{thread}
 use Rattle.encoding.specs.Encoded.{threadInline, partBytes}
@@ -39,11 +39,11 @@ returns c =
     let header = c .before .before .before .before .before .before .before .before .before .before .before .before .header in
     let given = c .before .before .before .before .before .before .before .before .before .before .before .before .before .before .before .args in
     let a = given in let t = thread (a .process) (a .thread) in let long = length-thread (a .index) t in let word = with-field in
-    let headed = written (a .out .now) (a .place) (bytesOf 8 (word .result)) in
-    let same : length headed ≡ length (a .out .now) = length-written (a .out .now) (a .place) (bytesOf 8 (word .result))
+    let headed = overwritten (a .out .now) (a .place) (bytesOf 8 (word .result)) in
+    let same : length headed ≡ length (a .out .now) = length-overwritten (a .out .now) (a .place) (bytesOf 8 (word .result))
     (omega (arith, long, length-bytesOf 8 (word .result))) in (
-      c .before .before .put-word3 .ensures ∙ ap (λ (out : List ℕ). written out (a .place + 16) (bytesOf 8 (a .thread))) (put-word2 .ensures
-          ∙ ap (λ (out : List ℕ). written out (a .place + 8) (bytesOf 8 (a .process))) (put-word .ensures))
+      c .before .before .put-word3 .ensures ∙ ap (λ (out : List ℕ). overwritten out (a .place + 16) (bytesOf 8 (a .thread))) (put-word2 .ensures
+          ∙ ap (λ (out : List ℕ). overwritten out (a .place + 8) (bytesOf 8 (a .process))) (put-word .ensures))
           ∙ thread-written headed (a .place) (a .process) (a .thread) (omega (arith, long, same))
           ∙ record-written (a .out .now) (a .place) 3 2 (word .result) (a .index of 8 ∷ 0 of 40 ∷ []) (partBytes (threadInline t)) (omega (arith, long))
           (length-part (threadInline t)) (omega (arith, word .ensures, header .ensures)),

@@ -2,7 +2,7 @@
 use Prim.Native.Nat.{ℕ}
 use mathlib.Core.Path.{_≡_, refl, ap, _∙_}
 use mathlib.Core.List.{List, [], _∷_, _++_}
-use Rattle.words.specs.Stream.{written}
+use Rattle.words.specs.Stream.{overwritten}
 use Rattle.reader.specs.declared.ShownText.{ShownText}
 use Rattle.reader.specs.declared.ShownText.the-variants.{At, Unresolved}
 use Rattle.reader.specs.declared.ShownValue.{ShownValue}
@@ -42,7 +42,7 @@ returns c =
     twenty out name (valueValues (a .value)) zeros zeros zeros refl (length-value (a .value)) refl refl
     (after-put-four .put-four .ensures) (after-put-value .put-value .ensures) (after-put-four2 .put-four2 .ensures)
     (after-put-four3 .put-four3 .ensures) (after-put-four4 .put-four4 .ensures)
-    ∙ ap (written out 0) (argument-numbers (a .name) (a .value) _ _ _ (n .ensures))
+    ∙ ap (overwritten out 0) (argument-numbers (a .name) (a .value) _ _ _ (n .ensures))
 
 pub put-argument-spec : {M : Type 1} → statement M
 put-argument-spec =

@@ -3,7 +3,7 @@ use Prim.Native.Nat.{ℕ}
 use mathlib.Core.List.{List, [], _∷_}
 use mathlib.Core.Path.{_≡_, refl, ap, _∙_}
 use native.Mathlib.Omega.{arith}
-use Rattle.words.specs.Stream.{written}
+use Rattle.words.specs.Stream.{overwritten}
 use Rattle.reader.specs.declared.ShownReport.{ShownReport}
 use Rattle.reader.specs.declared.Answer.the-variants.{Report}
 use Rattle.reader.specs.Numbers.{referentValues, providerValues}
@@ -57,7 +57,7 @@ returns c =
     twenty out one two three four five refl refl refl refl
     (after-put-four .put-four .ensures) (after-put-four2 .put-four2 .ensures) (after-put-four3 .put-four3 .ensures)
     (after-put-four4 .put-four4 .ensures) (after-put-four5 .put-four5 .ensures)
-    ∙ ap (written out 0) (report-numbers r _ _ _ _ _ _ _ _ _ _ _ (p .ensures) (a .ensures) (b .ensures) (g .ensures))
+    ∙ ap (overwritten out 0) (report-numbers r _ _ _ _ _ _ _ _ _ _ _ (p .ensures) (a .ensures) (b .ensures) (g .ensures))
 
 pub put-report-spec : {M : Type 1} → statement M
 put-report-spec =

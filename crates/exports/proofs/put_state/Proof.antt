@@ -4,7 +4,7 @@ use mathlib.Core.Path.{_≡_, refl, ap, _∙_}
 use mathlib.Core.List.{List, [], _∷_, _++_}
 use native.Mathlib.Omega.{arith}
 use lib.ListN.{getD}
-use Rattle.words.specs.Stream.{written}
+use Rattle.words.specs.Stream.{overwritten}
 use Rattle.contexts.specs.declared.State.{State}
 use Rattle.exports.specs.Block.{stateNumbers}
 use Rattle.exports.proofs.Blocks.{onward}
@@ -48,7 +48,7 @@ returns c =
     let three : List ℕ = i6 .result ∷ i7 .result ∷ s .count ∷ s .current ∷ [] in
     let eight = onward out 20 24 one two (omega arith) refl (after-put-four .put-four .ensures) (after-put-four2 .put-four2 .ensures) in
     onward out 20 28 (one ++ two) three (omega arith) refl eight (after-put-four3 .put-four3 .ensures)
-    ∙ ap (written out 20)
+    ∙ ap (overwritten out 20)
     (state-numbers s _ _ _ _ _ _ _ _
     (i0 .ensures) (i1 .ensures) (i2 .ensures) (i3 .ensures) (i4 .ensures) (i5 .ensures) (i6 .ensures) (i7 .ensures))
 

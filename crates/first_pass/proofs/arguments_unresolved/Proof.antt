@@ -14,13 +14,13 @@ use Rattle.first_pass.proofs.arguments_unresolved.Statement.{statement}
 use Rattle.first_pass.proofs.arguments_unresolved.Tie as tie
 
 abbrev Inv-loop : tie.InvT-loop
-Inv-loop f archive tables context limit part place count rest₀ at₀ left₀ rest at left =
-    (anyUnresolved f archive tables context limit (argumentLookups (argumentsRead f count part place))
-    ≡ anyUnresolved f archive tables context limit (argumentLookups (argumentsRead f left rest at)))
+Inv-loop f archive tables context until part place count rest₀ at₀ left₀ rest at left =
+    (anyUnresolved f archive tables context until (argumentLookups (argumentsRead f count part place))
+    ≡ anyUnresolved f archive tables context until (argumentLookups (argumentsRead f left rest at)))
     × (at + length rest ≡ place + length part)
 
 abbrev μ-loop : tie.MeasureT-loop
-μ-loop f archive tables context limit part place count rest₀ at₀ left₀ rest at left = left
+μ-loop f archive tables context until part place count rest₀ at₀ left₀ rest at left = left
 
 loop-holds : tie.Need-loop-holds Inv-loop μ-loop
 loop-holds c = (refl, refl)
@@ -29,7 +29,7 @@ returns : tie.Need-returns Inv-loop μ-loop
 returns c =
     let a = c .before .before .before .before .before .before .before .before .args in
     let l = c .before .before .before .before .loop in
-    let turn = unresolved-turn (a .f) (a .archive .now) (a .tables .now) (a .context) (a .limit) (l .left) (l .rest .now) (l .at) (c .before .before .before .loop-test .taken) in
+    let turn = unresolved-turn (a .f) (a .archive .now) (a .tables .now) (a .context) (a .until) (l .left) (l .rest .now) (l .at) (c .before .before .before .loop-test .taken) in
     sym (l .inv .0 ∙ turn ∙ simp (← c .before .before .texts-of .ensures, c .enum-told .given .1))
 
 returns-2 : tie.Need-returns-2 Inv-loop μ-loop
@@ -38,7 +38,7 @@ returns-2 c =
     let texts-of′ = c .before .before .before .before .before .texts-of in
     let a = c .before .before .before .before .before .before .before .before .before .before .before .args in
     let l = c .before .before .before .before .before .before .before .loop in
-    let turn = unresolved-turn (a .f) (a .archive .now) (a .tables .now) (a .context) (a .limit) (l .left) (l .rest .now) (l .at) (loop-test′ .taken) in
+    let turn = unresolved-turn (a .f) (a .archive .now) (a .tables .now) (a .context) (a .until) (l .left) (l .rest .now) (l .at) (loop-test′ .taken) in
     sym (l .inv .0 ∙ turn ∙ simp (← texts-of′ .ensures, c .before .before .before .texts .given .1, ← c .before .is-unresolved .ensures, c .if1 .taken))
 
 returns-3 : tie.Need-returns-3 Inv-loop μ-loop
@@ -49,7 +49,7 @@ returns-3 c =
     let texts′ = c .before .before .before .before .before .texts in
     let a = back .before .before .before .args in
     let l = c .before .before .before .before .before .before .before .before .before .loop in
-    let turn = unresolved-turn (a .f) (a .archive .now) (a .tables .now) (a .context) (a .limit) (l .left) (l .rest .now) (l .at) (loop-test′ .taken) in
+    let turn = unresolved-turn (a .f) (a .archive .now) (a .tables .now) (a .context) (a .until) (l .left) (l .rest .now) (l .at) (loop-test′ .taken) in
     sym (l .inv .0 ∙ turn
     ∙ simp (← texts-of′ .ensures, texts′ .given .1, ← c .before .before .before .is-unresolved .ensures, c .before .before .if1 .left, ← c .before .is-unresolved2 .ensures, c .if2 .taken))
 
@@ -89,7 +89,7 @@ loop-again c =
     let is-unresolved′ = c .before .before .before .before .is-unresolved in
     let a = back .before .before .before .before .args in
     let l = c .before .before .before .before .before .before .before .before .before .before .loop in
-    let turn = unresolved-turn (a .f) (a .archive .now) (a .tables .now) (a .context) (a .limit) (l .left) (l .rest .now) (l .at) (loop-test′ .taken) in
+    let turn = unresolved-turn (a .f) (a .archive .now) (a .tables .now) (a .context) (a .until) (l .left) (l .rest .now) (l .at) (loop-test′ .taken) in
     let t = c .before .before .before .before .before .before .texts .given in
     let s = texts-inside (a .f) (l .rest .now) (l .at) (t .0 .0) (t .0 .1 .0) (t .0 .1 .1 .0) (sym (texts-of′ .ensures) ∙ t .1) in (
       l .inv .0 ∙ turn

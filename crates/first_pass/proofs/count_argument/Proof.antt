@@ -36,9 +36,9 @@ returns c =
     let wide = back .before .before .pre .0 .wide in
     let after = one .last .1 .1 .0 in
     let last = two .last .1 .1 .0 in
-    let behind = counted-then (a .f) (a .archive .now) after (a .context) (a .limit) text [] (omega (arith, wide, room′ .given)) (two .result) true last last
-    (rw (value-text′ .ensures) at (two .ensures)) (counted-none (a .f) (a .archive .now) last (a .context) (a .limit)) in
-    let q = counted-then (a .f) (a .archive .now) (a .room .now) (a .context) (a .limit) name (text ∷ []) (omega (arith, wide)) (one .result)
+    let behind = counted-then (a .f) (a .archive .now) after (a .context) (a .until) text [] (omega (arith, wide, room′ .given)) (two .result) true last last
+    (rw (value-text′ .ensures) at (two .ensures)) (counted-none (a .f) (a .archive .now) last (a .context) (a .until)) in
+    let q = counted-then (a .f) (a .archive .now) (a .room .now) (a .context) (a .until) name (text ∷ []) (omega (arith, wide)) (one .result)
     (two .result && true) after last (one .ensures) behind in
     (c .both .ensures ∙ (ap (λ (b : Bool). one .result && b) (sym (and-true (two .result))) ∙ q .0), q .1)
 

@@ -13,11 +13,11 @@ use Rattle.first_pass.proofs.count_arguments.Statement.{statement}
 use Rattle.first_pass.proofs.count_arguments.Tie as tie
 
 abbrev Inv-loop : tie.InvT-loop
-Inv-loop f archive room₀ context limit part place count rest₀ at₀ left₀ good₀ words₀ room rest at left good words =
-    Walk f archive room₀ context limit (argumentsRead f count part place) (place + length part) room left rest at good words count
+Inv-loop f archive room₀ context until part place count rest₀ at₀ left₀ good₀ words₀ room rest at left good words =
+    Walk f archive room₀ context until (argumentsRead f count part place) (place + length part) room left rest at good words count
 
 abbrev μ-loop : tie.MeasureT-loop
-μ-loop f archive room₀ context limit part place count rest₀ at₀ left₀ good₀ words₀ room rest at left good words = left
+μ-loop f archive room₀ context until part place count rest₀ at₀ left₀ good₀ words₀ room rest at left good words = left
 
 loop-holds : tie.Need-loop-holds Inv-loop μ-loop
 loop-holds c = record { tables = refl; long = refl; goods = refl; slots = refl; sum = omega arith; inside = refl; few = omega arith }
@@ -38,10 +38,10 @@ returns c =
     let l = c .before .before .before .before .loop in
     let all = argumentsRead (a .f) (a .count) (a .part .now) (a .place) in
     let end = a .place + length (a .part .now) in
-    let none = none-read (a .f) (a .archive .now) (a .room .now) (a .context) (a .limit) all end (l .room) (l .left) (l .rest .now) (l .at) (l .good)
+    let none = none-read (a .f) (a .archive .now) (a .room .now) (a .context) (a .until) all end (l .room) (l .left) (l .rest .now) (l .at) (l .good)
     (l .words) (a .count) (l .inv)
     _ (c .before .before .before .loop-test .taken) (sym (c .before .before .argument-of .ensures) ∙ c .enum-told .given .1) in
-    walk-ends (a .f) (a .archive .now) (a .room .now) (a .context) (a .limit) all end (l .room) (l .left) (l .rest .now) (l .at) (l .good)
+    walk-ends (a .f) (a .archive .now) (a .room .now) (a .context) (a .until) all end (l .room) (l .left) (l .rest .now) (l .at) (l .good)
     (l .words) (a .count) (l .inv) none
 
 count-argument-requires : tie.Need-count-argument-requires Inv-loop μ-loop
@@ -108,7 +108,7 @@ loop-again c =
     let one = c .before .before .before .before .before .count-argument in
     let long : length (one .last .1 .1 .0) ≡ length (l .room) = search needs in
     rw (part-from, c .before .before .both .ensures, c .before .value-words .ensures .0)
-    (walk-turns (a .f) (a .archive .now) (a .room .now) (a .context) (a .limit) all end (l .room) (l .left) (l .rest .now) (l .at) (l .good)
+    (walk-turns (a .f) (a .archive .now) (a .room .now) (a .context) (a .until) all end (l .room) (l .left) (l .rest .now) (l .at) (l .good)
     (l .words) (a .count) (l .inv)
     (t .0 .0) (t .0 .1 .0) (one .result) (one .last .1 .1 .0) (loop-test′ .taken) (sym (argument-of′ .ensures) ∙ t .1)
     (omega (arith, l .inv .long, pre′ .0 .wide)) long (one .ensures))
@@ -122,10 +122,10 @@ returns-2 c =
     let l = c .before .loop in
     let all = argumentsRead (a .f) (a .count) (a .part .now) (a .place) in
     let end = a .place + length (a .part .now) in
-    let none = none-left (a .f) (a .archive .now) (a .room .now) (a .context) (a .limit) all end (l .room) (l .left) (l .rest .now) (l .at) (l .good)
+    let none = none-left (a .f) (a .archive .now) (a .room .now) (a .context) (a .until) all end (l .room) (l .left) (l .rest .now) (l .at) (l .good)
     (l .words) (a .count) (l .inv)
     (omega (arith, c .loop-test .left)) in
-    walk-ends (a .f) (a .archive .now) (a .room .now) (a .context) (a .limit) all end (l .room) (l .left) (l .rest .now) (l .at) (l .good)
+    walk-ends (a .f) (a .archive .now) (a .room .now) (a .context) (a .until) all end (l .room) (l .left) (l .rest .now) (l .at) (l .good)
     (l .words) (a .count) (l .inv) none
 
 pub count-arguments-spec : {M : Type 1} → statement M

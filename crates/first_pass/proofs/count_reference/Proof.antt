@@ -46,7 +46,7 @@ label-of-requires c κs =
     let p = top .pre in
     let words = c .before .before .before .before .before .before .table-words in
     let is = sym (c .before .before .before .before .resolve .ensures) ∙ c .before .before .resolved .given .1 in
-    let k = subst KnownFits is (reference-fits (a .f) (a .archive .now) (take (words .result) (a .room .now)) (a .context) (a .table) (a .limit)
+    let k = subst KnownFits is (reference-fits (a .f) (a .archive .now) (take (words .result) (a .room .now)) (a .context) (a .table) (a .until)
     (a .reference) (p .3) (p .0 .short)) in
     (p .0 .low, p .1, p .2, k .1)
 
@@ -58,7 +58,7 @@ add-use-requires c κs =
     let p = further .before .before .before .pre in
     let words = further .table-words in
     let is = sym (c .before .before .before .before .before .before .before .resolve .ensures) ∙ c .before .before .before .before .before .resolved .given .1 in
-    let k = subst KnownFits is (reference-fits (a .f) (a .archive .now) (take (words .result) (a .room .now)) (a .context) (a .table) (a .limit)
+    let k = subst KnownFits is (reference-fits (a .f) (a .archive .now) (take (words .result) (a .room .now)) (a .context) (a .table) (a .until)
     (a .reference) (p .3) (p .0 .short)) in (
       record {
         some = omega (arith, words .ensures);

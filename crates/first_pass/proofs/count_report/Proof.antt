@@ -144,7 +144,7 @@ returns c =
     let archive = a .archive .now in
     let room = a .room .now in
     let context = a .s .current in
-    let limit = a .s .place in
+    let until = a .s .place in
     let r = a .report in
     let one = further .before .before .count-reference in
     let two = back .before .before .before .before .before .before .before .before .count-reference2 in
@@ -157,11 +157,11 @@ returns c =
     let last = others .last .1 .1 .0 in
     let long = back .before .before .before .before .before .before .before .before .before .before .before .room .given in
     let long2 = back .before .before .before .before .before .before .before .room2 .given in
-    let third = counted-then f archive after2 context limit (r .third) arguments (omega (arith, p .0 .wide, long, long2)) (three .result)
+    let third = counted-then f archive after2 context until (r .third) arguments (omega (arith, p .0 .wide, long, long2)) (three .result)
     (others .result .good) after3 last (three .ensures) (others .ensures .0, others .ensures .1 .1) in
-    let second = counted-then f archive after context limit (r .second) (r .third ∷ arguments) (omega (arith, p .0 .wide, long)) (two .result)
+    let second = counted-then f archive after context until (r .second) (r .third ∷ arguments) (omega (arith, p .0 .wide, long)) (two .result)
     (three .result && others .result .good) after2 last (two .ensures) third in
-    let first = counted-then f archive room context limit (r .first) (r .second ∷ r .third ∷ arguments) (omega (arith, p .0 .wide)) (one .result)
+    let first = counted-then f archive room context until (r .first) (r .second ∷ r .third ∷ arguments) (omega (arith, p .0 .wide)) (one .result)
     (two .result && (three .result && others .result .good)) after last (one .ensures) second in
     let words = report-words f archive (tablesIn f room) (a .s) r (a .next) (a .s .place) (a .next)
     (stream-inside f archive (a .s .place) r (a .next) (p .1 .1)) (b .last) in (

@@ -78,28 +78,28 @@ countSlots f archive slots context table (Unresolved index) = slots
 
 -- a reference looked up in its table
 abbrev pub lookupGood : Format → List ℕ → List ℕ → List ℕ → ℕ → ℕ → Lookup → Bool
-lookupGood f archive tables slots context limit l = countGood f archive slots context (l .table) (lookedUp f archive tables context limit l)
+lookupGood f archive tables slots context until l = countGood f archive slots context (l .table) (lookedUp f archive tables context until l)
 
 abbrev pub lookupSlots : Format → List ℕ → List ℕ → List ℕ → ℕ → ℕ → Lookup → List ℕ
-lookupSlots f archive tables slots context limit l = countSlots f archive slots context (l .table) (lookedUp f archive tables context limit l)
+lookupSlots f archive tables slots context until l = countSlots f archive slots context (l .table) (lookedUp f archive tables context until l)
 
 -- references one after the other
 unfoldable pub lookupsGood : Format → List ℕ → List ℕ → List ℕ → ℕ → ℕ → List Lookup → Bool
-lookupsGood f archive tables slots context limit [] = true
-lookupsGood f archive tables slots context limit (l ∷ more) =
-    lookupGood f archive tables slots context limit l
-    && lookupsGood f archive tables (lookupSlots f archive tables slots context limit l) context limit more
+lookupsGood f archive tables slots context until [] = true
+lookupsGood f archive tables slots context until (l ∷ more) =
+    lookupGood f archive tables slots context until l
+    && lookupsGood f archive tables (lookupSlots f archive tables slots context until l) context until more
 
 unfoldable pub lookupsSlots : Format → List ℕ → List ℕ → List ℕ → ℕ → ℕ → List Lookup → List ℕ
-lookupsSlots f archive tables slots context limit [] = slots
-lookupsSlots f archive tables slots context limit (l ∷ more) =
-    lookupsSlots f archive tables (lookupSlots f archive tables slots context limit l) context limit more
+lookupsSlots f archive tables slots context until [] = slots
+lookupsSlots f archive tables slots context until (l ∷ more) =
+    lookupsSlots f archive tables (lookupSlots f archive tables slots context until l) context until more
 
 -- whether one of them is unresolved
 unfoldable pub anyUnresolved : Format → List ℕ → List ℕ → ℕ → ℕ → List Lookup → Bool
-anyUnresolved f archive tables context limit [] = false
-anyUnresolved f archive tables context limit (l ∷ more) =
-    unresolvedIn (lookedUp f archive tables context limit l) || anyUnresolved f archive tables context limit more
+anyUnresolved f archive tables context until [] = false
+anyUnresolved f archive tables context until (l ∷ more) =
+    unresolvedIn (lookedUp f archive tables context until l) || anyUnresolved f archive tables context until more
 
 -- ---- words
 

@@ -11,13 +11,13 @@ use Rattle.indexing.proofs.choose.Tie as tie
 use Rattle.indexing.proofs.Frames.{chosen-none, chosen-turn}
 
 abbrev Inv-loop : tie.InvT-loop
-Inv-loop table₀ stretch s₀ table s = (s ≤ stretch) × (length table ≡ length table₀) × (table ≡ chosenTo stretch s table₀)
+Inv-loop table₀ stretch s₀ slots s = (s ≤ stretch) × (length slots ≡ length table₀) × (slots ≡ chosenTo stretch s table₀)
 
 abbrev μ-loop : tie.MeasureT-loop
-μ-loop table₀ stretch s₀ table s = stretch - s
+μ-loop table₀ stretch s₀ slots s = stretch - s
 
 loop-holds : tie.Need-loop-holds Inv-loop μ-loop
-loop-holds c = (search needs, refl, chosen-none (c .before .args .stretch) (c .before .args .table .now))
+loop-holds c = (search needs, refl, chosen-none (c .before .args .stretch) (c .before .args .slots .now))
 
 loop-again : tie.Need-loop-again Inv-loop μ-loop
 loop-again c =
@@ -25,7 +25,7 @@ loop-again c =
     let h = c .before .before .before .before .before .loop in (
       search needs,
       simp length-set (h .inv .1),
-      chosen-turn (a .stretch) (h .s) (a .table .now) (h .table) (c .choice .result) (c .before .before .before .before .loop-test .taken) (h .inv .2)
+      chosen-turn (a .stretch) (h .s) (a .slots .now) (h .slots) (c .choice .result) (c .before .before .before .before .loop-test .taken) (h .inv .2)
           (c .choice .ensures),
     )
 

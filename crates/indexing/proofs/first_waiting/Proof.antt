@@ -9,10 +9,10 @@ use Rattle.indexing.proofs.first_waiting.Tie as tie
 use Rattle.indexing.proofs.Settled.{none-waits}
 
 abbrev Inv-loop : tie.InvT-loop
-Inv-loop table stretch s₀ s = (s ≤ stretch - 18) × ((x : ℕ) → x < s → usesAt stretch table x ≡ 1 → ⊥)
+Inv-loop slots stretch s₀ s = (s ≤ stretch - 18) × ((x : ℕ) → x < s → usesAt stretch slots x ≡ 1 → ⊥)
 
 abbrev μ-loop : tie.MeasureT-loop
-μ-loop table stretch s₀ s = stretch - s
+μ-loop slots stretch s₀ s = stretch - s
 
 loop-holds : tie.Need-loop-holds Inv-loop μ-loop
 loop-holds c = (search needs, λ x low. absurd (omega arith))
@@ -24,7 +24,7 @@ loop-again : tie.Need-loop-again Inv-loop μ-loop
 loop-again c =
     let a = c .before .before .before .before .args in
     let h = c .before .before .before .loop in
-    (search needs, none-waits (a .stretch) (a .table .now) (h .s) (h .inv .1) (c .if1 .left))
+    (search needs, none-waits (a .stretch) (a .slots .now) (h .s) (h .inv .1) (c .if1 .left))
 
 returns-2 : tie.Need-returns-2 Inv-loop μ-loop
 returns-2 c =

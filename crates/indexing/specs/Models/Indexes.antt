@@ -21,47 +21,47 @@ choiceOf place label uses = pick (eqb place 0) 0 (pick (registers (streamWords (
 
 -- the table once the first so many words of the third stretch are choices
 unfoldable pub chosenTo : ℕ → ℕ → List ℕ → List ℕ
-chosenTo stretch zero table = table
-chosenTo stretch (suc s) table =
-    set (chosenTo stretch s table) (2 * stretch + s) (choiceOf (placeAt table s) (labelAt stretch table s) (usesAt stretch table s))
+chosenTo stretch zero slots = slots
+chosenTo stretch (suc s) slots =
+    set (chosenTo stretch s slots) (2 * stretch + s) (choiceOf (placeAt slots s) (labelAt stretch slots s) (usesAt stretch slots s))
 
 -- the index of the key whose slot is given, or 0
 abbrev pub indexAt : ℕ → List ℕ → Slot → ℕ
-indexAt stretch table (Here s) = usesAt stretch table s - 1
-indexAt stretch table (Free s) = 0
-indexAt stretch table Full = 0
+indexAt stretch slots (Here s) = usesAt stretch slots s - 1
+indexAt stretch slots (Free s) = 0
+indexAt stretch slots Full = 0
 
 unfoldable pub indexOf : List ℕ → ℕ → List ℕ → List ℕ → ℕ
-indexOf archive stretch table key = indexAt stretch table (findOf archive stretch table key)
+indexOf archive stretch slots key = indexAt stretch slots (findOf archive stretch slots key)
 
 -- the index that the key whose slot is given gets now, or 0
 abbrev pub newIndex : ℕ → List ℕ → ℕ → Slot → ℕ
-newIndex stretch table label (Here s) = pick (eqb (usesAt stretch table s) 1) (raised (countAt stretch table label)) 0
-newIndex stretch table label (Free s) = 0
-newIndex stretch table label Full = 0
+newIndex stretch slots label (Here s) = pick (eqb (usesAt stretch slots s) 1) (raised (countAt stretch slots label)) 0
+newIndex stretch slots label (Free s) = 0
+newIndex stretch slots label Full = 0
 
 -- the table after the next index of a label's mark was given to the key of a slot: the counter of the mark, and one more for the slot
 abbrev pub withIndex : ℕ → List ℕ → ℕ → ℕ → List ℕ
-withIndex stretch table label s =
-    let index = raised (countAt stretch table label) in
-    set (set table (counterAt stretch (label / 65536)) index) (2 * stretch + s) (raised index)
+withIndex stretch slots label s =
+    let index = raised (countAt stretch slots label) in
+    set (set slots (counterAt stretch (label / 65536)) index) (2 * stretch + s) (raised index)
 
 -- the table after the index that the key whose slot is given gets now
 abbrev pub indexed : ℕ → List ℕ → ℕ → Slot → List ℕ
-indexed stretch table label (Here s) = pick (eqb (usesAt stretch table s) 1) (withIndex stretch table label s) table
-indexed stretch table label (Free s) = table
-indexed stretch table label Full = table
+indexed stretch slots label (Here s) = pick (eqb (usesAt stretch slots s) 1) (withIndex stretch slots label s) slots
+indexed stretch slots label (Free s) = slots
+indexed stretch slots label Full = slots
 
 -- once the uses are counted: each key that was used is found, at a slot of its own with the choice and index given; no other key is found;
 -- and each mark's counter has the number given
-pub record Indexes (archive : List ℕ) (stretch : ℕ) (table : List ℕ) (us : List (List ℕ)) (chosen : List ℕ → Bool) (index : List ℕ → ℕ) (given : ℕ → ℕ)
+pub record Indexes (archive : List ℕ) (stretch : ℕ) (slots : List ℕ) (us : List (List ℕ)) (chosen : List ℕ → Bool) (index : List ℕ → ℕ) (given : ℕ → ℕ)
     : Type 0 where
-  pub wide : Wide stretch table
+  pub wide : Wide stretch slots
   pub found : (key : List ℕ) → 0 < count sameBytes key us
-      → (s : ℕ) × (s < stretch - 18) × (findOf archive stretch table key ≡ Here s) × (usesAt stretch table s ≡ cond (chosen key) (1 + index key) 0)
-  pub missing : (key : List ℕ) → count sameBytes key us ≡ 0 → (s : ℕ) → findOf archive stretch table key ≡ Here s → ⊥
-  pub apart : (a b : List ℕ) (s : ℕ) → findOf archive stretch table a ≡ Here s → findOf archive stretch table b ≡ Here s → a ≡ b
-  pub counters : (mark : ℕ) → mark < 18 → getD table (counterAt stretch mark) 0 ≡ given mark
+      → (s : ℕ) × (s < stretch - 18) × (findOf archive stretch slots key ≡ Here s) × (usesAt stretch slots s ≡ cond (chosen key) (1 + index key) 0)
+  pub missing : (key : List ℕ) → count sameBytes key us ≡ 0 → (s : ℕ) → findOf archive stretch slots key ≡ Here s → ⊥
+  pub apart : (a b : List ℕ) (s : ℕ) → findOf archive stretch slots a ≡ Here s → findOf archive stretch slots b ≡ Here s → a ≡ b
+  pub counters : (mark : ℕ) → mark < 18 → getD slots (counterAt stretch mark) 0 ≡ given mark
 
 -- a key that was used as often as this is registered or not
 abbrev pub chosenKey : List (List ℕ) → List ℕ → Bool
@@ -69,9 +69,9 @@ chosenKey us key = registers (keyWords key) (count sameBytes key us)
 
 -- no key waits: none that is to be registered has no index yet
 abbrev pub Settled : ℕ → List ℕ → Type 0
-Settled stretch table = (s : ℕ) → s < stretch - 18 → usesAt stretch table s ≡ 1 → ⊥
+Settled stretch slots = (s : ℕ) → s < stretch - 18 → usesAt stretch slots s ≡ 1 → ⊥
 
 -- a slot whose key waits, or no slot, where none does
-pub record Waiting (stretch : ℕ) (table : List ℕ) (slot : ℕ) : Type 0 where
-  pub waits : slot < stretch → (slot < stretch - 18) × (usesAt stretch table slot ≡ 1)
-  pub settled : stretch ≤ slot → Settled stretch table
+pub record Waiting (stretch : ℕ) (slots : List ℕ) (slot : ℕ) : Type 0 where
+  pub waits : slot < stretch → (slot < stretch - 18) × (usesAt stretch slots slot ≡ 1)
+  pub settled : stretch ≤ slot → Settled stretch slots

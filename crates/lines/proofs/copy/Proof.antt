@@ -4,21 +4,21 @@ use mathlib.Core.Path.{_≡_, refl, ap, _∙_}
 use mathlib.Core.List.{List}
 use lib.ListN.{length, set, getD, take, length-set}
 use native.Mathlib.Omega.{arith}
-use Rattle.words.specs.Stream.{written}
-use Rattle.words.proofs.Streams.{none-written}
+use Rattle.words.specs.Stream.{overwritten}
+use Rattle.words.proofs.Streams.{none-overwritten}
 use Rattle.lines.proofs.Puts.{more-copied}
 use borrow.Author.Needs.{needs}
 use Rattle.lines.proofs.copy.Statement.{statement}
 use Rattle.lines.proofs.copy.Tie as tie
 
 abbrev Inv-loop : tie.InvT-loop
-Inv-loop out₀ at bytes n i₀ out i = (i ≤ n) × (length out ≡ length out₀) × (out ≡ written out₀ at (take i bytes))
+Inv-loop out₀ at bytes n i₀ out i = (i ≤ n) × (length out ≡ length out₀) × (out ≡ overwritten out₀ at (take i bytes))
 
 abbrev μ-loop : tie.MeasureT-loop
 μ-loop out₀ at bytes n i₀ out i = n - i
 
 loop-holds : tie.Need-loop-holds Inv-loop μ-loop
-loop-holds c = (search needs, refl, none-written (c .args .out .now) (c .args .at) (c .args .bytes .now))
+loop-holds c = (search needs, refl, none-overwritten (c .args .out .now) (c .args .at) (c .args .bytes .now))
 
 loop-again : tie.Need-loop-again Inv-loop μ-loop
 loop-again c =
@@ -35,7 +35,7 @@ returns c =
     let h = c .before .loop in
     let a = c .before .before .args in
     let all : h .i ≡ a .n = omega arith in
-    h .inv .2 ∙ ap (λ (i : ℕ). written (a .out .now) (a .at) (take i (a .bytes .now))) all
+    h .inv .2 ∙ ap (λ (i : ℕ). overwritten (a .out .now) (a .at) (take i (a .bytes .now))) all
 
 pub copy-spec : {M : Type 1} → statement M
 copy-spec =

@@ -20,22 +20,22 @@ use Rattle.reader.specs.Reads.{textItem, referentItem, streamItem, providerItem
 
 -- what a reference of a record stands for in a context
 abbrev pub referentAt : Format → List ℕ → List ℕ → ℕ → ℕ → Lookup → Referent
-referentAt f archive tables context limit l = referentItem archive (shownReferent archive (l .table) (lookedUp f archive tables context limit l))
+referentAt f archive tables context until l = referentItem archive (shownReferent archive (l .table) (lookedUp f archive tables context until l))
 
 -- what a text reference does
 abbrev pub textAt : Format → List ℕ → List ℕ → ℕ → ℕ → Reference → Text
-textAt f archive tables context limit reference = textItem archive (shownText (resolved f archive tables context 2 limit reference))
+textAt f archive tables context until reference = textItem archive (shownText (resolved f archive tables context 2 until reference))
 
 -- an argument that was read
 abbrev pub argumentAt : Format → List ℕ → List ℕ → ℕ → ℕ → ArgumentRead → Argument
-argumentAt f archive tables context limit a = record {
-  name = textAt f archive tables context limit (a .name);
-  value = valueItem archive (shownValue f archive tables context limit (a .value));
+argumentAt f archive tables context until a = record {
+  name = textAt f archive tables context until (a .name);
+  value = valueItem archive (shownValue f archive tables context until (a .value));
 }
 
 abbrev pub argumentsAt : Format → List ℕ → List ℕ → ℕ → ℕ → List ArgumentRead → List Argument
-argumentsAt f archive tables context limit [] = []
-argumentsAt f archive tables context limit (a ∷ l) = argumentAt f archive tables context limit a ∷ argumentsAt f archive tables context limit l
+argumentsAt f archive tables context until [] = []
+argumentsAt f archive tables context until (a ∷ l) = argumentAt f archive tables context until a ∷ argumentsAt f archive tables context until l
 
 -- a record that refers to texts and threads and ends at `next`
 unfoldable pub reportAt : Format → List ℕ → List ℕ → State → ReadReport → ℕ → Report

@@ -14,11 +14,11 @@ use Rattle.reader.proofs.arguments_found.Statement.{statement}
 use Rattle.reader.proofs.arguments_found.Tie as tie
 
 abbrev Inv-loop : tie.InvT-loop
-Inv-loop f archive tables context limit part place count rest₀ at₀ left₀ rest at left = (noneBad f archive tables context limit (argumentLookups (argumentsRead f count part place))
-    ≡ noneBad f archive tables context limit (argumentLookups (argumentsRead f left rest at))) × (at + length rest ≡ place + length part)
+Inv-loop f archive tables context until part place count rest₀ at₀ left₀ rest at left = (noneBad f archive tables context until (argumentLookups (argumentsRead f count part place))
+    ≡ noneBad f archive tables context until (argumentLookups (argumentsRead f left rest at))) × (at + length rest ≡ place + length part)
 
 abbrev μ-loop : tie.MeasureT-loop
-μ-loop f archive tables context limit part place count rest₀ at₀ left₀ rest at left = left
+μ-loop f archive tables context until part place count rest₀ at₀ left₀ rest at left = left
 
 loop-holds : tie.Need-loop-holds Inv-loop μ-loop
 loop-holds c = (refl, refl)
@@ -28,7 +28,7 @@ returns c =
     let loop′ = c .before .before .before .before .loop in
     let given′ = c .before .before .before .before .before .before .before .before .args in
     sym (loop′ .inv .0 ∙ found-turn (given′ .f) (given′ .archive .now) (given′ .tables .now)
-    (given′ .context) (given′ .limit) (loop′ .left) (loop′ .rest .now) (loop′ .at) (c .before .before .before .loop-test .taken) ∙ simp (
+    (given′ .context) (given′ .until) (loop′ .left) (loop′ .rest .now) (loop′ .at) (c .before .before .before .loop-test .taken) ∙ simp (
       ← c .before .before .texts-of .ensures,
       c .enum-told .given .1,
     ))
@@ -40,7 +40,7 @@ returns-2 c =
     let loop-test = c .before .before .before .before .before .before .before .loop-test in
     let loop′ = c .before .before .before .before .before .before .before .before .loop in
     let given′ = c .before .before .before .before .before .before .before .before .before .before .before .before .args in
-    sym (loop′ .inv .0 ∙ found-turn (given′ .f) (given′ .archive .now) (given′ .tables .now) (given′ .context) (given′ .limit) (loop′ .left)
+    sym (loop′ .inv .0 ∙ found-turn (given′ .f) (given′ .archive .now) (given′ .tables .now) (given′ .context) (given′ .until) (loop′ .left)
     (loop′ .rest .now) (loop′ .at) (loop-test .taken) ∙ simp (
       ← texts-of .ensures,
       texts .given .1,
@@ -58,7 +58,7 @@ returns-3 c =
     let loop-test = c .before .before .before .before .before .before .before .before .before .before .loop-test in
     let loop′ = c .before .before .before .before .before .before .before .before .before .before .before .loop in
     let given′ = c .before .before .before .before .before .before .before .before .before .before .before .before .before .before .before .args in
-    sym (loop′ .inv .0 ∙ found-turn (given′ .f) (given′ .archive .now) (given′ .tables .now) (given′ .context) (given′ .limit) (loop′ .left)
+    sym (loop′ .inv .0 ∙ found-turn (given′ .f) (given′ .archive .now) (given′ .tables .now) (given′ .context) (given′ .until) (loop′ .left)
     (loop′ .rest .now) (loop′ .at) (loop-test .taken) ∙ simp (
       ← texts-of .ensures,
       texts .given .1,
@@ -110,7 +110,7 @@ loop-again c =
     let s = texts-inside (given′ .f) (loop′ .rest .now) (loop′ .at) (texts .given .0 .0) (texts .given .0 .1 .0) (texts .given .0 .1 .1 .0) (sym
     (texts-of .ensures) ∙ texts .given .1) in (
       loop′ .inv .0 ∙ found-turn (given′ .f) (given′ .archive .now) (given′ .tables .now) (given′ .context)
-          (given′ .limit) (loop′ .left) (loop′ .rest .now) (loop′ .at) (loop-test .taken) ∙ simp (
+          (given′ .until) (loop′ .left) (loop′ .rest .now) (loop′ .at) (loop-test .taken) ∙ simp (
             ← texts-of .ensures,
             texts .given .1,
             ← resolve .ensures,

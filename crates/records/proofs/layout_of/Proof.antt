@@ -7,11 +7,12 @@ use Rattle.records.proofs.layout_of.Tie as tie
 returns : tie.Need-returns
 unfolding layoutOf
 returns c =
+    let is-event = c .before .before .before .before .before .before .is-event in
     let field2 = c .before .before .before .before .field2 in
     let field = c .before .before .before .before .before .field in
-    simp (← c .extra-words .ensures, ← c .before .field5 .ensures, ← c .before .before .field4 .ensures, ← c .before .before .before .field3 .ensures, ← field2 .ensures, ← field .ensures)
+    simp (← is-event .ensures, ← c .extra-words .ensures, ← c .before .field5 .ensures, ← c .before .before .field4 .ensures, ← c .before .before .before .field3 .ensures, ← field2 .ensures, ← field .ensures)
 
 pub layout-of-spec : {M : Type 1} → statement M
 layout-of-spec =
     tie.close (tie.spec (λ c κs. search needs) (λ c κs. search needs) (λ c κs. search needs) (λ c κs. search needs) (λ c κs. search needs)
-    (λ c κs. search needs) returns)
+    (λ c κs. search needs) (λ c κs. search needs) returns)

@@ -1,7 +1,7 @@
 -- `records::take_fields` meets its contract: each answer is what the leading words and the two pairs give. Assumes nothing.
 use native.Mathlib.Omega.{arith}
 use mathlib.Core.Path.{sym, _∙_}
-use Rattle.records.proofs.Layouts.{words-taken, fields-by-pairs, pair-moves}
+use Rattle.records.proofs.Layouts.{reference-fits, stream-fits, words-taken, fields-by-pairs, pair-moves}
 use borrow.Author.Needs.{needs}
 use Rattle.records.proofs.take_fields.Statement.{statement}
 use Rattle.records.proofs.take_fields.Tie as tie
@@ -17,7 +17,7 @@ take-pair-requires c κs =
     let leading = c .before .leading2 .given in
     let moved = words-taken (a .f) (a .layout .words) (a .place) (a .end) (leading .0 .0) (leading .0 .1 .0) (p .1)
     (sym (c .before .before .before .take-words .ensures) ∙ leading .1) in
-    (p .0 .first, p .0 .second, omega (arith, moved .1), p .2)
+    (reference-fits (a .layout .first) (p .0 .first), reference-fits (a .layout .second) (p .0 .second), omega (arith, moved .1), p .2)
 
 take-pair-requires-2 : tie.Need-take-pair-requires-2
 take-pair-requires-2 c κs =
@@ -31,7 +31,7 @@ take-pair-requires-2 c κs =
     (sym (words .before .before .take-words .ensures) ∙ leading .1) in
     let behind = pair-moves (a .f) (a .layout .first) (a .layout .second) (leading .0 .1 .0) (a .end) (pair .0 .0) (pair .0 .1 .0) (pair .0 .1 .1 .0)
     (omega (arith, moved .1)) (sym (c .before .before .before .take-pair .ensures) ∙ pair .1) in
-    (p .0 .third, p .0 .stream, behind, p .2)
+    (reference-fits (a .layout .third) (p .0 .third), stream-fits (a .layout .stream) (p .0 .stream), behind, p .2)
 
 returns : tie.Need-returns
 returns c =

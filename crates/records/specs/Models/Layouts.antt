@@ -5,9 +5,8 @@ use lib.ListN.{drop}
 use Rattle.format.specs.declared.Format.{Format}
 use Rattle.format.specs.declared.Reference.{Reference}
 use Rattle.format.specs.declared.Part.{Part}
-use Rattle.format.specs.declared.Part.the-variants.{Words as words, Stream as stream}
+use Rattle.format.specs.declared.Part.the-variants.{Words as words, Stream as stream, Text as text, Thread as thread}
 use Rattle.format.specs.Part.{Body, refused, body, takeParts, part}
-use Rattle.format.specs.Models.Bounds.{PartFits}
 use Rattle.arguments.specs.declared.Argument.{Argument}
 use Rattle.arguments.specs.Argument.{argumentsOf}
 use Rattle.arguments.specs.Models.Reading.{listed}
@@ -16,13 +15,28 @@ use Rattle.records.specs.declared.Layout.{Layout}
 use Rattle.records.specs.declared.Pair.{Pair}
 use Rattle.records.specs.declared.Pair.the-variants.{Refused as PairRefused, Pair as PairRead}
 
+-- a part that is a reference, and fits its field of a header
+abbrev pub ReferenceFits : Part → Type 0
+ReferenceFits (words n) = ⊥
+ReferenceFits (stream n) = ⊥
+ReferenceFits (text reference) = reference < 2 ^ 16
+ReferenceFits (thread reference) = reference < 2 ^ 8
+
+-- a part that is a stream, and fits its field
+abbrev pub StreamFits : Part → Type 0
+StreamFits (words n) = ⊥
+StreamFits (stream n) = n < 2 ^ 32
+StreamFits (text reference) = ⊥
+StreamFits (thread reference) = ⊥
+
 -- the numbers of a layout fit the fields of a header
 pub record LayoutFits (l : Layout) : Type 0 where
   pub words : l .words < 2 ^ 32
-  pub first : PartFits (l .first)
-  pub second : PartFits (l .second)
-  pub third : PartFits (l .third)
-  pub stream : PartFits (l .stream)
+  pub first : ReferenceFits (l .first)
+  pub second : ReferenceFits (l .second)
+  pub third : ReferenceFits (l .third)
+  pub stream : StreamFits (l .stream)
+  pub few : l .count ≤ 15
   pub behind : l .behind ≤ 1
 
 -- two parts of a body

@@ -38,7 +38,7 @@ put-scalar-argument-requires c κs =
     let p = c .before .before .before .before .before .before .before .before .before .pre in
     let tables = tablesIn (a .f) (a .room .now) in
     let slots = slotsIn (a .f) (a .room .now) in
-    let whole = scalar-argument (a .f) (a .archive .now) tables slots (a .context) (a .limit) (a .argument) (spell′ .result)
+    let whole = scalar-argument (a .f) (a .archive .now) tables slots (a .context) (a .until) (a .argument) (spell′ .result)
     (text′ .result .now) (value′ .given .0 .0) (spell′ .ensures) (text′ .ensures) (value′ .given .1) in
     let fit = p .0 .1 in
     let name = subst (TextShort (a .archive .now)) (sym (spell′ .ensures)) (fit .name .text refl) in (
@@ -74,7 +74,7 @@ put-text-argument-requires c κs =
     let p = deep .before .pre in
     let tables = tablesIn (a .f) (a .room .now) in
     let slots = slotsIn (a .f) (a .room .now) in
-    let whole = text-argument (a .f) (a .archive .now) tables slots (a .context) (a .limit) (a .argument) (spell′ .result) (spell2′ .result)
+    let whole = text-argument (a .f) (a .archive .now) tables slots (a .context) (a .until) (a .argument) (spell′ .result) (spell2′ .result)
     (text′ .result .now) (text2′ .result .now) (value2′ .given .0 .0) (spell′ .ensures) (text′ .ensures) (spell2′ .ensures) (text2′ .ensures)
     (value2′ .given .1) in
     let fit = p .0 .1 in
@@ -99,7 +99,7 @@ returns c =
     let put-scalar-argument′ = c .before .before .put-scalar-argument in
     let tables = tablesIn (a .f) (a .room .now) in
     let slots = slotsIn (a .f) (a .room .now) in
-    rw (scalar-argument (a .f) (a .archive .now) tables slots (a .context) (a .limit) (a .argument) (spell′ .result)
+    rw (scalar-argument (a .f) (a .archive .now) tables slots (a .context) (a .until) (a .argument) (spell′ .result)
     (text′ .result .now) (value′ .given .0 .0) (spell′ .ensures) (text′ .ensures) (value′ .given .1))
     (put-scalar-argument′ .ensures)
 
@@ -120,7 +120,7 @@ returns-2 c =
     let put-text-argument′ = c .before .before .put-text-argument in
     let tables = tablesIn (a .f) (a .room .now) in
     let slots = slotsIn (a .f) (a .room .now) in
-    rw (text-argument (a .f) (a .archive .now) tables slots (a .context) (a .limit) (a .argument) (spell′ .result) (spell2′ .result)
+    rw (text-argument (a .f) (a .archive .now) tables slots (a .context) (a .until) (a .argument) (spell′ .result) (spell2′ .result)
     (text′ .result .now) (text2′ .result .now) (value2′ .given .0 .0) (spell′ .ensures) (text′ .ensures) (spell2′ .ensures) (text2′ .ensures)
     (value2′ .given .1))
     (put-text-argument′ .ensures)

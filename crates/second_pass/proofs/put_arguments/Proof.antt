@@ -18,19 +18,19 @@ use Rattle.arguments.proofs.argument_of.Reads as argument-of-reads
 use Rattle.second_pass.proofs.put_argument.Reads as put-argument-reads
 
 abbrev Inv-loop : tie.InvT-loop
-Inv-loop f archive room out₀ start context limit part place count rest₀ from₀ left₀ at₀ out rest from left at =
-    Walk f archive (tablesIn f room) (slotsIn f room) context limit (argumentsRead f count part place) out₀ start (argumentsRead f left rest from) out at
+Inv-loop f archive room out₀ start context until part place count rest₀ from₀ left₀ at₀ out rest from left at =
+    Walk f archive (tablesIn f room) (slotsIn f room) context until (argumentsRead f count part place) out₀ start (argumentsRead f left rest from) out at
     × (from + length rest ≡ place + length part)
 
 abbrev μ-loop : tie.MeasureT-loop
-μ-loop f archive room out₀ start context limit part place count rest₀ from₀ left₀ at₀ out rest from left at = left
+μ-loop f archive room out₀ start context until part place count rest₀ from₀ left₀ at₀ out rest from left at = left
 
 -- src/lib.rt:334:5
 loop-holds : tie.Need-loop-holds Inv-loop μ-loop
 loop-holds c =
     let a = c .before .before .before .before .args in
     let p = c .before .before .before .before .pre in (
-      walk-starts (a .f) (a .archive .now) (tablesIn (a .f) (a .room .now)) (slotsIn (a .f) (a .room .now)) (a .context) (a .limit)
+      walk-starts (a .f) (a .archive .now) (tablesIn (a .f) (a .room .now)) (slotsIn (a .f) (a .room .now)) (a .context) (a .until)
           (argumentsRead (a .f) (a .count) (a .part .now) (a .place)) (a .out .now) (a .start) (p .0 .1) (p .1 .1),
       refl,
     )

@@ -1,6 +1,6 @@
 -- `put_header` meets its contract: the references and the length that are put are those of what is spelled (spelled-header).
 use mathlib.Core.Path.{ap, _∙_}
-use Rattle.words.specs.Stream.{written}
+use Rattle.words.specs.Stream.{overwritten}
 use Rattle.second_pass.proofs.Putting.{spelled-header}
 use borrow.Author.Needs.{needs}
 use Rattle.second_pass.proofs.put_header.Statement.{statement}
@@ -17,7 +17,7 @@ returns c =
     let bytes = c .before .before .before .stream-bytes in
     let header = spelled-header (a .archive .now) (a .size) (a .report) (a .first) (a .second) (a .third) (one .result) (two .result) (three .result)
     (bytes .result .now) (one .ensures) (two .ensures) (three .ensures) (bytes .ensures) in
-    (put .0 ∙ ap (written (a .out .now) (a .at)) header, put .1)
+    (put .0 ∙ ap (overwritten (a .out .now) (a .at)) header, put .1)
 
 pub put-header-spec : {M : Type 1} → statement M
 put-header-spec =

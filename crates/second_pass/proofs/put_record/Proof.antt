@@ -6,7 +6,7 @@ use Prim.Native.Nat.{ℕ, _+_, _≤_}
 use native.Mathlib.Omega.{arith}
 use lib.ListN.{length, take-append-drop, length-append}
 use Rattle.passes.specs.Models.Item.{plainItem}
-use Rattle.words.specs.Stream.{written}
+use Rattle.words.specs.Stream.{overwritten}
 use Rattle.tables.specs.Table.{tableWords}
 use Rattle.records.specs.declared.Content.{Content}
 use Rattle.records.proofs.Lookups.{other-arm}
@@ -90,7 +90,7 @@ returns-2 c =
     let slots-are : contentSlots (a .f) (a .archive .now) tables slots (a .s) (a .content) (a .next) ≡ slots = other-arm (a .content) slots _ other in (
       sym (take-append-drop (tableWords (a .f)) (a .room .now)) ∙ ap (λ (x : List ℕ). tables ++ x) (sym slots-are),
       (
-        put .0 ∙ ap (λ (x : List ℕ). written (a .out .now) (a .at) x) (sym bytes-are),
+        put .0 ∙ ap (λ (x : List ℕ). overwritten (a .out .now) (a .at) x) (sym bytes-are),
         put .1 ∙ ap (λ (x : List ℕ). a .at + length x) (sym bytes-are),
       ),
     )

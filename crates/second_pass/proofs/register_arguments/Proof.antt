@@ -19,20 +19,20 @@ use Rattle.arguments.proofs.texts_of.Reads as texts-of-reads
 use Rattle.second_pass.proofs.register_lookup.Reads as register-lookup-reads
 
 abbrev Inv-loop : tie.InvT-loop
-Inv-loop f archive room₀ out₀ start context limit part place count rest₀ from₀ left₀ at₀ room out rest from left at =
-    Registering f archive context limit (argumentLookups (argumentsRead f count part place)) room₀ out₀ start
+Inv-loop f archive room₀ out₀ start context until part place count rest₀ from₀ left₀ at₀ room out rest from left at =
+    Registering f archive context until (argumentLookups (argumentsRead f count part place)) room₀ out₀ start
     (argumentLookups (argumentsRead f left rest from)) room out at
     × (from + length rest ≡ place + length part)
 
 abbrev μ-loop : tie.MeasureT-loop
-μ-loop f archive room₀ out₀ start context limit part place count rest₀ from₀ left₀ at₀ room out rest from left at = left
+μ-loop f archive room₀ out₀ start context until part place count rest₀ from₀ left₀ at₀ room out rest from left at = left
 
 -- src/lib.rt:127:5
 loop-holds : tie.Need-loop-holds Inv-loop μ-loop
 loop-holds c =
     let a = c .before .before .before .before .args in
     let p = c .before .before .before .before .pre in (
-      registering-starts (a .f) (a .archive .now) (a .context) (a .limit) (argumentLookups (argumentsRead (a .f) (a .count) (a .part .now) (a .place)))
+      registering-starts (a .f) (a .archive .now) (a .context) (a .until) (argumentLookups (argumentsRead (a .f) (a .count) (a .part .now) (a .place)))
           (a .room .now) (a .out .now) (a .start) (p .0 .1) (p .1 .1),
       refl,
     )

@@ -83,8 +83,8 @@ returns c =
     let resolve′ = c .before .before .before .before .resolve in
     let if1′ = c .if1 in
     let l = a .lookup in
-    let r = lookedUp (a .f) (a .archive .now) (tablesIn (a .f) (a .room .now)) (a .context) (a .limit) l in
-    one-registered (a .f) (a .archive .now) (a .room .now) (a .out .now) (a .at) (a .context) (a .limit) l _ _ _
+    let r = lookedUp (a .f) (a .archive .now) (tablesIn (a .f) (a .room .now)) (a .context) (a .until) l in
+    one-registered (a .f) (a .archive .now) (a .room .now) (a .out .now) (a .at) (a .context) (a .until) l _ _ _
     (given-empty (a .f) (a .archive .now) (a .room .now) (a .out .now) (a .at) (a .context) (l .table) r (resolved′ .given .0 .0)
     (resolved′ .given .0 .1 .0) (rw (table-words′ .ensures) at (sym (resolve′ .ensures) ∙ resolved′ .given .1)) (if1′ .taken))
 
@@ -100,7 +100,7 @@ label-of-requires c κs =
     let fits = p .0 .0 in
     let can = p .0 .1 .0 .0 in
     let known = subst KnownFits (sym (resolve′ .ensures) ∙ resolved′ .given .1)
-    (reference-fits (a .f) (a .archive .now) (take (table-words′ .result) (a .room .now)) (a .context) (a .lookup .table) (a .limit)
+    (reference-fits (a .f) (a .archive .now) (take (table-words′ .result) (a .room .now)) (a .context) (a .lookup .table) (a .until)
     (a .lookup .reference) (can .reference) (fits .short)) in
     (fits .low, can .low, can .high, known .1)
 
@@ -134,7 +134,7 @@ give-index-requires c κs =
     let fits = p .0 .0 in
     let can = p .0 .1 .0 .0 in
     let known = subst KnownFits (sym (resolve′ .ensures) ∙ resolved′ .given .1)
-    (reference-fits (a .f) (a .archive .now) (take (table-words′ .result) (a .room .now)) (a .context) (a .lookup .table) (a .limit)
+    (reference-fits (a .f) (a .archive .now) (take (table-words′ .result) (a .room .now)) (a .context) (a .lookup .table) (a .until)
     (a .lookup .reference) (can .reference) (fits .short)) in (
       slots-wide (a .f) (table-words′ .result) (a .room .now) (fits .limits) (table-words′ .ensures) (fits .wide),
       omega (arith, label-of′ .ensures, known .1, fits .low, can .low, can .high),
@@ -158,7 +158,7 @@ put-registration-requires c κs =
     let if1′ = c .before .before .before .before .before .before .before .if1 in
     let p = deep .before .before .before .before .before .before .before .pre in
     let l = a .lookup in
-    let r = lookedUp (a .f) (a .archive .now) (tablesIn (a .f) (a .room .now)) (a .context) (a .limit) l in
+    let r = lookedUp (a .f) (a .archive .now) (tablesIn (a .f) (a .room .now)) (a .context) (a .until) l in
     let slots = slotsIn (a .f) (a .room .now) in
     let given = rw (part-from (table-words′ .result) (a .room .now), table-words′ .ensures) at (give-index′ .ensures) in
     let bytes = givenBytes (a .f) (a .archive .now) slots (a .context) (l .table) r in
@@ -184,8 +184,8 @@ returns-2 c =
     let resolve′ = c .before .before .resolve in
     let enum-told′ = c .enum-told in
     let l = a .lookup in
-    let r = lookedUp (a .f) (a .archive .now) (tablesIn (a .f) (a .room .now)) (a .context) (a .limit) l in
-    one-registered (a .f) (a .archive .now) (a .room .now) (a .out .now) (a .at) (a .context) (a .limit) l _ _ _
+    let r = lookedUp (a .f) (a .archive .now) (tablesIn (a .f) (a .room .now)) (a .context) (a .until) l in
+    one-registered (a .f) (a .archive .now) (a .room .now) (a .out .now) (a .at) (a .context) (a .until) l _ _ _
     (given-bad (a .f) (a .archive .now) (a .room .now) (a .out .now) (a .at) (a .context) (l .table) r
     (rw (table-words′ .ensures) at (sym (resolve′ .ensures) ∙ enum-told′ .given .1)))
 
@@ -201,8 +201,8 @@ returns-3 c =
     let resolve′ = c .before .before .resolve in
     let enum-told2′ = c .enum-told2 in
     let l = a .lookup in
-    let r = lookedUp (a .f) (a .archive .now) (tablesIn (a .f) (a .room .now)) (a .context) (a .limit) l in
-    one-registered (a .f) (a .archive .now) (a .room .now) (a .out .now) (a .at) (a .context) (a .limit) l _ _ _
+    let r = lookedUp (a .f) (a .archive .now) (tablesIn (a .f) (a .room .now)) (a .context) (a .until) l in
+    one-registered (a .f) (a .archive .now) (a .room .now) (a .out .now) (a .at) (a .context) (a .until) l _ _ _
     (given-unresolved (a .f) (a .archive .now) (a .room .now) (a .out .now) (a .at) (a .context) (l .table) r _
     (rw (table-words′ .ensures) at (sym (resolve′ .ensures) ∙ enum-told2′ .given .1)))
 
@@ -229,11 +229,11 @@ returns-4 c =
     let if1′ = deep .if1 in
     let put-registration′ = c .before .before .put-registration in
     let l = a .lookup in
-    let r = lookedUp (a .f) (a .archive .now) (tablesIn (a .f) (a .room .now)) (a .context) (a .limit) l in
+    let r = lookedUp (a .f) (a .archive .now) (tablesIn (a .f) (a .room .now)) (a .context) (a .until) l in
     let n = table-words′ .result in
     let slots = give-index′ .last .1 .0 in
     let given = rw (part-from n (a .room .now), table-words′ .ensures) at (give-index′ .ensures) in
-    one-registered (a .f) (a .archive .now) (a .room .now) (a .out .now) (a .at) (a .context) (a .limit) l _ _ _
+    one-registered (a .f) (a .archive .now) (a .room .now) (a .out .now) (a .at) (a .context) (a .until) l _ _ _
     (given-known (a .f) (a .archive .now) (a .room .now) (a .out .now) (a .at) (a .context) (l .table) r (resolved′ .given .0 .0)
     (resolved′ .given .0 .1 .0) (label-of′ .result) (give-index′ .result) (text′ .result .now) slots _ _ _
     (record {

@@ -63,7 +63,7 @@ label-of-requires c κs =
     let resolved2′ = c .before .resolved2 in
     let fits = p .0 in
     let can = p .1 in
-    let known = reference-fits (a .f) (a .archive .now) (take (table-words′ .result) (a .room .now)) (a .context) (a .lookup .table) (a .limit)
+    let known = reference-fits (a .f) (a .archive .now) (take (table-words′ .result) (a .room .now)) (a .context) (a .lookup .table) (a .until)
     (a .lookup .reference) (can .reference) (fits .short) in
     (fits .low, can .low, can .high, subst KnownFits (sym (resolve′ .ensures) ∙ resolved2′ .given .1) known .1)
 
@@ -96,7 +96,7 @@ index-of-requires c κs =
     let label-of′ = c .before .label-of in
     let fits = p .0 in
     let can = p .1 in
-    let known = reference-fits (a .f) (a .archive .now) (take (table-words′ .result) (a .room .now)) (a .context) (a .lookup .table) (a .limit)
+    let known = reference-fits (a .f) (a .archive .now) (take (table-words′ .result) (a .room .now)) (a .context) (a .lookup .table) (a .until)
     (a .lookup .reference) (can .reference) (fits .short) in
     let low = subst KnownFits (sym (resolve′ .ensures) ∙ resolved2′ .given .1) known .1 in (
       slots-wide (a .f) (table-words′ .result) (a .room .now) (fits .limits) (table-words′ .ensures) (fits .wide),

@@ -8,7 +8,7 @@ use Rattle.passes.specs.Models.Known.{ReferenceFits}
 use Rattle.passes.specs.Models.Item.{plainItem}
 use Rattle.tables.specs.Models.Entries.{FormatFits}
 use Rattle.words.specs.Stream.{streamWords}
-use Rattle.encoding.specs.Part.{FieldsFit}
+use Rattle.encoding.specs.Models.Part.{FieldsFit}
 use Rattle.format.specs.declared.Format.{Format}
 use Rattle.format.specs.Limits.{smallFormat}
 use Rattle.arguments.specs.declared.Value.{Value}
@@ -63,15 +63,15 @@ pub record CanLookUp (l : Lookup) : Type 0 where
   pub reference : ReferenceFits (l .reference)
 
 -- the registrations of what references stand for, one after the other
-abbrev pub LookupsGivenFit : Format → (archive tables : List ℕ) → (context limit : ℕ) → List ℕ → List Lookup → Type 0
-LookupsGivenFit f archive tables context limit slots [] = Unit {0}
-LookupsGivenFit f archive tables context limit slots (l ∷ more) =
-    (CanLookUp l × GivenFits f archive slots context (l .table) (lookedUp f archive tables context limit l))
-    × LookupsGivenFit f archive tables context limit
-    (givenSlots f archive slots context (l .table) (lookedUp f archive tables context limit l)) more
+abbrev pub LookupsGivenFit : Format → (archive tables : List ℕ) → (context until : ℕ) → List ℕ → List Lookup → Type 0
+LookupsGivenFit f archive tables context until slots [] = Unit {0}
+LookupsGivenFit f archive tables context until slots (l ∷ more) =
+    (CanLookUp l × GivenFits f archive slots context (l .table) (lookedUp f archive tables context until l))
+    × LookupsGivenFit f archive tables context until
+    (givenSlots f archive slots context (l .table) (lookedUp f archive tables context until l)) more
 
-abbrev pub LookupsFitIn : Format → (archive room : List ℕ) → (context limit : ℕ) → List Lookup → Type 0
-LookupsFitIn f archive room context limit ls = LookupsGivenFit f archive (tablesIn f room) context limit (slotsIn f room) ls
+abbrev pub LookupsFitIn : Format → (archive room : List ℕ) → (context until : ℕ) → List Lookup → Type 0
+LookupsFitIn f archive room context until ls = LookupsGivenFit f archive (tablesIn f room) context until (slotsIn f room) ls
 
 -- ---- references
 
@@ -84,10 +84,10 @@ abbrev pub TextShort : List ℕ → Spelled → Type 0
 TextShort archive p = (p .index < 2 ^ 15) × (length (spelledBytes archive p) < 2 ^ 15)
 
 -- a reference that is spelled so
-pub record SpelledFits (f : Format) (archive tables slots : List ℕ) (context limit : ℕ) (l : Lookup) : Type 0 where
+pub record SpelledFits (f : Format) (archive tables slots : List ℕ) (context until : ℕ) (l : Lookup) : Type 0 where
   pub can : CanLookUp l
-  pub text : l .table ≡ 2 → TextShort archive (spelledLookup f archive tables slots context limit l)
-  pub thread : SpelledThread (l .table) archive (spelledLookup f archive tables slots context limit l)
+  pub text : l .table ≡ 2 → TextShort archive (spelledLookup f archive tables slots context until l)
+  pub thread : SpelledThread (l .table) archive (spelledLookup f archive tables slots context until l)
 
 -- ---- arguments
 
@@ -96,22 +96,22 @@ abbrev pub ValueLow : Value → Type 0
 ValueLow (ScalarValue s) = scalarType s < 2 ^ 4
 ValueLow (Text reference) = Unit {0}
 
-pub record ArgumentFits (f : Format) (archive tables slots : List ℕ) (context limit : ℕ) (a : Argument) : Type 0 where
-  pub name : SpelledFits f archive tables slots context limit (textLookup (a .name))
-  pub text : SpelledFits f archive tables slots context limit (textLookup (textIn (a .value)))
+pub record ArgumentFits (f : Format) (archive tables slots : List ℕ) (context until : ℕ) (a : Argument) : Type 0 where
+  pub name : SpelledFits f archive tables slots context until (textLookup (a .name))
+  pub text : SpelledFits f archive tables slots context until (textLookup (textIn (a .value)))
   pub type : ValueLow (a .value)
-  pub size : length (argumentBytes f archive tables slots context limit a) < 2 ^ 15
+  pub size : length (argumentBytes f archive tables slots context until a) < 2 ^ 15
 
-abbrev pub ArgumentsFit : Format → (archive tables slots : List ℕ) → (context limit : ℕ) → List Argument → Type 0
-ArgumentsFit f archive tables slots context limit [] = Unit {0}
-ArgumentsFit f archive tables slots context limit (a ∷ l) =
-    ArgumentFits f archive tables slots context limit a × ArgumentsFit f archive tables slots context limit l
+abbrev pub ArgumentsFit : Format → (archive tables slots : List ℕ) → (context until : ℕ) → List Argument → Type 0
+ArgumentsFit f archive tables slots context until [] = Unit {0}
+ArgumentsFit f archive tables slots context until (a ∷ l) =
+    ArgumentFits f archive tables slots context until a × ArgumentsFit f archive tables slots context until l
 
-abbrev pub ArgumentFitsIn : Format → (archive room : List ℕ) → (context limit : ℕ) → Argument → Type 0
-ArgumentFitsIn f archive room context limit a = ArgumentFits f archive (tablesIn f room) (slotsIn f room) context limit a
+abbrev pub ArgumentFitsIn : Format → (archive room : List ℕ) → (context until : ℕ) → Argument → Type 0
+ArgumentFitsIn f archive room context until a = ArgumentFits f archive (tablesIn f room) (slotsIn f room) context until a
 
-abbrev pub ArgumentsFitIn : Format → (archive room : List ℕ) → (context limit : ℕ) → List Argument → Type 0
-ArgumentsFitIn f archive room context limit l = ArgumentsFit f archive (tablesIn f room) (slotsIn f room) context limit l
+abbrev pub ArgumentsFitIn : Format → (archive room : List ℕ) → (context until : ℕ) → List Argument → Type 0
+ArgumentsFitIn f archive room context until l = ArgumentsFit f archive (tablesIn f room) (slotsIn f room) context until l
 
 -- ---- records that refer to texts and threads
 

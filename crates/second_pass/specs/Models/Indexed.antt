@@ -13,18 +13,18 @@ use Rattle.registering.specs.Counting.{count}
 use Rattle.format.specs.declared.Format.{Format}
 use Rattle.contexts.specs.declared.State.{State}
 use Rattle.tables.specs.Table.{tableWords}
-use Rattle.rule.specs.Rule.{usesAll, Entry, tableAfter, chosenIn}
+use Rattle.rule.specs.Rule.{usesAll, Entry, entriesAfter, chosenIn}
 use Rattle.rule.specs.Refusal.{runOf, itemsOf}
 
 -- the index of the first registration whose use has this code, 0 where none has
 abbrev pub indexCode : State → List Entry → List ℕ → ℕ
 indexCode last [] key = 0
-indexCode last (e ∷ table) key = let rest = indexCode last table key in cond (sameBytes key (codeIn last (e .use-of))) (e .index) rest
+indexCode last (e ∷ entries) key = let rest = indexCode last entries key in cond (sameBytes key (codeIn last (e .use-of))) (e .index) rest
 
 -- how many registrations have a code of this mark
 abbrev pub givenCode : State → List Entry → ℕ → ℕ
 givenCode last [] mark = 0
-givenCode last (e ∷ table) mark = cond (eqb mark (keyMark (codeIn last (e .use-of)))) 1 0 + givenCode last table mark
+givenCode last (e ∷ entries) mark = cond (eqb mark (keyMark (codeIn last (e .use-of)))) 1 0 + givenCode last entries mark
 
 -- the uses of an archive's items as keys of the tally
 abbrev pub keysOf : Format → List ℕ → List (List ℕ)
@@ -32,7 +32,7 @@ keysOf f archive = codes (lastOf f archive) (usesAll (itemsOf (runOf f archive))
 
 -- the registrations that the rule makes for an archive's items
 abbrev pub registeredOf : Format → List ℕ → List Entry
-registeredOf f archive = let uses = usesAll (itemsOf (runOf f archive)) in tableAfter (chosenIn uses) [] uses
+registeredOf f archive = let uses = usesAll (itemsOf (runOf f archive)) in entriesAfter (chosenIn uses) [] uses
 
 -- the words of the tally before and after the pass: places and labels stay; each key that was used has its index where the rule registers it, and
 -- each counter the number of its mark's registrations; a slot that is no such key's keeps its third word

@@ -11,7 +11,7 @@ use Rattle.indexing.specs.Models.Indexes.{indexOf, newIndex, indexed}
 use Rattle.words.specs.Word.{pick, wordAt, Field}
 use Rattle.words.specs.Stream.{partOf}
 use Rattle.encoding.specs.Encoded.{Encoded, words, stream, referenceOf, partsBytes, wordsBytes, recordBytes, stringRecord, threadRecord}
-use Rattle.encoding.specs.Part.{plainRecord, referentPart, reportHeader, textArgument, scalarArgument}
+use Rattle.encoding.specs.Models.Part.{plainRecord, referentPart, reportHeader, textArgument, scalarArgument}
 use Rattle.format.specs.declared.Format.{Format}
 use Rattle.arguments.specs.declared.Value.{Value}
 use Rattle.arguments.specs.declared.Value.the-variants.{Scalar as ScalarValue, Text}
@@ -19,7 +19,7 @@ use Rattle.arguments.specs.declared.Argument.{Argument}
 use Rattle.records.specs.declared.Lookup.{Lookup}
 use Rattle.records.specs.declared.Report.{Report}
 use Rattle.records.specs.declared.Content.{Content}
-use Rattle.records.specs.Item.{thread, Item, ownType, ownHeader, ownWords, ownBehind, lastWords}
+use Rattle.records.specs.Item.{thread, Item, ownLayout, lastWords}
 use Rattle.records.specs.Lookups.{textLookup, argumentsTo, reportLookups, onReport}
 use Rattle.contexts.specs.declared.State.{State}
 use Rattle.tables.specs.declared.Resolved.{Resolved}
@@ -74,26 +74,26 @@ abbrev pub givenBytes : Format → List ℕ → List ℕ → ℕ → ℕ → Res
 givenBytes f archive slots context table r = registrationBytes table (givenIndex f archive slots context table r) (knownBytes archive r)
 
 -- the slots after the registrations of what references stand for, one after the other, and these registrations
-abbrev pub lookupsGivenSlots : Format → (archive tables : List ℕ) → (context limit : ℕ) → List ℕ → List Lookup → List ℕ
-lookupsGivenSlots f archive tables context limit slots [] = slots
-lookupsGivenSlots f archive tables context limit slots (l ∷ more) =
-    lookupsGivenSlots f archive tables context limit
-    (givenSlots f archive slots context (l .table) (lookedUp f archive tables context limit l)) more
+abbrev pub lookupsGivenSlots : Format → (archive tables : List ℕ) → (context until : ℕ) → List ℕ → List Lookup → List ℕ
+lookupsGivenSlots f archive tables context until slots [] = slots
+lookupsGivenSlots f archive tables context until slots (l ∷ more) =
+    lookupsGivenSlots f archive tables context until
+    (givenSlots f archive slots context (l .table) (lookedUp f archive tables context until l)) more
 
-abbrev pub lookupsGivenBytes : Format → (archive tables : List ℕ) → (context limit : ℕ) → List ℕ → List Lookup → List ℕ
-lookupsGivenBytes f archive tables context limit slots [] = []
-lookupsGivenBytes f archive tables context limit slots (l ∷ more) =
-    givenBytes f archive slots context (l .table) (lookedUp f archive tables context limit l)
-    ++ lookupsGivenBytes f archive tables context limit
-    (givenSlots f archive slots context (l .table) (lookedUp f archive tables context limit l)) more
+abbrev pub lookupsGivenBytes : Format → (archive tables : List ℕ) → (context until : ℕ) → List ℕ → List Lookup → List ℕ
+lookupsGivenBytes f archive tables context until slots [] = []
+lookupsGivenBytes f archive tables context until slots (l ∷ more) =
+    givenBytes f archive slots context (l .table) (lookedUp f archive tables context until l)
+    ++ lookupsGivenBytes f archive tables context until
+    (givenSlots f archive slots context (l .table) (lookedUp f archive tables context until l)) more
 
 -- the same in a room
-abbrev pub registeredRoom : Format → (archive room : List ℕ) → (context limit : ℕ) → List Lookup → List ℕ
-registeredRoom f archive room context limit ls =
-    tablesIn f room ++ lookupsGivenSlots f archive (tablesIn f room) context limit (slotsIn f room) ls
+abbrev pub registeredRoom : Format → (archive room : List ℕ) → (context until : ℕ) → List Lookup → List ℕ
+registeredRoom f archive room context until ls =
+    tablesIn f room ++ lookupsGivenSlots f archive (tablesIn f room) context until (slotsIn f room) ls
 
-abbrev pub registeredBytes : Format → (archive room : List ℕ) → (context limit : ℕ) → List Lookup → List ℕ
-registeredBytes f archive room context limit ls = lookupsGivenBytes f archive (tablesIn f room) context limit (slotsIn f room) ls
+abbrev pub registeredBytes : Format → (archive room : List ℕ) → (context until : ℕ) → List Lookup → List ℕ
+registeredBytes f archive room context until ls = lookupsGivenBytes f archive (tablesIn f room) context until (slotsIn f room) ls
 
 -- ---- references
 
@@ -104,11 +104,11 @@ spelledOf f archive slots context table (Known place long) =
     record { index = indexOf archive (tableWords f) slots (keyOf archive place (labelOf context table long)); place = place; long = long }
 spelledOf f archive slots context table (Unresolved index) = record { index = index; place = 0; long = 0 }
 
-abbrev pub spelledLookup : Format → (archive tables slots : List ℕ) → (context limit : ℕ) → Lookup → Spelled
-spelledLookup f archive tables slots context limit l = spelledOf f archive slots context (l .table) (lookedUp f archive tables context limit l)
+abbrev pub spelledLookup : Format → (archive tables slots : List ℕ) → (context until : ℕ) → Lookup → Spelled
+spelledLookup f archive tables slots context until l = spelledOf f archive slots context (l .table) (lookedUp f archive tables context until l)
 
-abbrev pub spelledIn : Format → (archive room : List ℕ) → (context limit : ℕ) → Lookup → Spelled
-spelledIn f archive room context limit l = spelledLookup f archive (tablesIn f room) (slotsIn f room) context limit l
+abbrev pub spelledIn : Format → (archive room : List ℕ) → (context until : ℕ) → Lookup → Spelled
+spelledIn f archive room context until l = spelledLookup f archive (tablesIn f room) (slotsIn f room) context until l
 
 -- a text or a thread that is spelled so
 abbrev pub spelledBytes : List ℕ → Spelled → List ℕ
@@ -118,31 +118,31 @@ abbrev pub spelledPart : List ℕ → ℕ → Spelled → Encoded
 spelledPart archive table p = referentPart table (p .index) (spelledBytes archive p)
 
 -- a reference of a record as it is written
-abbrev pub lookupPart : Format → (archive tables slots : List ℕ) → (context limit : ℕ) → Lookup → Encoded
-lookupPart f archive tables slots context limit l = spelledPart archive (l .table) (spelledLookup f archive tables slots context limit l)
+abbrev pub lookupPart : Format → (archive tables slots : List ℕ) → (context until : ℕ) → Lookup → Encoded
+lookupPart f archive tables slots context until l = spelledPart archive (l .table) (spelledLookup f archive tables slots context until l)
 
 -- ---- arguments
 
-abbrev pub valueBytes : Format → (archive tables slots : List ℕ) → (context limit : ℕ) → Encoded → Value → List ℕ
-valueBytes f archive tables slots context limit name (ScalarValue s) = scalarArgument name s
-valueBytes f archive tables slots context limit name (Text reference) =
-    textArgument name (lookupPart f archive tables slots context limit (textLookup reference))
+abbrev pub valueBytes : Format → (archive tables slots : List ℕ) → (context until : ℕ) → Encoded → Value → List ℕ
+valueBytes f archive tables slots context until name (ScalarValue s) = scalarArgument name s
+valueBytes f archive tables slots context until name (Text reference) =
+    textArgument name (lookupPart f archive tables slots context until (textLookup reference))
 
-unfoldable pub argumentBytes : Format → (archive tables slots : List ℕ) → (context limit : ℕ) → Argument → List ℕ
-argumentBytes f archive tables slots context limit a =
-    valueBytes f archive tables slots context limit (lookupPart f archive tables slots context limit (textLookup (a .name))) (a .value)
+unfoldable pub argumentBytes : Format → (archive tables slots : List ℕ) → (context until : ℕ) → Argument → List ℕ
+argumentBytes f archive tables slots context until a =
+    valueBytes f archive tables slots context until (lookupPart f archive tables slots context until (textLookup (a .name))) (a .value)
 
-abbrev pub argumentsBytes : Format → (archive tables slots : List ℕ) → (context limit : ℕ) → List Argument → List ℕ
-argumentsBytes f archive tables slots context limit [] = []
-argumentsBytes f archive tables slots context limit (a ∷ l) =
-    argumentBytes f archive tables slots context limit a ++ argumentsBytes f archive tables slots context limit l
+abbrev pub argumentsBytes : Format → (archive tables slots : List ℕ) → (context until : ℕ) → List Argument → List ℕ
+argumentsBytes f archive tables slots context until [] = []
+argumentsBytes f archive tables slots context until (a ∷ l) =
+    argumentBytes f archive tables slots context until a ++ argumentsBytes f archive tables slots context until l
 
 -- the same in a room
-abbrev pub argumentIn : Format → (archive room : List ℕ) → (context limit : ℕ) → Argument → List ℕ
-argumentIn f archive room context limit a = argumentBytes f archive (tablesIn f room) (slotsIn f room) context limit a
+abbrev pub argumentIn : Format → (archive room : List ℕ) → (context until : ℕ) → Argument → List ℕ
+argumentIn f archive room context until a = argumentBytes f archive (tablesIn f room) (slotsIn f room) context until a
 
-abbrev pub argumentsIn : Format → (archive room : List ℕ) → (context limit : ℕ) → List Argument → List ℕ
-argumentsIn f archive room context limit l = argumentsBytes f archive (tablesIn f room) (slotsIn f room) context limit l
+abbrev pub argumentsIn : Format → (archive room : List ℕ) → (context until : ℕ) → List Argument → List ℕ
+argumentsIn f archive room context until l = argumentsBytes f archive (tablesIn f room) (slotsIn f room) context until l
 
 -- ---- records that refer to texts and threads
 
@@ -153,7 +153,7 @@ streamOf archive r = streamItem archive (shownStream (r .stream))
 -- its own words, its references as they are spelled, and its stream
 abbrev pub spelledPieces : List ℕ → Report → (first second third : Spelled) → List Encoded
 spelledPieces archive r first second third =
-    words (ownWords (r .own))
+    words (ownLayout (r .own) .words)
     ∷ spelledPart archive (r .first .table) first
     ∷ spelledPart archive (r .second .table) second
     ∷ spelledPart archive (r .third .table) third
@@ -163,7 +163,7 @@ spelledPieces archive r first second third =
 -- its header behind type and size, and with them
 abbrev pub spelledFields : List ℕ → Report → (first second third : Spelled) → List Field
 spelledFields archive r first second third =
-    ownHeader (r .own) (r .count) (referenceOf (spelledPart archive (r .first .table) first)) (referenceOf (spelledPart archive (r .second .table) second))
+    ownLayout (r .own) .header (r .count) (referenceOf (spelledPart archive (r .first .table) first)) (referenceOf (spelledPart archive (r .second .table) second))
     (referenceOf (spelledPart archive (r .third .table) third)) (length (streamOf archive r))
 
 abbrev pub spelledHeader : List ℕ → ℕ → Report → (first second third : Spelled) → List ℕ
@@ -194,11 +194,11 @@ unfoldable pub reportBody : Format → (archive tables slots : List ℕ) → Sta
 reportBody f archive tables slots s r next =
     partsBytes (reportPieces f archive tables slots s r)
     ++ (argumentsBytes f archive tables slots (s .current) (s .place) (argumentsTo f archive r next)
-    ++ wordsBytes (lastWords (ownBehind (r .own)) (r .last)))
+    ++ wordsBytes (lastWords (ownLayout (r .own) .behind) (r .last)))
 
 unfoldable pub reportBytes : Format → (archive tables slots : List ℕ) → State → Report → ℕ → List ℕ
 reportBytes f archive tables slots s r next =
-    recordBytes (ownType (r .own)) (reportFields f archive tables slots s r) (reportBody f archive tables slots s r next)
+    recordBytes (ownLayout (r .own) .type) (reportFields f archive tables slots s r) (reportBody f archive tables slots s r next)
 
 abbrev pub reportIn : Format → (archive room : List ℕ) → State → Report → ℕ → List ℕ
 reportIn f archive room s r next = reportBytes f archive (tablesIn f room) (slotsIn f room) s r next

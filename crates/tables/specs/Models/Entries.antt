@@ -20,7 +20,7 @@ registrationAt f header place end =
     pick (eqb (field 0 3 header) 2) (registrationOf (stringOf f header place end))
     (pick (eqb (field 0 3 header) 3) (registrationOf (threadOf f header place end)) Nothing)
 
--- what a registration stands for where one of this kind and index is wanted
+-- what a registration stands for where one of this table and index is wanted
 unfoldable pub belonging : ℕ → ℕ → Registration → Resolved
-belonging kind index r =
-    onRegistration r Bad (λ k i place length. pick (eqb k kind) (pick (eqb i index) (Known place length) Bad) Bad)
+belonging table index r =
+    onRegistration r Bad (λ k i place length. pick (eqb k table) (pick (eqb i index) (Known place length) Bad) Bad)

@@ -11,11 +11,11 @@ use Rattle.tally.proofs.find.Statement.{statement}
 use Rattle.tally.proofs.find.Tie as tie
 
 abbrev Inv-loop : tie.InvT-loop
-Inv-loop archive table stretch place label capacity s₀ left₀ s left =
-    (s < capacity) × (seek archive stretch table (keyOf archive place label) left₀ s₀ ≡ seek archive stretch table (keyOf archive place label) left s)
+Inv-loop archive slots stretch place label capacity s₀ left₀ s left =
+    (s < capacity) × (seek archive stretch slots (keyOf archive place label) left₀ s₀ ≡ seek archive stretch slots (keyOf archive place label) left s)
 
 abbrev μ-loop : tie.MeasureT-loop
-μ-loop archive table stretch place label capacity s₀ left₀ s left = left
+μ-loop archive slots stretch place label capacity s₀ left₀ s left = left
 
 loop-holds : tie.Need-loop-holds Inv-loop μ-loop
 loop-holds c =
@@ -31,7 +31,7 @@ returns c =
     let a = c .before .before .before .before .before .before .before .args in
     let h = c .before .before .before .loop in
     sym (rw (← c .before .before .before .before .first-slot .ensures)
-    (h .inv .1 ∙ seek-free (a .archive .now) (a .stretch) (a .table .now) (keyOf (a .archive .now) (a .place) (a .label)) (h .left) (h .s)
+    (h .inv .1 ∙ seek-free (a .archive .now) (a .stretch) (a .slots .now) (keyOf (a .archive .now) (a .place) (a .label)) (h .left) (h .s)
     (c .before .before .loop-test .taken) (c .if1 .taken)))
 
 cast-same-key : tie.Need-cast-same-key Inv-loop μ-loop
@@ -44,7 +44,7 @@ returns-2 c =
     let h = c .before .before .before .before .before .before .loop in
     let test = c .before .before .before .before .before .loop-test in
     sym (rw (← c .before .before .before .before .before .before .before .first-slot .ensures)
-    (h .inv .1 ∙ seek-here (a .archive .now) (a .stretch) (a .table .now) (keyOf (a .archive .now) (a .place) (a .label)) (h .left) (h .s)
+    (h .inv .1 ∙ seek-here (a .archive .now) (a .stretch) (a .slots .now) (keyOf (a .archive .now) (a .place) (a .label)) (h .left) (h .s)
     (test .taken) (c .before .before .before .if1 .left) (sym (c .before .same-key .ensures) ∙ c .if2 .taken)))
 
 loop-again : tie.Need-loop-again Inv-loop μ-loop
@@ -54,7 +54,7 @@ loop-again c =
     let test = c .before .before .before .before .before .before .loop-test in
     let taken = c .before .before .before .before .if1 in (
       rw (c .next-slot .ensures) (next-low (a .stretch - 18) (h .s) (h .inv .0)),
-      h .inv .1 ∙ seek-on (a .archive .now) (a .stretch) (a .table .now) (keyOf (a .archive .now) (a .place) (a .label)) (h .left) (h .s)
+      h .inv .1 ∙ seek-on (a .archive .now) (a .stretch) (a .slots .now) (keyOf (a .archive .now) (a .place) (a .label)) (h .left) (h .s)
           (test .taken) (taken .left) (sym (c .before .before .same-key .ensures) ∙ c .before .if2 .left) (c .next-slot .result) (c .next-slot .ensures),
     )
 
@@ -65,7 +65,7 @@ returns-3 c =
     let h = c .before .loop in
     let z : h .left ≡ 0 = omega arith in
     sym (rw (← c .before .before .first-slot .ensures)
-    (h .inv .1 ∙ rw z (seek-none (a .archive .now) (a .stretch) (a .table .now) (keyOf (a .archive .now) (a .place) (a .label)) (h .s))))
+    (h .inv .1 ∙ rw z (seek-none (a .archive .now) (a .stretch) (a .slots .now) (keyOf (a .archive .now) (a .place) (a .label)) (h .s))))
 
 pub find-spec : {M : Type 1} → statement M
 find-spec =

@@ -9,11 +9,11 @@ use Rattle.tally.proofs.measure.Statement.{statement}
 use Rattle.tally.proofs.measure.Tie as tie
 
 abbrev Inv-loop : tie.InvT-loop
-Inv-loop table stretch sum₀ s₀ sum s =
-    (s ≤ stretch - 18) × (sum ≤ s * 2 ^ 14) × (sum ≡ sumTo s (λ (i : ℕ). costOf (placeAt table i) (labelAt stretch table i) (usesAt stretch table i)))
+Inv-loop slots stretch sum₀ s₀ sum s =
+    (s ≤ stretch - 18) × (sum ≤ s * 2 ^ 14) × (sum ≡ sumTo s (λ (i : ℕ). costOf (placeAt slots i) (labelAt stretch slots i) (usesAt stretch slots i)))
 
 abbrev μ-loop : tie.MeasureT-loop
-μ-loop table stretch sum₀ s₀ sum s = stretch - s
+μ-loop slots stretch sum₀ s₀ sum s = stretch - s
 
 loop-holds : tie.Need-loop-holds Inv-loop μ-loop
 loop-holds c = (search needs, search needs, refl)

@@ -13,13 +13,13 @@ use Rattle.hashing.specs.Models.Hash.{hashOf, foldedOf}
 use Rattle.tally.specs.declared.Slot.{Slot}
 use Rattle.tally.specs.declared.Slot.the-variants.{Here, Free, Full}
 
--- the mark of a context and a kind, 2 for texts and 3 for threads
+-- the mark of a context and a table, 2 for texts and 3 for threads
 abbrev pub markOf : ℕ → ℕ → ℕ
-markOf context kind = 2 * context + (kind - 2)
+markOf context table = 2 * context + (table - 2)
 
 -- a label: the length of a key's bytes and, above 16 bits, its mark
 unfoldable pub labelOf : ℕ → ℕ → ℕ → ℕ
-labelOf context kind long = markOf context kind * 65536 + long
+labelOf context table long = markOf context table * 65536 + long
 
 -- the key at a place: its label and then its bytes
 abbrev pub keyOf : List ℕ → ℕ → ℕ → List ℕ
@@ -37,23 +37,23 @@ keyWords key = streamWords (keyLabel key % 65536)
 
 -- the words of a slot, and the counter of a mark
 abbrev pub placeAt : List ℕ → ℕ → ℕ
-placeAt table s = getD table s 0
+placeAt slots s = getD slots s 0
 
 abbrev pub labelAt : ℕ → List ℕ → ℕ → ℕ
-labelAt stretch table s = getD table (stretch + s) 0
+labelAt stretch slots s = getD slots (stretch + s) 0
 
 abbrev pub usesAt : ℕ → List ℕ → ℕ → ℕ
-usesAt stretch table s = getD table (2 * stretch + s) 0
+usesAt stretch slots s = getD slots (2 * stretch + s) 0
 
 abbrev pub counterAt : ℕ → ℕ → ℕ
 counterAt stretch mark = 3 * stretch - 18 + mark
 
 -- whether a slot is free, and the key that it holds
 abbrev pub isFree : List ℕ → ℕ → Bool
-isFree table s = eqb (placeAt table s) 0
+isFree slots s = eqb (placeAt slots s) 0
 
 abbrev pub keyAt : List ℕ → ℕ → List ℕ → ℕ → List ℕ
-keyAt archive stretch table s = keyOf archive (placeAt table s) (labelAt stretch table s)
+keyAt archive stretch slots s = keyOf archive (placeAt slots s) (labelAt stretch slots s)
 
 -- the first slot of a key: its hash, scaled to the slots
 unfoldable pub startOf : ℕ → List ℕ → ℕ
@@ -70,12 +70,12 @@ probe free mine capacity (suc left) s = pick (free s) (Free s) (pick (mine s) (H
 
 -- the same, for a key
 unfoldable pub seek : List ℕ → ℕ → List ℕ → List ℕ → ℕ → ℕ → Slot
-seek archive stretch table key left s =
-    probe (isFree table) (λ x. sameBytes (keyAt archive stretch table x) key) (stretch - 18) left s
+seek archive stretch slots key left s =
+    probe (isFree slots) (λ x. sameBytes (keyAt archive stretch slots x) key) (stretch - 18) left s
 
 -- the slot of a key
 unfoldable pub findOf : List ℕ → ℕ → List ℕ → List ℕ → Slot
-findOf archive stretch table key = seek archive stretch table key (stretch - 18) (startOf (stretch - 18) key)
+findOf archive stretch slots key = seek archive stretch slots key (stretch - 18) (startOf (stretch - 18) key)
 
 -- one more, up to the highest number of a word
 unfoldable pub raised : ℕ → ℕ
@@ -83,28 +83,28 @@ raised n = pick (ltb n (2 ^ 32 - 1)) (n + 1) n
 
 -- what the counter of a label's mark has
 abbrev pub countAt : ℕ → List ℕ → ℕ → ℕ
-countAt stretch table label = getD table (counterAt stretch (label / 65536)) 0
+countAt stretch slots label = getD slots (counterAt stretch (label / 65536)) 0
 
 -- the table after one use more of the key of a slot
 abbrev pub usedAgain : ℕ → List ℕ → ℕ → List ℕ
-usedAgain stretch table s = set table (2 * stretch + s) (raised (usesAt stretch table s))
+usedAgain stretch slots s = set slots (2 * stretch + s) (raised (usesAt stretch slots s))
 
 -- the table after the first use of a key, in a free slot: its place, its label, one use, and one key more of its mark
 abbrev pub filled : ℕ → List ℕ → ℕ → ℕ → ℕ → List ℕ
-filled stretch table place label s =
-    set (set (set (set table s place) (stretch + s) label) (2 * stretch + s) 1) (counterAt stretch (label / 65536)) (raised (countAt stretch table label))
+filled stretch slots place label s =
+    set (set (set (set slots s place) (stretch + s) label) (2 * stretch + s) 1) (counterAt stretch (label / 65536)) (raised (countAt stretch slots label))
 
 -- whether one use more is counted of the key whose slot is given: a new key only where fewer than `most` of its mark were
 abbrev pub isAdded : ℕ → List ℕ → ℕ → ℕ → Slot → Bool
-isAdded stretch table label most (Here s) = true
-isAdded stretch table label most (Free s) = ltb (countAt stretch table label) most
-isAdded stretch table label most Full = false
+isAdded stretch slots label most (Here s) = true
+isAdded stretch slots label most (Free s) = ltb (countAt stretch slots label) most
+isAdded stretch slots label most Full = false
 
 -- the table after it
 abbrev pub added : ℕ → List ℕ → ℕ → ℕ → ℕ → Slot → List ℕ
-added stretch table place label most (Here s) = usedAgain stretch table s
-added stretch table place label most (Free s) = pick (ltb (countAt stretch table label) most) (filled stretch table place label s) table
-added stretch table place label most Full = table
+added stretch slots place label most (Here s) = usedAgain stretch slots s
+added stretch slots place label most (Free s) = pick (ltb (countAt stretch slots label) most) (filled stretch slots place label s) slots
+added stretch slots place label most Full = slots
 
 -- the words that a key takes in all its uses, registered or not
 unfoldable pub costOf : ℕ → ℕ → ℕ → ℕ
@@ -118,4 +118,4 @@ sumTo (suc n) f = sumTo n f + f n
 
 -- the words that all keys take
 unfoldable pub measureOf : ℕ → List ℕ → ℕ
-measureOf stretch table = sumTo (stretch - 18) (λ s. costOf (placeAt table s) (labelAt stretch table s) (usesAt stretch table s))
+measureOf stretch slots = sumTo (stretch - 18) (λ s. costOf (placeAt slots s) (labelAt stretch slots s) (usesAt stretch slots s))

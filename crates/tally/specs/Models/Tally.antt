@@ -15,18 +15,18 @@ abbrev pub distinct : ℕ → List (List ℕ) → ℕ
 distinct mark us = sumBy (λ key. cond (eqb (keyMark key) mark) 1 0) (keys sameBytes [] us)
 
 -- the table is long enough, and has slots
-pub record Wide (stretch : ℕ) (table : List ℕ) : Type 0 where
+pub record Wide (stretch : ℕ) (slots : List ℕ) : Type 0 where
   pub some : 18 < stretch
   pub low : stretch < 2 ^ 31
-  pub long : 3 * stretch ≤ length table
+  pub long : 3 * stretch ≤ length slots
 
 -- each slot that is not free has the number of uses of its key, and is the one that a search for its key finds; each key that was used is found;
 -- and each mark's counter has the number of its distinct keys
-pub record Tallies (archive : List ℕ) (stretch : ℕ) (table : List ℕ) (us : List (List ℕ)) : Type 0 where
-  pub wide : Wide stretch table
-  pub counted : (s : ℕ) → s < stretch - 18 → isFree table s ≡ false → usesAt stretch table s ≡ count sameBytes (keyAt archive stretch table s) us
-  pub used : (s : ℕ) → s < stretch - 18 → isFree table s ≡ false → 0 < usesAt stretch table s
-  pub own : (s : ℕ) → s < stretch - 18 → isFree table s ≡ false → findOf archive stretch table (keyAt archive stretch table s) ≡ Here s
-  pub kept : (key : List ℕ) → 0 < count sameBytes key us → (s : ℕ) × (findOf archive stretch table key ≡ Here s)
-  pub spare : (s : ℕ) → stretch - 18 ≤ s → s < stretch → placeAt table s ≡ 0
-  pub marks : (mark : ℕ) → mark < 18 → getD table (counterAt stretch mark) 0 ≡ distinct mark us
+pub record Tallies (archive : List ℕ) (stretch : ℕ) (slots : List ℕ) (us : List (List ℕ)) : Type 0 where
+  pub wide : Wide stretch slots
+  pub counted : (s : ℕ) → s < stretch - 18 → isFree slots s ≡ false → usesAt stretch slots s ≡ count sameBytes (keyAt archive stretch slots s) us
+  pub used : (s : ℕ) → s < stretch - 18 → isFree slots s ≡ false → 0 < usesAt stretch slots s
+  pub own : (s : ℕ) → s < stretch - 18 → isFree slots s ≡ false → findOf archive stretch slots (keyAt archive stretch slots s) ≡ Here s
+  pub kept : (key : List ℕ) → 0 < count sameBytes key us → (s : ℕ) × (findOf archive stretch slots key ≡ Here s)
+  pub spare : (s : ℕ) → stretch - 18 ≤ s → s < stretch → placeAt slots s ≡ 0
+  pub marks : (mark : ℕ) → mark < 18 → getD slots (counterAt stretch mark) 0 ≡ distinct mark us

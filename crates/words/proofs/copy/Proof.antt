@@ -4,20 +4,20 @@ use mathlib.Core.Path.{_≡_, refl, ap, _∙_}
 use mathlib.Core.List.{List}
 use lib.ListN.{length, set, getD, take, length-set}
 use native.Mathlib.Omega.{arith}
-use Rattle.words.specs.Stream.{written}
-use Rattle.words.proofs.Streams.{none-written, more-written, all-written}
+use Rattle.words.specs.Stream.{overwritten}
+use Rattle.words.proofs.Streams.{none-overwritten, more-written, all-written}
 use borrow.Author.Needs.{needs}
 use Rattle.words.proofs.copy.Statement.{statement}
 use Rattle.words.proofs.copy.Tie as tie
 
 abbrev Inv-loop : tie.InvT-loop
-Inv-loop out₀ place bytes i₀ out i = (i ≤ length bytes) × (length out ≡ length out₀) × (out ≡ written out₀ place (take i bytes))
+Inv-loop out₀ place bytes i₀ out i = (i ≤ length bytes) × (length out ≡ length out₀) × (out ≡ overwritten out₀ place (take i bytes))
 
 abbrev μ-loop : tie.MeasureT-loop
 μ-loop out₀ place bytes i₀ out i = length bytes - i
 
 loop-holds : tie.Need-loop-holds Inv-loop μ-loop
-loop-holds c = (search needs, refl, none-written (c .args .out .now) (c .args .place) (c .args .bytes .now))
+loop-holds c = (search needs, refl, none-overwritten (c .args .out .now) (c .args .place) (c .args .bytes .now))
 
 loop-again : tie.Need-loop-again Inv-loop μ-loop
 loop-again c =

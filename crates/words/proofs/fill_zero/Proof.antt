@@ -4,20 +4,20 @@ use mathlib.Core.Path.{_≡_, refl, sym, _∙_}
 use mathlib.Core.List.{List}
 use lib.ListN.{length, set, take, replicate, length-set, length-replicate, getD-replicate}
 use native.Mathlib.Omega.{arith}
-use Rattle.words.specs.Stream.{written}
-use Rattle.words.proofs.Streams.{none-written, more-written, all-written}
+use Rattle.words.specs.Stream.{overwritten}
+use Rattle.words.proofs.Streams.{none-overwritten, more-written, all-written}
 use borrow.Author.Needs.{needs}
 use Rattle.words.proofs.fill_zero.Statement.{statement}
 use Rattle.words.proofs.fill_zero.Tie as tie
 
 abbrev Inv-loop : tie.InvT-loop
-Inv-loop out₀ place n i₀ out i = (i ≤ n) × (length out ≡ length out₀) × (out ≡ written out₀ place (take i (replicate n 0)))
+Inv-loop out₀ place n i₀ out i = (i ≤ n) × (length out ≡ length out₀) × (out ≡ overwritten out₀ place (take i (replicate n 0)))
 
 abbrev μ-loop : tie.MeasureT-loop
 μ-loop out₀ place n i₀ out i = n - i
 
 loop-holds : tie.Need-loop-holds Inv-loop μ-loop
-loop-holds c = (search needs, refl, none-written (c .args .out .now) (c .args .place) (replicate (c .args .n) 0))
+loop-holds c = (search needs, refl, none-overwritten (c .args .out .now) (c .args .place) (replicate (c .args .n) 0))
 
 loop-again : tie.Need-loop-again Inv-loop μ-loop
 loop-again c =

@@ -4,8 +4,8 @@ use mathlib.Core.Path.{_≡_, ap, _∙_}
 use mathlib.Core.List.{List}
 use native.Mathlib.Omega.{arith}
 use lib.ListN.{length, replicate}
-use Rattle.words.specs.Stream.{paddingOf, written}
-use Rattle.words.proofs.Streams.{written-written}
+use Rattle.words.specs.Stream.{paddingOf, overwritten}
+use Rattle.words.proofs.Streams.{overwritten-twice}
 use borrow.Author.Needs.{needs}
 use Rattle.words.proofs.put_stream.Statement.{statement}
 use Rattle.words.proofs.put_stream.Tie as tie
@@ -18,8 +18,8 @@ returns c =
     let k = words .result * 8 - n in
     let padding : k ≡ paddingOf n = omega (arith, words .ensures) in
     c .before .before .fill-zero .ensures
-    ∙ ap (λ (out : List ℕ). written out (a .place + n) (replicate k 0)) (c .before .before .before .before .before .before .before .copy .ensures)
-    ∙ written-written (a .out .now) (a .place) (a .bytes .now) (replicate k 0) (omega arith)
+    ∙ ap (λ (out : List ℕ). overwritten out (a .place + n) (replicate k 0)) (c .before .before .before .before .before .before .before .copy .ensures)
+    ∙ overwritten-twice (a .out .now) (a .place) (a .bytes .now) (replicate k 0) (omega arith)
     ∙ rw padding
 
 pub put-stream-spec : {M : Type 1} → statement M

@@ -7,7 +7,7 @@ use lib.Dec.{eqb}
 use Rattle.words.specs.Word.{pick, wordAt, bytesOf, Field, _of_, pack}
 use Rattle.arguments.specs.declared.Scalar.{Scalar}
 use Rattle.records.specs.declared.Event.{Event}
-use Rattle.records.specs.Item.{Thread, thread, Item, ownType, ownHeader}
+use Rattle.records.specs.Item.{Thread, thread, Referent, textReferent, threadReferent, Item, ownLayout}
 use Rattle.encoding.specs.Encoded.{Encoded, textIndex, threadIndex, textInline, threadInline, referenceOf, partBytes, scalarHalf, scalarParts, encodedArgument, itemRecord}
 use Rattle.arguments.specs.Argument.{scalarType}
 
@@ -27,6 +27,11 @@ threadPart index t = pick (eqb index 0) (threadInline t) (threadIndex index)
 abbrev pub referentPart : (table index : ℕ) → List ℕ → Encoded
 referentPart table index b = pick (eqb table 3) (threadPart index (thread (wordAt b 0) (wordAt b 8))) (textPart index b)
 
+-- the table that what a record refers to is looked up in
+abbrev pub referentTable : Referent → ℕ
+referentTable (textReferent t) = 2
+referentTable (threadReferent t) = 3
+
 -- each value fits the width of its field
 abbrev pub FieldsFit : List Field → Type 0
 FieldsFit [] = Unit {0}
@@ -35,7 +40,7 @@ FieldsFit (v of w ∷ fields) = (v < 2 ^ w) × FieldsFit fields
 -- the header of a record that refers to texts and threads, from the size of its record in words
 abbrev pub reportHeader : Event → (size count first second third long : ℕ) → List ℕ
 reportHeader own size count first second third long =
-    bytesOf 8 (pack (ownType own of 4 ∷ size of 12 ∷ ownHeader own count first second third long))
+    bytesOf 8 (pack (ownLayout own .type of 4 ∷ size of 12 ∷ ownLayout own .header count first second third long))
 
 -- an argument's header and name, where so many words follow them
 abbrev pub argumentStart : (type more half : ℕ) → Encoded → List ℕ
