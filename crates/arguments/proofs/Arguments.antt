@@ -6,7 +6,8 @@ use mathlib.Core.Bool.{false, _&&_}
 use native.Mathlib.Omega.{arith}
 use borrow.Author.Tests.{ltb-false, eqb-false}
 use lib.Dec.{eqb, ltb}
-use lib.ListN.{length, drop, length-drop}
+use lib.ListN.{length, take, drop, length-drop}
+use lib.Seq.{length-take-le}
 use Rattle.words.specs.Word.{pick, wordAt, field}
 use Rattle.words.proofs.Tests.{cases, on-pick}
 use Rattle.format.specs.declared.Format.{Format}
@@ -55,21 +56,24 @@ value-behind header rest place size name (body rs next) = refl
 -- an argument's body is its name, and then its value
 pub name-then-value : (f : Format) (rest : List ℕ) (place : ℕ)
     → argumentBody f rest place
-    ≡ onName (takeText f (field 16 31 (wordAt rest 0)) (place + 8) (place + argumentSize (wordAt rest 0)))
-    (λ name next. named name (argumentSize (wordAt rest 0)) (takeValue f rest place next (place + argumentSize (wordAt rest 0))))
+    ≡ onName (takeText f (field 16 31 (wordAt rest 0)) (place + 8) (take (argumentSize (wordAt rest 0)) rest) place)
+    (λ name next. named name (argumentSize (wordAt rest 0)) (takeValue f (wordAt rest 0) next (take (argumentSize (wordAt rest 0)) rest) place))
 unfolding argumentBody takeParts takePart takeValue
-name-then-value f rest place = go (takeText f (field 16 31 h) (place + 8) (place + argumentSize h))
+name-then-value f rest place = go (takeText f (field 16 31 h) (place + 8) own place)
   where
     h : ℕ
     h = wordAt rest 0
 
+    own : List ℕ
+    own = take (argumentSize h) rest
+
     go : (t : Taken)
-        → onBody (onTaken t (λ x next. prependPart x (takeParts f (valueParts h) next (place + argumentSize h)))) Refused
-        (λ rs next. Read (record { name = part 0 rs; value = valueOf h rest place (part 1 rs) }) (argumentSize h))
+        → onBody (onTaken t (λ x next. prependPart x (takeParts f (valueParts h) next own place))) Refused
+        (λ rs next. Read (record { name = part 0 rs; value = valueOf h own place (part 1 rs) }) (argumentSize h))
         ≡ onName t (λ name next. named name (argumentSize h)
-        (onBody (takeParts f (valueParts h) next (place + argumentSize h)) ValueRefused (λ rs last. ValueRead (valueOf h rest place (part 0 rs)))))
+        (onBody (takeParts f (valueParts h) next own place) ValueRefused (λ rs last. ValueRead (valueOf h own place (part 0 rs)))))
     go (TextRefused number) = refl
-    go (TextRead x next) = value-behind h rest place (argumentSize h) x (takeParts f (valueParts h) next (place + argumentSize h))
+    go (TextRead x next) = value-behind h own place (argumentSize h) x (takeParts f (valueParts h) next own place)
 
 -- ---- the texts alone
 
@@ -97,14 +101,14 @@ pub name-then-text : (f : Format) (rest : List ℕ) (place : ℕ)
     ≡ pick (ltb (length rest) 8) (TextsRefused malformed)
     (pick (eqb (argumentSize (wordAt rest 0)) 0) (TextsRefused malformed)
     (pick (ltb (length rest) (argumentSize (wordAt rest 0))) (TextsRefused malformed)
-    (onNameTexts (takeText f (field 16 31 (wordAt rest 0)) (place + 8) (place + argumentSize (wordAt rest 0)))
-    (λ name next. textsNamed name (argumentSize (wordAt rest 0)) (valueText f (wordAt rest 0) next (place + argumentSize (wordAt rest 0)))))))
+    (onNameTexts (takeText f (field 16 31 (wordAt rest 0)) (place + 8) (take (argumentSize (wordAt rest 0)) rest) place)
+    (λ name next. textsNamed name (argumentSize (wordAt rest 0)) (valueText f (wordAt rest 0) next (take (argumentSize (wordAt rest 0)) rest) place)))))
 unfolding textsOf argumentOf takeValue valueText
 name-then-text f rest place =
     cases (ltb (length rest) 8) (λ e. rw e)
     (λ e₁. cases (eqb size 0) (λ e. rw (e₁, e))
     (λ e₂. cases (ltb (length rest) size) (λ e. rw (e₁, e₂, e))
-    (λ e₃. rw (e₁, e₂, e₃, name-then-value f rest place) (of-name (takeText f (field 16 31 hd) (place + 8) (place + size))))))
+    (λ e₃. rw (e₁, e₂, e₃, name-then-value f rest place) (of-name (takeText f (field 16 31 hd) (place + 8) (take size rest) place)))))
   where
     hd : ℕ
     hd = wordAt rest 0
@@ -113,16 +117,16 @@ name-then-text f rest place =
     size = argumentSize hd
 
     of-body : (name : Reference) (b : Body)
-        → textsIn (named name size (onBody b ValueRefused (λ rs next. ValueRead (valueOf hd rest place (part 0 rs)))))
+        → textsIn (named name size (onBody b ValueRefused (λ rs next. ValueRead (valueOf hd (take size rest) place (part 0 rs)))))
         ≡ textsNamed name size (onBody b ValueTextRefused (λ rs next. ValueText (pick (eqb (argumentType hd) 6) (part 0 rs) (Inline 0 0))))
     of-body name (bodyRefused number) = refl
-    of-body name (body rs next) = ap (λ r. TextsRead name r size) (text-of-value hd rest place (part 0 rs))
+    of-body name (body rs next) = ap (λ r. TextsRead name r size) (text-of-value hd (take size rest) place (part 0 rs))
 
     of-name : (t : Taken)
-        → textsIn (onName t (λ name next. named name size (takeValue f rest place next (place + size))))
-        ≡ onNameTexts t (λ name next. textsNamed name size (valueText f hd next (place + size)))
+        → textsIn (onName t (λ name next. named name size (takeValue f hd next (take size rest) place)))
+        ≡ onNameTexts t (λ name next. textsNamed name size (valueText f hd next (take size rest) place))
     of-name (TextRefused number) = refl
-    of-name (TextRead name next) = of-body name (takeParts f (valueParts hd) next (place + size))
+    of-name (TextRead name next) = of-body name (takeParts f (valueParts hd) next (take size rest) place)
 
 -- the argument behind its texts, and behind their refusal
 pub texts-read : (f : Format) (rest : List ℕ) (place : ℕ) (name value : Reference) (size : ℕ) → textsOf f rest place ≡ TextsRead name value size
@@ -168,25 +172,26 @@ header-scalar-words header =
     (λ e. on-pick (λ s. scalarWords s ≡ 0) (eqb (argumentType header) 9) _ _ (λ e. refl) (λ e. refl))))
 
 -- every value fits so
-pub value-fits : (f : Format) (rest : List ℕ) (place at end : ℕ) → at ≤ end → ValueFits at end (takeValue f rest place at end)
+pub value-fits : (f : Format) (hd at : ℕ) (own : List ℕ) (place : ℕ) → at ≤ place + length own
+    → ValueFits at (place + length own) (takeValue f hd at own place)
 unfolding takeValue takeParts takePart takeWords valueBytes
-value-fits f rest place at end h =
-    cases (eqb (argumentType hd) 6) (λ e. rw e (of-text (takeText f (field 32 47 hd) at end) (text-moves f (field 32 47 hd) at end h)))
+value-fits f hd at own place h =
+    cases (eqb (argumentType hd) 6) (λ e. rw e (of-text (takeText f (field 32 47 hd) at own place) (text-moves f (field 32 47 hd) at own place h)))
     (λ e. cases (holdsWord (argumentType hd)) (λ e′. rw (e, e′) of-word) (λ e′. rw (e, e′, header-scalar-words hd) (omega arith, tt)))
   where
-    hd : ℕ
-    hd = wordAt rest 0
+    end : ℕ
+    end = place + length own
 
     of-text : (t : Taken) → Moves at end t
         → ValueFits at end (onBody (onTaken t (λ x next. prependPart x (body [] next))) ValueRefused (λ rs next. ValueRead (Text (part 0 rs))))
     of-text (TextRefused number) m = tt
     of-text (TextRead x next) m = (omega (arith, m .0, m .1), m .2)
 
-    of-word : ValueFits at end (onBody (takeParts f (words 1 ∷ []) at end) ValueRefused
-        (λ rs next. ValueRead (ScalarValue (wordScalar (argumentType hd) (wordAt rest (placeOf (part 0 rs) - place))))))
+    of-word : ValueFits at end (onBody (takeParts f (words 1 ∷ []) at own place) ValueRefused
+        (λ rs next. ValueRead (ScalarValue (wordScalar (argumentType hd) (wordAt own (placeOf (part 0 rs) - place))))))
     of-word =
         cases (ltb end (at + 8)) (λ q. rw q tt)
-        (λ q. let l = ltb-false end (at + 8) q in rw (q, word-scalar-words (argumentType hd) (wordAt rest (at - place))) (omega arith, tt))
+        (λ q. let l = ltb-false end (at + 8) q in rw (q, word-scalar-words (argumentType hd) (wordAt own (at - place))) (omega arith, tt))
 
 -- what is said of an argument that is read, of any answer
 abbrev pub ArgumentFits : List ℕ → ℕ → Argued → Type 0
@@ -206,8 +211,8 @@ argument-fits f rest place =
     (λ e₁. on-pick (ArgumentFits rest place) (eqb size 0) _ _ (λ e. tt)
     (λ e₂. on-pick (ArgumentFits rest place) (ltb (length rest) size) _ _ (λ e. tt)
     (λ e₃. rw (name-then-value f rest place)
-    (of-name (eqb-false size 0 e₂) (ltb-false (length rest) size e₃) (takeText f (field 16 31 hd) (place + 8) (place + size))
-    (text-moves f (field 16 31 hd) (place + 8) (place + size))))))
+    (of-name (eqb-false size 0 e₂) (ltb-false (length rest) size e₃) (takeText f (field 16 31 hd) (place + 8) (take size rest) place)
+    (text-moves f (field 16 31 hd) (place + 8) (take size rest) place)))))
   where
     hd : ℕ
     hd = wordAt rest 0
@@ -215,25 +220,29 @@ argument-fits f rest place =
     size : ℕ
     size = argumentSize hd
 
-    of-value : (size ≡ 0 → ⊥) → size ≤ length rest → (name : Reference) (next : ℕ) → Moves (place + 8) (place + size) (TextRead name next)
-        → (v : Valued) → ValueFits next (place + size) v → ArgumentFits rest place (named name size v)
+    end : ℕ
+    end = place + length (take size rest)
+
+    of-value : (size ≡ 0 → ⊥) → size ≤ length rest → (name : Reference) (next : ℕ) → Moves (place + 8) end (TextRead name next)
+        → (v : Valued) → ValueFits next end v → ArgumentFits rest place (named name size v)
     of-value z l name next m (ValueRefused number) k = tt
     of-value z l name next m (ValueRead v) k =
+        let long = length-take-le size rest l in
         record {
           some = omega arith;
           whole = omega arith;
           inside = l;
-          enough = omega (arith, m .0, k .0);
-          name = inside-wider place (place + size) name (omega arith) (omega arith) (m .2);
-          value = value-inside-wider place (place + size) v (omega (arith, m .0)) (omega arith) (k .1);
+          enough = omega (arith, long, m .0, k .0);
+          name = inside-wider place (place + size) name (omega arith) (omega (arith, long)) (m .2);
+          value = value-inside-wider place (place + size) v (omega (arith, m .0)) (omega (arith, long)) (k .1);
         }
 
-    of-name : (size ≡ 0 → ⊥) → size ≤ length rest → (t : Taken) → (place + 8 ≤ place + size → Moves (place + 8) (place + size) t)
-        → ArgumentFits rest place (onName t (λ name next. named name size (takeValue f rest place next (place + size))))
+    of-name : (size ≡ 0 → ⊥) → size ≤ length rest → (t : Taken) → (place + 8 ≤ end → Moves (place + 8) end t)
+        → ArgumentFits rest place (onName t (λ name next. named name size (takeValue f hd next (take size rest) place)))
     of-name z l (TextRefused number) m = tt
     of-name z l (TextRead name next) m =
-        let m′ = m (omega arith) in
-        of-value z l name next m′ (takeValue f rest place next (place + size)) (value-fits f rest place next (place + size) (m′ .1))
+        let m′ = m (omega (arith, length-take-le size rest l)) in
+        of-value z l name next m′ (takeValue f hd next (take size rest) place) (value-fits f hd next (take size rest) place (m′ .1))
 
 -- the same of an argument that is known to be read
 pub argument-read : (f : Format) (rest : List ℕ) (place : ℕ) (a : Argument) (size : ℕ) → argumentOf f rest place ≡ Read a size → Fits rest place a size

@@ -7,9 +7,9 @@ use mathlib.Core.Bool.{true, false, _&&_}
 use native.Mathlib.Omega.{arith}
 use borrow.Author.Tests.{ltb-true, ltb-false, eqb-false}
 use lib.Dec.{eqb, ltb}
-use lib.ListN.{length, drop}
+use lib.ListN.{length, take, drop}
 use Rattle.words.specs.Word.{wordAt, field}
-use Rattle.words.proofs.Words.{AllBytes, bytes-left, wordAt-lt}
+use Rattle.words.proofs.Words.{AllBytes, bytes-left, bytes-before, wordAt-lt}
 use Rattle.words.proofs.Signed.{SignedFits, signed-fits}
 use Rattle.words.proofs.Tests.{both-true, on-pick, cases}
 use Rattle.format.specs.declared.Format.{Format}
@@ -45,18 +45,18 @@ abbrev pub TakenShort : Format → Taken → Type 0
 TakenShort f (PartRefused number) = Unit {0}
 TakenShort f (PartRead r next) = TextShort f r
 
-stream-short : (f : Format) (n place end : ℕ) → TakenShort f (takeStream f n place end)
+stream-short : (f : Format) (n place : ℕ) (source : List ℕ) (start : ℕ) → TakenShort f (takeStream f n place source start)
 unfolding takeStream
-stream-short f n place end =
+stream-short f n place source start =
     on-pick (TakenShort f) (ltb (f .longest) n) _ _ (λ e. tt)
-    (λ e. on-pick (TakenShort f) (ltb end _) _ _ (λ q. tt) (λ q. ltb-false (f .longest) n e))
+    (λ e. on-pick (TakenShort f) (ltb (start + length source) _) _ _ (λ q. tt) (λ q. ltb-false (f .longest) n e))
 
 -- what a string reference has inline is short enough
-pub text-short : (f : Format) (r place end : ℕ) → TakenShort f (takeText f r place end)
+pub text-short : (f : Format) (r place : ℕ) (source : List ℕ) (start : ℕ) → TakenShort f (takeText f r place source start)
 unfolding takeText
-text-short f r place end =
+text-short f r place source start =
     on-pick (TakenShort f) (eqb r 0) _ _ (λ e. omega arith)
-    (λ e. on-pick (TakenShort f) (ltb r 0x8000) _ _ (λ q. tt) (λ q. stream-short f (r - 0x8000) place end))
+    (λ e. on-pick (TakenShort f) (ltb r 0x8000) _ _ (λ q. tt) (λ q. stream-short f (r - 0x8000) place source start))
 
 -- ---- values
 
@@ -105,26 +105,23 @@ abbrev ValuedBound : Format → Valued → Type 0
 ValuedBound f (ValueRefused number) = Unit {0}
 ValuedBound f (ValueRead v) = ValueBound f v
 
-value-bound : (f : Format) (rest : List ℕ) (place at end : ℕ) → AllBytes rest → argumentType (wordAt rest 0) < 10
-    → ValuedBound f (takeValue f rest place at end)
+value-bound : (f : Format) (hd at : ℕ) (own : List ℕ) (place : ℕ) → AllBytes own → argumentType hd < 10
+    → ValuedBound f (takeValue f hd at own place)
 unfolding takeValue takeParts takePart takeWords
-value-bound f rest place at end bytes known =
-    cases (eqb (argumentType hd) 6) (λ e. rw e (of-text (takeText f (field 32 47 hd) at end) (text-short f (field 32 47 hd) at end)))
+value-bound f hd at own place bytes known =
+    cases (eqb (argumentType hd) 6) (λ e. rw e (of-text (takeText f (field 32 47 hd) at own place) (text-short f (field 32 47 hd) at own place)))
     (λ e. cases (holdsWord (argumentType hd)) (λ e′. rw (e, e′) of-word) (λ e′. rw (e, e′) (header-bound hd known e e′)))
   where
-    hd : ℕ
-    hd = wordAt rest 0
-
     of-text : (t : Taken) → TakenShort f t
         → ValuedBound f (onBody (onTaken t (λ x next. prepend x (body [] next))) ValueRefused (λ rs next. ValueRead (TextValue (part 0 rs))))
     of-text (PartRefused number) m = tt
     of-text (PartRead x next) m = m
 
-    of-word : ValuedBound f (onBody (takeParts f (words 1 ∷ []) at end) ValueRefused
-        (λ rs next. ValueRead (ScalarValue (wordScalar (argumentType hd) (wordAt rest (placeOf (part 0 rs) - place))))))
+    of-word : ValuedBound f (onBody (takeParts f (words 1 ∷ []) at own place) ValueRefused
+        (λ rs next. ValueRead (ScalarValue (wordScalar (argumentType hd) (wordAt own (placeOf (part 0 rs) - place))))))
     of-word =
-        cases (ltb end (at + 8)) (λ q. rw q tt)
-        (λ q. rw q (word-bound (argumentType hd) (wordAt rest (at - place)) (wordAt-lt rest (at - place) bytes)))
+        cases (ltb (place + length own) (at + 8)) (λ q. rw q tt)
+        (λ q. rw q (word-bound (argumentType hd) (wordAt own (at - place)) (wordAt-lt own (at - place) bytes)))
 
 -- ---- arguments
 
@@ -147,7 +144,7 @@ argument-bound f rest place bytes known =
     (λ e. on-pick (ArguedBound f) (eqb size 0) _ _ (λ e. tt)
     (λ e. on-pick (ArguedBound f) (ltb (length rest) size) _ _ (λ e. tt)
     (λ e. rw (name-then-value f rest place)
-    (of-name (takeText f (field 16 31 hd) (place + 8) (place + size)) (text-short f (field 16 31 hd) (place + 8) (place + size))))))
+    (of-name (takeText f (field 16 31 hd) (place + 8) (take size rest) place) (text-short f (field 16 31 hd) (place + 8) (take size rest) place)))))
   where
     hd : ℕ
     hd = wordAt rest 0
@@ -160,10 +157,11 @@ argument-bound f rest place bytes known =
     of-value name m (ValueRead v) k = record { name = m; value = k }
 
     of-name : (t : Taken) → TakenShort f t
-        → ArguedBound f (onName t (λ name next. named name size (takeValue f rest place next (place + size))))
+        → ArguedBound f (onName t (λ name next. named name size (takeValue f hd next (take size rest) place)))
     of-name (PartRefused number) m = tt
     of-name (PartRead name next) m =
-        of-value name m (takeValue f rest place next (place + size)) (value-bound f rest place next (place + size) bytes known)
+        of-value name m (takeValue f hd next (take size rest) place)
+        (value-bound f hd next (take size rest) place (bytes-before size rest bytes) known)
 
 -- where nothing of the arguments is lost, the argument of every number is so
 pub number-bound : (f : Format) (n count : ℕ) (rest : List ℕ) (place extra : ℕ) → AllBytes rest → n < count

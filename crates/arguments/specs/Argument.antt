@@ -3,7 +3,7 @@
 use Prim.Native.Nat.{ℕ, zero, suc, _+_, _-_, _*_}
 use mathlib.Core.List.{[], List, _∷_}
 use mathlib.Core.Bool.{Bool, false}
-use lib.ListN.{length, drop}
+use lib.ListN.{take, length, drop}
 use lib.Dec.{eqb, ltb}
 use Rattle.words.specs.Word.{pick, wordAt, field, signed}
 use Rattle.format.specs.declared.Format.{Format}
@@ -91,11 +91,12 @@ valueOf header argument place reference =
     (pick (holdsWord (argumentType header)) (ScalarValue (wordScalar (argumentType header) (wordAt argument (placeOf reference - place))))
     (ScalarValue (headerScalar header)))
 
--- "Argument: type [0..3], size [4..15], name [16..31], inline name stream, then the value"
+-- "Argument: type [0..3], size [4..15], name [16..31], inline name stream, then the value"; its own bytes are the first of what is left
 unfoldable pub argumentBody : Format → List ℕ → ℕ → Argued
-argumentBody f argument place =
-    let header = wordAt argument 0 in
-    onBody (takeParts f (text (field 16 31 header) ∷ valueParts header) (place + 8) (place + argumentSize header)) Refused
+argumentBody f rest place =
+    let header = wordAt rest 0 in
+    let argument = take (argumentSize header) rest in
+    onBody (takeParts f (text (field 16 31 header) ∷ valueParts header) (place + 8) argument place) Refused
     (λ references next.
     Read (record { name = part 0 references; value = valueOf header argument place (part 1 references) }) (argumentSize header))
 

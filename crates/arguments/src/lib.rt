@@ -117,15 +117,14 @@ fn word_scalar(variant: u64, word: u64) -> Scalar
     Scalar::KernelObject(word)
 }
 
-// The value of the argument at the start of `rest`, whose name ends at the place `at` and which ends at `end`.
-fn take_value(f: Format, rest: &[u8], place: usize, at: usize, end: usize) -> Valued
-    requires { ⌜ (8 ≤ length (now rest)) × (place ≤ at) × (at ≤ end) × (end ≤ place + length (now rest)) × (place + length (now rest) < 2 ^ 63) ⌝ }
-    ensures { λ r. ⌜ r ≡ takeValue f (now (rest .entry)) place at end ⌝ }
+// The value of an argument with this header, whose name ends at the place `at`. Its bytes start at `place`.
+fn take_value(f: Format, header: u64, at: usize, argument: &[u8], place: usize) -> Valued
+    requires { ⌜ (place ≤ at) × (at ≤ place + length (now argument)) × (place + length (now argument) < 2 ^ 63) ⌝ }
+    ensures { λ r. ⌜ r ≡ takeValue f header at (now (argument .entry)) place ⌝ }
 {
-    let header = words::word(rest, 0);
     let variant = words::field(header, 0, 3);
     if variant == 6 {
-        let text = format::take_text(f, words::field(header, 32, 47), at, end);
+        let text = format::take_text(f, words::field(header, 32, 47), at, argument, place);
         match text {
             Taken::Refused(number) => {
                 return Valued::Refused(number);
@@ -136,10 +135,10 @@ fn take_value(f: Format, rest: &[u8], place: usize, at: usize, end: usize) -> Va
         }
     }
     if holds_word(variant) {
-        if end < at + 8 {
+        if place + argument.len() < at + 8 {
             return Valued::Refused(MALFORMED);
         }
-        let word = words::word(rest, at - place);
+        let word = words::word(argument, at - place);
         return Valued::Value(Value::Scalar(word_scalar(variant, word)));
     }
     Valued::Value(Value::Scalar(header_scalar(header)))
@@ -161,15 +160,15 @@ pub fn argument_of(f: Format, rest: &[u8], place: usize) -> Argued
     if rest.len() < size {
         return Argued::Refused(MALFORMED);
     }
-    let end = place + size;
-    let named = format::take_text(f, words::field(header, 16, 31), place + 8, end);
+    let argument = &rest[..size];
+    let named = format::take_text(f, words::field(header, 16, 31), place + 8, argument, place);
     match named {
         Taken::Refused(number) => Argued::Refused(number),
         Taken::Part {
             reference: name,
             next,
         } => {
-            let valued = take_value(f, rest, place, next, end);
+            let valued = take_value(f, header, next, argument, place);
             match valued {
                 Valued::Refused(number) => Argued::Refused(number),
                 Valued::Value(value) => Argued::Argument {
@@ -181,14 +180,14 @@ pub fn argument_of(f: Format, rest: &[u8], place: usize) -> Argued
     }
 }
 
-// The text of the value behind an argument's header, whose name ends at the place `at` and which ends at `end`. No scalar is made.
-fn value_text(f: Format, header: u64, at: usize, end: usize) -> ValueTaken
-    requires { ⌜ (at ≤ end) × (end < 2 ^ 63) ⌝ }
-    ensures { λ r. ⌜ r ≡ valueText f header at end ⌝ }
+// The text of the value of an argument with this header, whose name ends at the place `at`. No scalar is made.
+fn value_text(f: Format, header: u64, at: usize, argument: &[u8], place: usize) -> ValueTaken
+    requires { ⌜ (at ≤ place + length (now argument)) × (place + length (now argument) < 2 ^ 63) ⌝ }
+    ensures { λ r. ⌜ r ≡ valueText f header at (now (argument .entry)) place ⌝ }
 {
     let variant = words::field(header, 0, 3);
     if variant == 6 {
-        let text = format::take_text(f, words::field(header, 32, 47), at, end);
+        let text = format::take_text(f, words::field(header, 32, 47), at, argument, place);
         match text {
             Taken::Refused(number) => {
                 return ValueTaken::Refused(number);
@@ -199,7 +198,7 @@ fn value_text(f: Format, header: u64, at: usize, end: usize) -> ValueTaken
         }
     }
     if holds_word(variant) {
-        if end < at + 8 {
+        if place + argument.len() < at + 8 {
             return ValueTaken::Refused(MALFORMED);
         }
         return ValueTaken::Text(Reference::Inline {
@@ -230,15 +229,15 @@ pub fn texts_of(f: Format, rest: &[u8], place: usize) -> Texts
     if room < size {
         return Texts::Refused(MALFORMED);
     }
-    let end = place + size;
-    let named = format::take_text(f, words::field(header, 16, 31), place + 8, end);
+    let argument = &rest[..size];
+    let named = format::take_text(f, words::field(header, 16, 31), place + 8, argument, place);
     match named {
         Taken::Refused(number) => Texts::Refused(number),
         Taken::Part {
             reference: name,
             next,
         } => {
-            let valued = value_text(f, header, next, end);
+            let valued = value_text(f, header, next, argument, place);
             match valued {
                 ValueTaken::Refused(number) => Texts::Refused(number),
                 ValueTaken::Text(value) => Texts::Texts { name, value, size },

@@ -8,6 +8,7 @@ use native.Mathlib.Omega.{arith}
 use native.Mathlib.Nat.{add-assoc, add-zero}
 use borrow.Author.Tests.{eq-eqb, eqb-false, le-ltb, lt-ltb, ne-eqb}
 use lib.Dec.{eqb}
+use lib.Seq.{take-append-seam}
 use lib.ListN.{length, length-append}
 use lib.Seq.{drop-append-seam}
 use Rattle.words.proofs.Tests.{cases}
@@ -30,7 +31,7 @@ use Rattle.arguments.proofs.Bounds.{ScalarFits}
 use Rattle.records.specs.Item.{known, unresolved, Text, Value, scalar, text, Argument, Key, textKey}
 use Rattle.encoding.specs.Encoded.{Encoded, word, textInline, referenceOf, partBytes, partsBytes, encodedText, scalarHalf, scalarParts, recordBytes, encodedArgument, valueRecord, argumentRecord, argumentsRecords}
 use Rattle.encoding.proofs.EncodedParts.{partOf, referenceAt, referencesAt, Fine, AllFine, partWords, partsWords, length-parts, parts-read, Spells, spelled}
-use Rattle.encoding.proofs.EncodedRecords.{RecordFits, length-record, length-size, field-is, body-at}
+use Rattle.encoding.proofs.EncodedRecords.{at-start, RecordFits, length-record, length-size, field-is, body-at}
 
 -- ---- what can be written
 
@@ -251,7 +252,7 @@ argumentAt index a place =
 
 encoded-read : (f : Format) (type half : ℕ) (name : Encoded) (ws : List Encoded) (more : List ℕ) (place : ℕ) (v : ReadValue)
     → RecordFits type (referenceOf name of 16 ∷ half of 32 ∷ []) (partsBytes (name ∷ ws)) → AsText f name → AllFine f ws
-    → Valued (wordAt (encodedArgument type half name ws ++ more) 0) (encodedArgument type half name ws ++ more) place
+    → Valued (wordAt (encodedArgument type half name ws ++ more) 0) (encodedArgument type half name ws) place
     (place + 8 + length (partBytes name)) ws v
     → argumentOf f (encodedArgument type half name ws ++ more) place
     ≡ Read (record { name = referenceAt name (place + 8); value = v }) (length (encodedArgument type half name ws))
@@ -270,7 +271,8 @@ encoded-read f type half name ws more place v fit t fine valued =
       ne-eqb (length source) 0 (omega (arith, own)),
       le-ltb (length rest) (length source) (omega (arith, long)),
       ← (t .part),
-      parts-read f (name ∷ ws) (place + 8) (place + length source) (t .fine, fine) (omega (arith, own)),
+      take-append-seam source more,
+      parts-read f (name ∷ ws) (place + 8) source place (t .fine, fine) (omega (arith, own)),
       valued .value,
     )
 
@@ -292,13 +294,14 @@ argument-read f index a more place fit sized =
     let name = encodedText index (a .name) in
     let ws = encodedValue index v in
     let fields = argument-fits f index a fit sized in
-    let rest = encodedArgument (typeOf v) (halfOf index v) name ws ++ more in
-    let start : At rest 0 (encodedArgument (typeOf v) (halfOf index v) name ws) = (more, refl) in
-    let body = body-at (typeOf v) (argumentFields index a) (partsBytes (name ∷ ws)) rest 0 start in
+    let source = encodedArgument (typeOf v) (halfOf index v) name ws in
+    let rest = source ++ more in
+    let start : At rest 0 source = (more, refl) in
+    let body = body-at (typeOf v) (argumentFields index a) (partsBytes (name ∷ ws)) source 0 (at-start source) in
     let at = place + 8 + length (partBytes name) in
     let from : 0 + 8 + length (partBytes name) ≡ at - place = omega arith in
-    let behind = rw from at (at-right rest (0 + 8) (partBytes name) (partsBytes ws) body) in
-    let valued = value-read (wordAt rest 0) rest place at f index v (fit .value) (field-is fields 0 rest 0 start) (field-is fields 3 rest 0 start) behind in
+    let behind = rw from at (at-right source (0 + 8) (partBytes name) (partsBytes ws) body) in
+    let valued = value-read (wordAt rest 0) source place at f index v (fit .value) (field-is fields 0 rest 0 start) (field-is fields 3 rest 0 start) behind in
     rw (argument-record index a)
     (encoded-read f (typeOf v) (halfOf index v) name ws more place (valueAt index v at) fields
     (text-encoded f index (a .name) (fit .name)) (value-encoded f index v (fit .value) .fine) valued)

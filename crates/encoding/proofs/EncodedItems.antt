@@ -106,7 +106,7 @@ module _ (f : Format) (index : Key → ℕ) (place : ℕ) where
         own-field fits 2,
         own-field fits 3,
         own-field fits 4,
-        stream-read f (length name) (place + 8) (place + length (itemRecord index i)) (fit .layout .pieces .0)
+        stream-read f (length name) (place + 8) (itemRecord index i) place (fit .layout .pieces .0)
             (omega (arith, length-layout index (layoutOfItem i))),
       )
 
@@ -134,6 +134,6 @@ module _ (f : Format) (index : Key → ℕ) (place : ℕ) where
       let source = itemRecord index i in
       rw (
         own-field fits 0,
-        words-read 1 (place + 8) (place + length source) (omega (arith, length-layout index (layoutOfItem i))),
+        words-read 1 (place + 8) source place (omega (arith, length-layout index (layoutOfItem i))),
         pieces-spelled index (layoutOfItem i) f source 0 (fit .layout .pieces) (at-start source) .0 .0,
       )

@@ -182,7 +182,7 @@ module _ (index : Key → ℕ) (l : ItemLayout) where
 
   -- reading takes its pieces
   pub pieces-read : (f : Format) (place : ℕ) → PiecesFit f index (l .pieces)
-      → takeParts f (map partOf pieces) (place + 8) (place + length (layoutRecord index l))
+      → takeParts f (map partOf pieces) (place + 8) (layoutRecord index l) place
       ≡ body (referencesAt pieces (place + 8)) (place + 8 + length (partsBytes pieces))
   pieces-read f place fit =
-      parts-read f pieces (place + 8) (place + length (layoutRecord index l)) (pieces-fine f index (l .pieces) fit) (omega (arith, length-all))
+      parts-read f pieces (place + 8) (layoutRecord index l) place (pieces-fine f index (l .pieces) fit) (omega (arith, length-all))

@@ -112,48 +112,48 @@ parts-whole ws = omega (arith, length-parts ws)
 -- ---- reading takes what is written
 
 -- a stream that is short enough, and ends inside its record, is taken
-pub stream-read : (f : Format) (n place end : ℕ) → n ≤ f .longest → place + 8 * streamWords n ≤ end
-    → takeStream f n place end ≡ Read (Inline place n) (place + 8 * streamWords n)
+pub stream-read : (f : Format) (n place : ℕ) (source : List ℕ) (start : ℕ) → n ≤ f .longest → place + 8 * streamWords n ≤ (start + length source)
+    → takeStream f n place source start ≡ Read (Inline place n) (place + 8 * streamWords n)
 unfolding takeStream
-stream-read f n place end short inside = rw (le-ltb (f .longest) n short, le-ltb end (place + 8 * streamWords n) inside)
+stream-read f n place source start short inside = rw (le-ltb (f .longest) n short, le-ltb (start + length source) (place + 8 * streamWords n) inside)
 
 -- words that end inside their record are taken
-pub words-read : (n place end : ℕ) → place + 8 * n ≤ end → takeWords n place end ≡ Read (Inline place (8 * n)) (place + 8 * n)
+pub words-read : (n place : ℕ) (source : List ℕ) (start : ℕ) → place + 8 * n ≤ (start + length source) → takeWords n place source start ≡ Read (Inline place (8 * n)) (place + 8 * n)
 unfolding takeWords
-words-read n place end inside = rw (le-ltb end (place + 8 * n) inside)
+words-read n place source start inside = rw (le-ltb (start + length source) (place + 8 * n) inside)
 
-text-read : (f : Format) (b : List ℕ) (place end : ℕ) → length b ≤ f .longest → place + 8 * streamWords (length b) ≤ end
-    → takeText f (referenceOf (textInline b)) place end ≡ Read (Inline place (length b)) (place + 8 * streamWords (length b))
+text-read : (f : Format) (b : List ℕ) (place : ℕ) (source : List ℕ) (start : ℕ) → length b ≤ f .longest → place + 8 * streamWords (length b) ≤ (start + length source)
+    → takeText f (referenceOf (textInline b)) place source start ≡ Read (Inline place (length b)) (place + 8 * streamWords (length b))
 unfolding takeText
-text-read f [] place end short inside = rw (add-zero place)
-text-read f (c ∷ b) place end short inside =
+text-read f [] place source start short inside = rw (add-zero place)
+text-read f (c ∷ b) place source start short inside =
     let n = length (c ∷ b) in
     rw (ne-eqb (0x8000 + n) 0 (omega arith), le-ltb (0x8000 + n) 0x8000 (omega arith), add-sub-cancel-left 0x8000 n)
-    (stream-read f n place end short inside)
+    (stream-read f n place source start short inside)
 
-part-read : (f : Format) (w : Encoded) (place end : ℕ) → Fine f w → place + 8 * partWords w ≤ end
-    → takePart f (partOf w) place end ≡ Read (referenceAt w place) (place + 8 * partWords w)
+part-read : (f : Format) (w : Encoded) (place : ℕ) (source : List ℕ) (start : ℕ) → Fine f w → place + 8 * partWords w ≤ (start + length source)
+    → takePart f (partOf w) place source start ≡ Read (referenceAt w place) (place + 8 * partWords w)
 unfolding takePart takeText takeThread
-part-read f (word n) place end fine inside = words-read 1 place end inside
-part-read f (words ns) place end fine inside = words-read (length ns) place end inside
-part-read f (stream b) place end fine inside = stream-read f (length b) place end fine inside
-part-read f (textIndex index) place end fine inside =
+part-read f (word n) place source start fine inside = words-read 1 place source start inside
+part-read f (words ns) place source start fine inside = words-read (length ns) place source start inside
+part-read f (stream b) place source start fine inside = stream-read f (length b) place source start fine inside
+part-read f (textIndex index) place source start fine inside =
     rw (ne-eqb index 0 (omega arith), lt-ltb index 0x8000 (fine .1), add-zero place)
-part-read f (threadIndex index) place end fine inside = rw (ne-eqb index 0 (omega arith), add-zero place)
-part-read f (textInline b) place end fine inside = text-read f b place end (fine .0) inside
-part-read f (threadInline t) place end fine inside = words-read 2 place end inside
+part-read f (threadIndex index) place source start fine inside = rw (ne-eqb index 0 (omega arith), add-zero place)
+part-read f (textInline b) place source start fine inside = text-read f b place source start (fine .0) inside
+part-read f (threadInline t) place source start fine inside = words-read 2 place source start inside
 
 -- reading takes the parts that are written, one right behind the other
-pub parts-read : (f : Format) (ws : List Encoded) (place end : ℕ) → AllFine f ws → place + length (partsBytes ws) ≤ end
-    → takeParts f (map partOf ws) place end ≡ body (referencesAt ws place) (place + length (partsBytes ws))
+pub parts-read : (f : Format) (ws : List Encoded) (place : ℕ) (source : List ℕ) (start : ℕ) → AllFine f ws → place + length (partsBytes ws) ≤ (start + length source)
+    → takeParts f (map partOf ws) place source start ≡ body (referencesAt ws place) (place + length (partsBytes ws))
 unfolding takeParts
-parts-read f [] place end fine inside = rw (add-zero place)
-parts-read f (w ∷ ws) place end fine inside =
+parts-read f [] place source start fine inside = rw (add-zero place)
+parts-read f (w ∷ ws) place source start fine inside =
     let both = length-append (partBytes w) (partsBytes ws) in
     rw (
-      part-read f w place end (fine .0) (omega (arith, both, length-part w)),
+      part-read f w place source start (fine .0) (omega (arith, both, length-part w)),
       ← length-part w,
-      parts-read f ws (place + length (partBytes w)) end (fine .1) (omega (arith, both)),
+      parts-read f ws (place + length (partBytes w)) source start (fine .1) (omega (arith, both)),
       both,
       add-assoc place,
     )

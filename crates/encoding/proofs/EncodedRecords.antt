@@ -146,7 +146,7 @@ string-read f index b place s =
       own-field fit 4,
       ne-eqb index 0 (omega (arith, s .some)),
       le-ltb (f .highest) index (s .low),
-      stream-read f (length b) (place + 8) (place + length (stringRecord index b)) (s .short)
+      stream-read f (length b) (place + 8) (stringRecord index b) place (s .short)
           (omega (arith, length-size fit, length-padded b)),
     )
 
@@ -166,5 +166,5 @@ thread-read f index t place some h =
       own-field fit 0,
       own-field fit 2,
       ne-eqb index 0 (omega arith),
-      words-read 2 (place + 8) (place + length (threadRecord index t)) (omega (arith, length-size fit, length-part (threadInline t))),
+      words-read 2 (place + 8) (threadRecord index t) place (omega (arith, length-size fit, length-part (threadInline t))),
     )

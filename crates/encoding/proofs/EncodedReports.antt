@@ -156,7 +156,7 @@ module _ (f : Format) (index : Key → ℕ) (r : Report) (place : ℕ) (fit : It
         length-last (ownLayout (r .own) .behind) (r .last) (behind-few (r .own)),
       )
 
-  fields-there : takeFields f (layoutEncoded index r) (place + 8) (place + length source)
+  fields-there : takeFields f (layoutEncoded index r) source place
       ≡ FieldsRead (reportAt index r place .first .reference) (reportAt index r place .second .reference) (reportAt index r place .third .reference)
       (reportAt index r place .stream) first
   unfolding takeFields

@@ -23,52 +23,52 @@ abbrev pub Moves : ℕ → ℕ → Taken → Type 0
 Moves place end (Refused number) = Unit {0}
 Moves place end (Read reference next) = (next ≡ place + inlineBytes reference) × (next ≤ end) × Inside place end reference
 
-words-move : (n place end : ℕ) → Moves place end (takeWords n place end)
+words-move : (n place : ℕ) (source : List ℕ) (start : ℕ) → Moves place (start + length source) (takeWords n place source start)
 unfolding takeWords
-words-move n place end =
-    on-pick (Moves place end) (ltb end (place + 8 * n)) _ _ (λ e. tt)
-    (λ e. let h = ltb-false end (place + 8 * n) e in (omega arith, omega arith, (omega arith, omega arith)))
+words-move n place source start =
+    on-pick (Moves place (start + length source)) (ltb (start + length source) (place + 8 * n)) _ _ (λ e. tt)
+    (λ e. let h = ltb-false (start + length source) (place + 8 * n) e in (omega arith, omega arith, (omega arith, omega arith)))
 
-stream-moves : (f : Format) (n place end : ℕ) → Moves place end (takeStream f n place end)
+stream-moves : (f : Format) (n place : ℕ) (source : List ℕ) (start : ℕ) → Moves place (start + length source) (takeStream f n place source start)
 unfolding takeStream
-stream-moves f n place end =
-    on-pick (Moves place end) (ltb (f .longest) n) _ _ (λ e. tt)
-    (λ e. on-pick (Moves place end) (ltb end (place + 8 * streamWords n)) _ _ (λ e. tt)
-    (λ e. let h = ltb-false end (place + 8 * streamWords n) e in (omega arith, omega arith, (omega arith, omega arith))))
+stream-moves f n place source start =
+    on-pick (Moves place (start + length source)) (ltb (f .longest) n) _ _ (λ e. tt)
+    (λ e. on-pick (Moves place (start + length source)) (ltb (start + length source) (place + 8 * streamWords n)) _ _ (λ e. tt)
+    (λ e. let h = ltb-false (start + length source) (place + 8 * streamWords n) e in (omega arith, omega arith, (omega arith, omega arith))))
 
 -- a string reference moves so
-pub text-moves : (f : Format) (reference place end : ℕ) → place ≤ end → Moves place end (takeText f reference place end)
+pub text-moves : (f : Format) (reference place : ℕ) (source : List ℕ) (start : ℕ) → place ≤ (start + length source) → Moves place (start + length source) (takeText f reference place source start)
 unfolding takeText
-text-moves f reference place end h =
-    on-pick (Moves place end) (eqb reference 0) _ _ (λ e. (omega arith, h, (omega arith, omega arith)))
-    (λ e. on-pick (Moves place end) (ltb reference 0x8000) _ _ (λ e. (omega arith, h, tt)) (λ e. stream-moves f (reference - 0x8000) place end))
+text-moves f reference place source start h =
+    on-pick (Moves place (start + length source)) (eqb reference 0) _ _ (λ e. (omega arith, h, (omega arith, omega arith)))
+    (λ e. on-pick (Moves place (start + length source)) (ltb reference 0x8000) _ _ (λ e. (omega arith, h, tt)) (λ e. stream-moves f (reference - 0x8000) place source start))
 
 -- and a thread reference
-pub thread-moves : (reference place end : ℕ) → place ≤ end → Moves place end (takeThread reference place end)
+pub thread-moves : (reference place : ℕ) (source : List ℕ) (start : ℕ) → place ≤ (start + length source) → Moves place (start + length source) (takeThread reference place source start)
 unfolding takeThread
-thread-moves reference place end h =
-    on-pick (Moves place end) (eqb reference 0) _ _ (λ e. words-move 2 place end) (λ e. (omega arith, h, tt))
+thread-moves reference place source start h =
+    on-pick (Moves place (start + length source)) (eqb reference 0) _ _ (λ e. words-move 2 place source start) (λ e. (omega arith, h, tt))
 
 -- every part moves so
-pub part-moves : (f : Format) (p : Part) (place end : ℕ) → place ≤ end → Moves place end (takePart f p place end)
+pub part-moves : (f : Format) (p : Part) (place : ℕ) (source : List ℕ) (start : ℕ) → place ≤ (start + length source) → Moves place (start + length source) (takePart f p place source start)
 unfolding takePart
-part-moves f (words n) place end h = words-move n place end
-part-moves f (stream n) place end h = stream-moves f n place end
-part-moves f (text reference) place end h = text-moves f reference place end h
-part-moves f (thread reference) place end h = thread-moves reference place end h
+part-moves f (words n) place source start h = words-move n place source start
+part-moves f (stream n) place source start h = stream-moves f n place source start
+part-moves f (text reference) place source start h = text-moves f reference place source start h
+part-moves f (thread reference) place source start h = thread-moves reference place source start h
 
 -- the same of a part that is known to be taken
-pub part-taken : (f : Format) (p : Part) (place end : ℕ) (x : Reference) (next : ℕ) → place ≤ end → takePart f p place end ≡ Read x next
-    → Moves place end (Read x next)
-part-taken f p place end x next h e = subst (Moves place end) e (part-moves f p place end h)
+pub part-taken : (f : Format) (p : Part) (place : ℕ) (source : List ℕ) (start : ℕ) (x : Reference) (next : ℕ) → place ≤ (start + length source) → takePart f p place source start ≡ Read x next
+    → Moves place (start + length source) (Read x next)
+part-taken f p place source start x next h e = subst (Moves place (start + length source)) e (part-moves f p place source start h)
 
-pub text-taken : (f : Format) (r place end : ℕ) (x : Reference) (next : ℕ) → place ≤ end → takeText f r place end ≡ Read x next
-    → Moves place end (Read x next)
-text-taken f r place end x next h e = subst (Moves place end) e (text-moves f r place end h)
+pub text-taken : (f : Format) (r place : ℕ) (source : List ℕ) (start : ℕ) (x : Reference) (next : ℕ) → place ≤ (start + length source) → takeText f r place source start ≡ Read x next
+    → Moves place (start + length source) (Read x next)
+text-taken f r place source start x next h e = subst (Moves place (start + length source)) e (text-moves f r place source start h)
 
-pub thread-taken : (r place end : ℕ) (x : Reference) (next : ℕ) → place ≤ end → takeThread r place end ≡ Read x next
-    → Moves place end (Read x next)
-thread-taken r place end x next h e = subst (Moves place end) e (thread-moves r place end h)
+pub thread-taken : (r place : ℕ) (source : List ℕ) (start : ℕ) (x : Reference) (next : ℕ) → place ≤ (start + length source) → takeThread r place source start ≡ Read x next
+    → Moves place (start + length source) (Read x next)
+thread-taken r place source start x next h e = subst (Moves place (start + length source)) e (thread-moves r place source start h)
 
 -- what references have inline, all together
 abbrev pub inlineAll : List Reference → ℕ
@@ -105,12 +105,12 @@ on-taken place end (Refused number) k m g = tt
 on-taken place end (Read x next) k m g = g x next m
 
 -- every list of parts ends so
-pub parts-end : (f : Format) (ps : List Part) (place end : ℕ) → place ≤ end → Ends place end (takeParts f ps place end)
+pub parts-end : (f : Format) (ps : List Part) (place : ℕ) (source : List ℕ) (start : ℕ) → place ≤ (start + length source) → Ends place (start + length source) (takeParts f ps place source start)
 unfolding takeParts
-parts-end f [] place end h = (omega arith, h, tt)
-parts-end f (p ∷ ps) place end h =
-    on-taken place end (takePart f p place end) (λ x next. prepend x (takeParts f ps next end)) (part-moves f p place end h)
-    (λ x next m. prepend-ends x place next end (takeParts f ps next end) m (parts-end f ps next end (m .1)))
+parts-end f [] place source start h = (omega arith, h, tt)
+parts-end f (p ∷ ps) place source start h =
+    on-taken place (start + length source) (takePart f p place source start) (λ x next. prepend x (takeParts f ps next source start)) (part-moves f p place source start h)
+    (λ x next m. prepend-ends x place next (start + length source) (takeParts f ps next source start) m (parts-end f ps next source start (m .1)))
 
 -- as many references are read as there are parts
 abbrev pub Counted : ℕ → Body → Type 0
@@ -121,12 +121,12 @@ prepend-counted : (n : ℕ) (x : Reference) (b : Body) → Counted n b → Count
 prepend-counted n x (refused number) c = tt
 prepend-counted n x (body rs last) c = ap suc c
 
-pub parts-counted : (f : Format) (ps : List Part) (place end : ℕ) → Counted (length ps) (takeParts f ps place end)
+pub parts-counted : (f : Format) (ps : List Part) (place : ℕ) (source : List ℕ) (start : ℕ) → Counted (length ps) (takeParts f ps place source start)
 unfolding takeParts
-parts-counted f [] place end = refl
-parts-counted f (p ∷ ps) place end = go (takePart f p place end) (λ next. parts-counted f ps next end)
+parts-counted f [] place source start = refl
+parts-counted f (p ∷ ps) place source start = go (takePart f p place source start) (λ next. parts-counted f ps next source start)
   where
-    go : (t : Taken) → ((next : ℕ) → Counted (length ps) (takeParts f ps next end))
-        → Counted (suc (length ps)) (onTaken t (λ x next. prepend x (takeParts f ps next end)))
+    go : (t : Taken) → ((next : ℕ) → Counted (length ps) (takeParts f ps next source start))
+        → Counted (suc (length ps)) (onTaken t (λ x next. prepend x (takeParts f ps next source start)))
     go (Refused number) k = tt
-    go (Read x next) k = prepend-counted (length ps) x (takeParts f ps next end) (k next)
+    go (Read x next) k = prepend-counted (length ps) x (takeParts f ps next source start) (k next)

@@ -1,9 +1,9 @@
 -- The body of a record, and of an argument, as a list of parts: "its fields in written order, a stream where it stands" (document 01).
--- A part is read from a place up to the end of its record. Places are byte places of the archive.
+-- A part is read at a place of its record, whose bytes are `source` and start at the place `start`. Places are byte places of the archive.
 use Prim.Native.Nat.{ℕ, _+_, _-_, _*_}
 use mathlib.Core.List.{[], List, _∷_}
 use mathlib.Core.Bool.{Bool, true}
-use lib.ListN.{take, drop, getD}
+use lib.ListN.{length, take, drop, getD}
 use lib.Dec.{eqb, ltb}
 use Rattle.words.specs.Word.{pick}
 use Rattle.words.specs.Stream.{streamWords, paddingOf, allZero}
@@ -17,26 +17,26 @@ use Rattle.format.specs.declared.Taken.the-variants.{Refused, Part as Re
 use Rattle.format.specs.Limits.{malformed, longText}
 
 -- n words: the record is "too small for its content" where it has fewer left
-unfoldable pub takeWords : ℕ → ℕ → ℕ → Taken
-takeWords n place end = pick (ltb end (place + 8 * n)) (Refused malformed) (Read (Inline place (8 * n)) (place + 8 * n))
+unfoldable pub takeWords : (n place : ℕ) → List ℕ → ℕ → Taken
+takeWords n place source start = pick (ltb (start + length source) (place + 8 * n)) (Refused malformed) (Read (Inline place (8 * n)) (place + 8 * n))
 
 -- a stream of n bytes: "7 before 6"
-unfoldable pub takeStream : Format → ℕ → ℕ → ℕ → Taken
-takeStream f n place end =
+unfoldable pub takeStream : Format → (n place : ℕ) → List ℕ → ℕ → Taken
+takeStream f n place source start =
     pick (ltb (f .longest) n) (Refused longText)
-    (pick (ltb end (place + 8 * streamWords n)) (Refused malformed)
+    (pick (ltb (start + length source) (place + 8 * streamWords n)) (Refused malformed)
     (Read (Inline place n) (place + 8 * streamWords n)))
 
 -- "String reference, 16 bits: 0 is the empty string; top bit 0, an index; top bit 1, the low 15 bits are the length of an inline stream."
-unfoldable pub takeText : Format → ℕ → ℕ → ℕ → Taken
-takeText f reference place end =
+unfoldable pub takeText : Format → (reference place : ℕ) → List ℕ → ℕ → Taken
+takeText f reference place source start =
     pick (eqb reference 0) (Read (Inline place 0) place)
     (pick (ltb reference 0x8000) (Read (Index reference) place)
-    (takeStream f (reference - 0x8000) place end))
+    (takeStream f (reference - 0x8000) place source start))
 
 -- "Thread reference, 8 bits: 0 means process and thread words are inline; otherwise an index."
-unfoldable pub takeThread : ℕ → ℕ → ℕ → Taken
-takeThread reference place end = pick (eqb reference 0) (takeWords 2 place end) (Read (Index reference) place)
+unfoldable pub takeThread : (reference place : ℕ) → List ℕ → ℕ → Taken
+takeThread reference place source start = pick (eqb reference 0) (takeWords 2 place source start) (Read (Index reference) place)
 
 -- the table that a part is looked up in, by the type of its records: 3 for a thread, 2 for a text and for what is looked up in none
 unfoldable pub tableOf : Part → ℕ
@@ -46,11 +46,11 @@ tableOf (text reference) = 2
 tableOf (thread reference) = 3
 
 -- a part of a body: so many words, a stream of so many bytes, what a string reference or a thread reference has inline
-unfoldable pub takePart : Format → Part → ℕ → ℕ → Taken
-takePart f (words n) place end = takeWords n place end
-takePart f (stream n) place end = takeStream f n place end
-takePart f (text reference) place end = takeText f reference place end
-takePart f (thread reference) place end = takeThread reference place end
+unfoldable pub takePart : Format → Part → ℕ → List ℕ → ℕ → Taken
+takePart f (words n) place source start = takeWords n place source start
+takePart f (stream n) place source start = takeStream f n place source start
+takePart f (text reference) place source start = takeText f reference place source start
+takePart f (thread reference) place source start = takeThread reference place source start
 
 -- a body that is read: what stands for each of its parts, and the place right behind them
 pub data Body : Type 0 where
@@ -65,9 +65,9 @@ abbrev pub onTaken : Taken → (Reference → ℕ → Body) → Body
 onTaken (Refused number) k = refused number
 onTaken (Read reference next) k = k reference next
 
-unfoldable pub takeParts : Format → List Part → ℕ → ℕ → Body
-takeParts f [] place end = body [] place
-takeParts f (p ∷ ps) place end = onTaken (takePart f p place end) (λ reference next. prepend reference (takeParts f ps next end))
+unfoldable pub takeParts : Format → List Part → ℕ → List ℕ → ℕ → Body
+takeParts f [] place source start = body [] place
+takeParts f (p ∷ ps) place source start = onTaken (takePart f p place source start) (λ reference next. prepend reference (takeParts f ps next source start))
 
 abbrev pub onBody : {A : Type 0} → Body → (ℕ → A) → (List Reference → ℕ → A) → A
 onBody (refused number) refuse then = refuse number

@@ -89,13 +89,13 @@ pub fn extent_of(rest: &[u8]) -> Extent
     Extent::Bytes(8 * size)
 }
 
-// So many words of a record that ends at `end`.
-pub fn take_words(n: usize, place: usize, end: usize) -> Taken
-    requires { ⌜ (n < 2 ^ 32) × (place < 2 ^ 63) ⌝ }
-    ensures { λ r. ⌜ r ≡ takeWords n place end ⌝ }
+// So many words at a place of a record, whose bytes are `source` and start at the place `start`.
+pub fn take_words(n: usize, place: usize, source: &[u8], start: usize) -> Taken
+    requires { ⌜ (n < 2 ^ 32) × (place < 2 ^ 63) × (start + length (now source) < 2 ^ 63) ⌝ }
+    ensures { λ r. ⌜ r ≡ takeWords n place (now (source .entry)) start ⌝ }
 {
     let next = place + 8 * n;
-    if end < next {
+    if start + source.len() < next {
         return Taken::Refused(MALFORMED);
     }
     Taken::Part {
@@ -107,16 +107,16 @@ pub fn take_words(n: usize, place: usize, end: usize) -> Taken
     }
 }
 
-// A stream of n bytes of a record that ends at `end`.
-pub fn take_stream(f: Format, n: usize, place: usize, end: usize) -> Taken
-    requires { ⌜ (n < 2 ^ 32) × (place < 2 ^ 63) ⌝ }
-    ensures { λ r. ⌜ r ≡ takeStream f n place end ⌝ }
+// A stream of n bytes.
+pub fn take_stream(f: Format, n: usize, place: usize, source: &[u8], start: usize) -> Taken
+    requires { ⌜ (n < 2 ^ 32) × (place < 2 ^ 63) × (start + length (now source) < 2 ^ 63) ⌝ }
+    ensures { λ r. ⌜ r ≡ takeStream f n place (now (source .entry)) start ⌝ }
 {
     if f.longest < n {
         return Taken::Refused(LONG_TEXT);
     }
     let next = place + 8 * words::stream_words(n);
-    if end < next {
+    if start + source.len() < next {
         return Taken::Refused(MALFORMED);
     }
     Taken::Part {
@@ -126,9 +126,9 @@ pub fn take_stream(f: Format, n: usize, place: usize, end: usize) -> Taken
 }
 
 // A string reference with its inline stream.
-pub fn take_text(f: Format, reference: u64, place: usize, end: usize) -> Taken
-    requires { ⌜ (reference < 2 ^ 16) × (place < 2 ^ 63) ⌝ }
-    ensures { λ r. ⌜ r ≡ takeText f reference place end ⌝ }
+pub fn take_text(f: Format, reference: u64, place: usize, source: &[u8], start: usize) -> Taken
+    requires { ⌜ (reference < 2 ^ 16) × (place < 2 ^ 63) × (start + length (now source) < 2 ^ 63) ⌝ }
+    ensures { λ r. ⌜ r ≡ takeText f reference place (now (source .entry)) start ⌝ }
 {
     if reference == 0 {
         return Taken::Part {
@@ -142,16 +142,16 @@ pub fn take_text(f: Format, reference: u64, place: usize, end: usize) -> Taken
             next: place,
         };
     }
-    take_stream(f, (reference - 0x8000) as usize, place, end)
+    take_stream(f, (reference - 0x8000) as usize, place, source, start)
 }
 
 // A thread reference with its inline process and thread words.
-pub fn take_thread(reference: u64, place: usize, end: usize) -> Taken
-    requires { ⌜ (reference < 2 ^ 8) × (place < 2 ^ 63) ⌝ }
-    ensures { λ r. ⌜ r ≡ takeThread reference place end ⌝ }
+pub fn take_thread(reference: u64, place: usize, source: &[u8], start: usize) -> Taken
+    requires { ⌜ (reference < 2 ^ 8) × (place < 2 ^ 63) × (start + length (now source) < 2 ^ 63) ⌝ }
+    ensures { λ r. ⌜ r ≡ takeThread reference place (now (source .entry)) start ⌝ }
 {
     if reference == 0 {
-        return take_words(2, place, end);
+        return take_words(2, place, source, start);
     }
     Taken::Part {
         reference: Reference::Index(reference as usize),
@@ -159,16 +159,16 @@ pub fn take_thread(reference: u64, place: usize, end: usize) -> Taken
     }
 }
 
-// A part of a record that ends at `end`.
-pub fn take_part(f: Format, part: Part, place: usize, end: usize) -> Taken
-    requires { ⌜ PartFits part × (place < 2 ^ 63) ⌝ }
-    ensures { λ r. ⌜ r ≡ takePart f part place end ⌝ }
+// A part at a place of a record.
+pub fn take_part(f: Format, part: Part, place: usize, source: &[u8], start: usize) -> Taken
+    requires { ⌜ PartFits part × (place < 2 ^ 63) × (start + length (now source) < 2 ^ 63) ⌝ }
+    ensures { λ r. ⌜ r ≡ takePart f part place (now (source .entry)) start ⌝ }
 {
     match part {
-        Part::Words(n) => take_words(n, place, end),
-        Part::Stream(n) => take_stream(f, n, place, end),
-        Part::Text(reference) => take_text(f, reference, place, end),
-        Part::Thread(reference) => take_thread(reference, place, end),
+        Part::Words(n) => take_words(n, place, source, start),
+        Part::Stream(n) => take_stream(f, n, place, source, start),
+        Part::Text(reference) => take_text(f, reference, place, source, start),
+        Part::Thread(reference) => take_thread(reference, place, source, start),
     }
 }
 

@@ -6,7 +6,7 @@ use mathlib.Core.List.{[], List, _∷_}
 use mathlib.Core.Logic.{_⊎_, inl, inr}
 use native.Mathlib.Omega.{arith}
 use lib.Dec.{eqb, ltb}
-use lib.ListN.{length, getD}
+use lib.ListN.{length, take, getD}
 use Rattle.records.proofs.Passes.{ThreadReference}
 use Rattle.words.specs.Word.{pick, wordAt, field}
 use Rattle.words.proofs.Tests.{on-pick, cases}
@@ -154,14 +154,17 @@ texts-short f rest place =
     (on-pick TextsShort (ltb (length rest) 8) _ _ (λ e. tt)
     (λ e. on-pick TextsShort (eqb size 0) _ _ (λ e. tt)
     (λ e. on-pick TextsShort (ltb (length rest) size) _ _ (λ e. tt)
-    (λ e. of-name (takeText f (field 16 31 hd) (place + 8) (place + size))
-    (low-short (field 16 31 hd) (takeText f (field 16 31 hd) (place + 8) (place + size)) (omega arith) (text-low f (field 16 31 hd) (place + 8) (place + size)))))))
+    (λ e. of-name (takeText f (field 16 31 hd) (place + 8) own place)
+    (low-short (field 16 31 hd) (takeText f (field 16 31 hd) (place + 8) own place) (omega arith) (text-low f (field 16 31 hd) (place + 8) own place))))))
   where
     hd : ℕ
     hd = wordAt rest 0
 
     size : ℕ
     size = argumentSize hd
+
+    own : List ℕ
+    own = take size rest
 
     of-text : (name : Reference) → Short name → (x : Taken) → TakenShort x
         → TextsShort (textsNamed name size
@@ -174,15 +177,15 @@ texts-short f rest place =
     of-other name h (bodyRefused number) = tt
     of-other name h (body rs next) = (h, omega arith)
 
-    of-value : (name : Reference) (next : ℕ) → Short name → TextsShort (textsNamed name size (valueText f hd next (place + size)))
+    of-value : (name : Reference) (next : ℕ) → Short name → TextsShort (textsNamed name size (valueText f hd next own place))
     of-value name next h =
         cases (eqb (argumentType hd) 6)
         (λ e. rw e
-        (of-text name h (takeText f (field 32 47 hd) next (place + size))
-        (low-short (field 32 47 hd) (takeText f (field 32 47 hd) next (place + size)) (omega arith) (text-low f (field 32 47 hd) next (place + size)))))
-        (λ e. rw e (of-other name h (takeParts f (pick (holdsWord (argumentType hd)) (words 1 ∷ []) []) next (place + size))))
+        (of-text name h (takeText f (field 32 47 hd) next own place)
+        (low-short (field 32 47 hd) (takeText f (field 32 47 hd) next own place) (omega arith) (text-low f (field 32 47 hd) next own place))))
+        (λ e. rw e (of-other name h (takeParts f (pick (holdsWord (argumentType hd)) (words 1 ∷ []) []) next own place)))
 
-    of-name : (x : Taken) → TakenShort x → TextsShort (onNameTexts x (λ name next. textsNamed name size (valueText f hd next (place + size))))
+    of-name : (x : Taken) → TakenShort x → TextsShort (onNameTexts x (λ name next. textsNamed name size (valueText f hd next own place)))
     of-name (PartRefused number) h = tt
     of-name (PartRead name next) h = of-value name next h
 

@@ -225,7 +225,7 @@ module _ (f : Format) (archive tables : List ℕ) (s : State) (sound : Sound f a
   content-place : (c : Content) (next : ℕ) → ContentFits f (take (next - s .place) (drop (s .place) archive)) (s .place) c
       → afterRecord s c next .number ≡ 0 → afterRecord s c next .state .place ≡ next
   unfolding effectOf followed
-  content-place (Refused number) next fits z = absurd (omega (arith, fits .0))
+  content-place (Refused number) next fits z = absurd (omega (arith, fits .stops))
   content-place Magic next fits z = refl
   content-place (ProviderInfo id at long) next fits z = entered id next z
   content-place (Section id) next fits z = entered id next z
@@ -399,5 +399,5 @@ module _ (f : Format) (archive tables : List ℕ) (s : State) (sound : Sound f a
         go (inl (number, e)) =
             let fits : RecordNumber number = subst (ContentFits f source (s .place)) e (record-whole f archive (s .place) .holds) in
             let z : number ≡ 0 = rw e at goes in
-            absurd (omega (arith, fits .0))
+            absurd (omega (arith, fits .stops))
         go (inr l) = l

@@ -135,7 +135,7 @@ on-decision P f archive tables s stop show rate enter register event =
     of-content : (c : Content) → recordAt f archive (s .place) .content ≡ c
         → ContentFits f (take (next - s .place) (drop (s .place) archive)) (s .place) c → P (contentDecision f archive tables s c next)
     of-content (Refused number) e h =
-        subst P (sym (stop-decided f s number next Nothing (h .0))) (stop number (s .place) (λ z. absurd (omega (arith, h .0))))
+        subst P (sym (stop-decided f s number next Nothing (h .stops))) (stop number (s .place) (λ z. absurd (omega (arith, h .stops))))
     of-content Magic e h = show MagicShown tt
     of-content (ProviderInfo id at long) e h =
         subst P (sym (entering-decided f s id next (ProviderInfoShown id at long))) (enter id (ProviderInfoShown id at long) refl)

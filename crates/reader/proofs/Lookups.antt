@@ -28,7 +28,7 @@ use Rattle.records.specs.declared.Record.{Record}
 use Rattle.records.specs.Layout.{layoutOf}
 use Rattle.records.specs.Record.{contentOf, recordOf, recordAt}
 use Rattle.records.specs.Models.Bounds.{ContentInside}
-use Rattle.records.proofs.Passes.{RecordNumber, ThreadReference, is-table}
+use Rattle.records.proofs.Passes.{RecordNumber, number-cut, number-malformed, ThreadReference, is-table}
 use Rattle.records.proofs.Contents.{ContentIs, refused as isRefused, magic as isMagic, providerInfo as isProviderInfo, section as isSection, providerEvent as isProviderEvent, initialization as isInitialization}
 use Rattle.records.proofs.Contents.{string as isString, thread as isThread, report as isReport, ignored as isIgnored, skipped as isSkipped, content-is, RecordStands, record-stands}
 use Rattle.tables.specs.declared.Resolved.{Resolved}
@@ -101,9 +101,9 @@ ExtentPasses (Bytes size) = Unit {0}
 extent-passes : (rest : List ℕ) → ExtentPasses (extentOf rest)
 unfolding extentOf
 extent-passes rest =
-    on-pick ExtentPasses (ltb (length rest) 8) _ _ (λ e. (omega arith, omega arith))
-    (λ e. on-pick ExtentPasses (eqb n 0) _ _ (λ e. (omega arith, omega arith))
-    (λ e. on-pick ExtentPasses (ltb (length rest) (8 * n)) _ _ (λ e. (omega arith, omega arith)) (λ e. tt)))
+    on-pick ExtentPasses (ltb (length rest) 8) _ _ (λ e. number-cut)
+    (λ e. on-pick ExtentPasses (eqb n 0) _ _ (λ e. number-malformed)
+    (λ e. on-pick ExtentPasses (ltb (length rest) (8 * n)) _ _ (λ e. number-cut) (λ e. tt)))
   where
     n : ℕ
     n = recordWords (wordAt rest 0)

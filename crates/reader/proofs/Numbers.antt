@@ -173,7 +173,7 @@ step-ends f archive tables s =
     of-content : (c : Content) → ContentFits f (take (next - s .place) (drop (s .place) archive)) (s .place) c
         → P (contentDecision f archive tables s c next)
     of-content (Refused number) h =
-        subst P (sym (stop-decided f s number next Nothing (h .0))) (at-record number (omega (arith, h .0), omega (arith, h .1)))
+        subst P (sym (stop-decided f s number next Nothing (h .stops))) (at-record number (omega (arith, h .stops), omega (arith, h .answered)))
     of-content Magic h = tt
     of-content (ProviderInfo id at long) h =
         subst P (sym (entering-decided f s id next (ProviderInfoShown id at long)))

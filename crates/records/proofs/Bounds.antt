@@ -54,13 +54,13 @@ abbrev pub TakenLow : ℕ → Taken → Type 0
 TakenLow r (PartRefused number) = Unit {0}
 TakenLow r (PartRead x next) = lengthOf x ≤ r
 
-pub text-low : (f : Format) (r place end : ℕ) → TakenLow r (takeText f r place end)
+pub text-low : (f : Format) (r place : ℕ) (source : List ℕ) (start : ℕ) → TakenLow r (takeText f r place source start)
 unfolding takeText takeStream
-text-low f r place end =
+text-low f r place source start =
     on-pick (TakenLow r) (eqb r 0) _ _ (λ e. omega arith)
     (λ e. on-pick (TakenLow r) (ltb r 0x8000) _ _ (λ e. omega arith)
     (λ e. on-pick (TakenLow r) (ltb (f .longest) (r - 0x8000)) _ _ (λ e. tt)
-    (λ e. on-pick (TakenLow r) (ltb end _) _ _ (λ e. tt) (λ e. omega arith))))
+    (λ e. on-pick (TakenLow r) (ltb (start + length source) _) _ _ (λ e. tt) (λ e. omega arith))))
 
 -- a text and a stream are short enough, and a stream has the length that its header says
 abbrev PartShort : Format → Part → Reference → Type 0
@@ -73,22 +73,22 @@ abbrev TakenPart : Format → Part → Taken → Type 0
 TakenPart f p (PartRefused number) = Unit {0}
 TakenPart f p (PartRead x next) = PartShort f p x
 
-part-short : (f : Format) (p : Part) (place end : ℕ) → TakenPart f p (takePart f p place end)
+part-short : (f : Format) (p : Part) (place : ℕ) (source : List ℕ) (start : ℕ) → TakenPart f p (takePart f p place source start)
 unfolding takePart takeStream
-part-short f (words n) place end = go (takeWords n place end)
+part-short f (words n) place source start = go (takeWords n place source start)
   where
     go : (x : Taken) → TakenPart f (words n) x
     go (PartRefused number) = tt
     go (PartRead x next) = tt
-part-short f (stream n) place end =
+part-short f (stream n) place source start =
     on-pick (TakenPart f (stream n)) (ltb (f .longest) n) _ _ (λ e. tt)
-    (λ e. on-pick (TakenPart f (stream n)) (ltb end (place + 8 * streamWords n)) _ _ (λ q. tt) (λ q. (refl, ltb-false (f .longest) n e)))
-part-short f (text r) place end = go (takeText f r place end) (text-short f r place end) (text-low f r place end)
+    (λ e. on-pick (TakenPart f (stream n)) (ltb (start + length source) (place + 8 * streamWords n)) _ _ (λ q. tt) (λ q. (refl, ltb-false (f .longest) n e)))
+part-short f (text r) place source start = go (takeText f r place source start) (text-short f r place source start) (text-low f r place source start)
   where
     go : (x : Taken) → TakenShort f x → TakenLow r x → TakenPart f (text r) x
     go (PartRefused number) h l = tt
     go (PartRead x next) h l = (h, l)
-part-short f (thread r) place end = go (takeThread r place end)
+part-short f (thread r) place source start = go (takeThread r place source start)
   where
     go : (x : Taken) → TakenPart f (thread r) x
     go (PartRefused number) = tt
@@ -104,27 +104,27 @@ abbrev BodyShort : Format → List Part → Body → Type 0
 BodyShort f ps (bodyRefused number) = Unit {0}
 BodyShort f ps (body xs next) = AllShort f ps xs
 
-parts-short : (f : Format) (ps : List Part) (place end : ℕ) → BodyShort f ps (takeParts f ps place end)
+parts-short : (f : Format) (ps : List Part) (place : ℕ) (source : List ℕ) (start : ℕ) → BodyShort f ps (takeParts f ps place source start)
 unfolding takeParts
-parts-short f [] place end = tt
-parts-short f (p ∷ ps) place end = go (takePart f p place end) (part-short f p place end) (λ next. parts-short f ps next end)
+parts-short f [] place source start = tt
+parts-short f (p ∷ ps) place source start = go (takePart f p place source start) (part-short f p place source start) (λ next. parts-short f ps next source start)
   where
     with-first : (x : Reference) (b : Body) → PartShort f p x → BodyShort f ps b → BodyShort f (p ∷ ps) (prepend x b)
     with-first x (bodyRefused number) h k = tt
     with-first x (body xs next) h k = (h, k)
 
-    go : (t : Taken) → TakenPart f p t → ((next : ℕ) → BodyShort f ps (takeParts f ps next end))
-        → BodyShort f (p ∷ ps) (onTaken t (λ x next. prepend x (takeParts f ps next end)))
+    go : (t : Taken) → TakenPart f p t → ((next : ℕ) → BodyShort f ps (takeParts f ps next source start))
+        → BodyShort f (p ∷ ps) (onTaken t (λ x next. prepend x (takeParts f ps next source start)))
     go (PartRefused number) h k = tt
-    go (PartRead x next) h k = with-first x (takeParts f ps next end) h (k next)
+    go (PartRead x next) h k = with-first x (takeParts f ps next source start) h (k next)
 
 abbrev FieldsBound : Format → Layout → Fields → Type 0
 FieldsBound f l (FieldsRefused number) = Unit {0}
 FieldsBound f l (FieldsRead a b c s next) = PartShort f (l .first) a × PartShort f (l .second) b × PartShort f (l .third) c × PartShort f (l .stream) s
 
-fields-bound : (f : Format) (l : Layout) (place end : ℕ) → FieldsBound f l (takeFields f l place end)
+fields-bound : (f : Format) (l : Layout) (source : List ℕ) (place : ℕ) → FieldsBound f l (takeFields f l source place)
 unfolding takeFields
-fields-bound f l place end = go (takeParts f (layoutParts l) place end) (parts-short f (layoutParts l) place end)
+fields-bound f l source place = go (takeParts f (layoutParts l) (place + 8) source place) (parts-short f (layoutParts l) (place + 8) source place)
   where
     go : (b : Body) → BodyShort f (layoutParts l) b → FieldsBound f l (fieldsOf b)
     go (bodyRefused number) k = tt
@@ -261,7 +261,7 @@ is-short f source place _ (isThread t one room) = tt
 is-short f source place _ (isReportRead a b c s first at last list is) =
     let l = layoutOf (wordAt source 0) in
     let fits = layout-fits (wordAt source 0) in
-    let k = subst (FieldsBound f l) (is .fields) (fields-bound f l (place + 8) (place + length source)) in
+    let k = subst (FieldsBound f l) (is .fields) (fields-bound f l source place) in
     record {
       first = short-reference f (l .first) a (fits .first) (k .0);
       second = short-reference f (l .second) b (fits .second) (k .1);
@@ -308,7 +308,7 @@ report-bound f source place bytes a b c s first at last list is =
     let l = layoutOf (wordAt source 0) in
     let fits = layout-fits (wordAt source 0) in
     let own = own-read source (is .is-report) in
-    let k = subst (FieldsBound f l) (is .fields) (fields-bound f l (place + 8) (place + length source)) in
+    let k = subst (FieldsBound f l) (is .fields) (fields-bound f l source place) in
     let read = stream-read f (l .stream) s (fits .stream) (k .3) in
     let z = subst (LastBound (l .behind)) (is .last-is) (last-bound source place at (l .behind) bytes) in
     record {

@@ -38,7 +38,7 @@ use Rattle.records.specs.Layout.{isEvent, layoutOf, takeFields, lastWord
 use Rattle.records.specs.Models.Layouts.{reportArguments}
 use Rattle.records.specs.Record.{providerInfoOf, metadataOf, initializationOf, stringOf, threadOf, contentOf, recordOf, recordAt}
 use Rattle.records.specs.Models.Bounds.{ContentInside}
-use Rattle.records.proofs.Passes.{RecordNumber, ArgumentsPass, arguments-pass, Shape, FieldsPass, fields-pass}
+use Rattle.records.proofs.Passes.{RecordNumber, number-malformed, number-long, number-high, ArgumentsPass, arguments-pass, Shape, FieldsPass, fields-pass}
 use Rattle.records.proofs.Layouts.{Stand, fields-stand, FieldsStand}
 
 -- ---- which content stands for which header
@@ -46,7 +46,7 @@ use Rattle.records.proofs.Layouts.{Stand, fields-stand, FieldsStand}
 -- a record that refers to texts and threads: the steps by which it was read, and where its parts stand
 pub record ReportIs (f : Format) (source : List ℕ) (place : ℕ) (a b c s : Reference) (first at last : ℕ) (list : List Argument) : Type 0 where
   pub is-report : layoutOf (wordAt source 0) .read ≡ true
-  pub fields : takeFields f (layoutOf (wordAt source 0)) (place + 8) (place + length source) ≡ FieldsRead a b c s first
+  pub fields : takeFields f (layoutOf (wordAt source 0)) source place ≡ FieldsRead a b c s first
   pub shapes : Shape (layoutOf (wordAt source 0) .first) a × Shape (layoutOf (wordAt source 0) .second) b × Shape (layoutOf (wordAt source 0) .third) c
   pub stand : Stand (layoutOf (wordAt source 0)) (place + 8) (place + length source) a b c s first
   pub read : argumentsOf f (layoutOf (wordAt source 0) .count) (drop (first - place) source) first ≡ arguments list at
@@ -76,20 +76,20 @@ pub data ContentIs (f : Format) (source : List ℕ) (place : ℕ) : Content → 
   ignored : ContentIs f source place Ignored
   skipped : (type : ℕ) → type < 16 → ContentIs f source place (Skipped type (recordWords (wordAt source 0)))
 
--- a body of some words, or of a stream, fits between its two places or is refused
-on-words : (P : Content → Type 0) (f : Format) (n place end : ℕ) (a : Content) → ((number : ℕ) → RecordNumber number → P (Refused number))
-    → (place + 8 * n ≤ end → P a) → P (onBody (takeParts f (words n ∷ []) place end) Refused (λ references next. a))
+-- a body of some words, or of a stream, fits into its record or is refused
+on-words : (P : Content → Type 0) (f : Format) (n place : ℕ) (source : List ℕ) (start : ℕ) (a : Content) → ((number : ℕ) → RecordNumber number → P (Refused number))
+    → (place + 8 * n ≤ (start + length source) → P a) → P (onBody (takeParts f (words n ∷ []) place source start) Refused (λ references next. a))
 unfolding takeParts takePart takeWords
-on-words P f n place end a r g =
-    cases (ltb end (place + 8 * n)) (λ e. rw e (r _ (omega arith, omega arith))) (λ e. rw e (g (ltb-false end (place + 8 * n) e)))
+on-words P f n place source start a r g =
+    cases (ltb (start + length source) (place + 8 * n)) (λ e. rw e (r _ number-malformed)) (λ e. rw e (g (ltb-false (start + length source) (place + 8 * n) e)))
 
-on-stream : (P : Content → Type 0) (f : Format) (n place end : ℕ) (c : Content) → ((number : ℕ) → RecordNumber number → P (Refused number))
-    → (n ≤ f .longest → place + 8 * streamWords n ≤ end → P c) → P (onBody (takeParts f (stream n ∷ []) place end) Refused (λ references next. c))
+on-stream : (P : Content → Type 0) (f : Format) (n place : ℕ) (source : List ℕ) (start : ℕ) (c : Content) → ((number : ℕ) → RecordNumber number → P (Refused number))
+    → (n ≤ f .longest → place + 8 * streamWords n ≤ (start + length source) → P c) → P (onBody (takeParts f (stream n ∷ []) place source start) Refused (λ references next. c))
 unfolding takeParts takePart takeStream
-on-stream P f n place end c r g =
-    cases (ltb (f .longest) n) (λ e. rw e (r _ (omega arith, omega arith)))
-    (λ e. cases (ltb end (place + 8 * streamWords n)) (λ q. rw (e, q) (r _ (omega arith, omega arith)))
-    (λ q. rw (e, q) (g (ltb-false (f .longest) n e) (ltb-false end (place + 8 * streamWords n) q))))
+on-stream P f n place source start c r g =
+    cases (ltb (f .longest) n) (λ e. rw e (r _ number-long))
+    (λ e. cases (ltb (start + length source) (place + 8 * streamWords n)) (λ q. rw (e, q) (r _ number-malformed))
+    (λ q. rw (e, q) (g (ltb-false (f .longest) n e) (ltb-false (start + length source) (place + 8 * streamWords n) q))))
 
 module _ (f : Format) (source : List ℕ) (place : ℕ) where
   abbrev Is : Content → Type 0
@@ -100,36 +100,36 @@ module _ (f : Format) (source : List ℕ) (place : ℕ) where
   metadata-is t =
       let h = wordAt source 0 in
       on-pick Is (eqb (field 16 19 h) 1) _ _
-      (λ e. on-stream Is f (field 52 59 h) (place + 8) (place + length source) _ refused
+      (λ e. on-stream Is f (field 52 59 h) (place + 8) source place _ refused
       (λ short room. providerInfo t (eqb-true (field 16 19 h) 1 e) short (omega (arith, room))))
       (λ _. on-pick Is (eqb (field 16 19 h) 2) _ _ (λ e. section t (eqb-true (field 16 19 h) 2 e))
       (λ _. on-pick Is (eqb (field 16 19 h) 3) _ _ (λ e. providerEvent t (eqb-true (field 16 19 h) 3 e))
       (λ _. on-pick Is (eqb (field 16 23 h) 4) _ _
-      (λ _. on-pick Is (startsWithMagic source) _ _ (λ e. magic e) (λ _. refused _ (omega arith, omega arith)))
+      (λ _. on-pick Is (startsWithMagic source) _ _ (λ e. magic e) (λ _. refused _ number-malformed))
       (λ _. skipped 0 (omega arith)))))
 
-  string-is : field 0 3 (wordAt source 0) ≡ 2 → Is (stringOf f (wordAt source 0) place (place + length source))
+  string-is : field 0 3 (wordAt source 0) ≡ 2 → Is (stringOf f source place)
   unfolding stringOf
   string-is t =
       let h = wordAt source 0 in
       on-pick Is (eqb (field 16 30 h) 0) _ _ (λ _. ignored)
-      (λ some. on-pick Is (ltb (f .highest) (field 16 30 h)) _ _ (λ _. refused _ (omega arith, omega arith))
-      (λ low. on-stream Is f (field 32 46 h) (place + 8) (place + length source) _ refused
+      (λ some. on-pick Is (ltb (f .highest) (field 16 30 h)) _ _ (λ _. refused _ number-high)
+      (λ low. on-stream Is f (field 32 46 h) (place + 8) source place _ refused
       (λ short room. let is = eqb-false (field 16 30 h) 0 some in
       string t (omega arith) (ltb-false (f .highest) (field 16 30 h) low) short (omega (arith, room)))))
 
-  thread-is : field 0 3 (wordAt source 0) ≡ 3 → Is (threadOf f (wordAt source 0) place (place + length source))
+  thread-is : field 0 3 (wordAt source 0) ≡ 3 → Is (threadOf f source place)
   unfolding threadOf
   thread-is t =
       let h = wordAt source 0 in
       on-pick Is (eqb (field 16 23 h) 0) _ _ (λ _. ignored)
-      (λ some. on-words Is f 2 (place + 8) (place + length source) _ refused
+      (λ some. on-words Is f 2 (place + 8) source place _ refused
       (λ room. let is = eqb-false (field 16 23 h) 0 some in thread t (omega arith) (omega (arith, room))))
 
   initialization-is : field 0 3 (wordAt source 0) ≡ 1 → Is (initializationOf f source place)
   unfolding initializationOf
   initialization-is t =
-      on-words Is f 1 (place + 8) (place + length source) _ refused (λ room. initialization t (omega (arith, room)))
+      on-words Is f 1 (place + 8) source place _ refused (λ room. initialization t (omega (arith, room)))
 
   abbrev l : Layout
   l = layoutOf (wordAt source 0)
@@ -141,18 +141,18 @@ module _ (f : Format) (source : List ℕ) (place : ℕ) where
   last-room : (at : ℕ) → LastIs at (lastWord source place at (l .behind))
   unfolding lastWord
   last-room at =
-      on-pick (LastIs at) (ltb (place + length source) (at + 8 * l .behind)) _ _ (λ _. (omega arith, omega arith))
+      on-pick (LastIs at) (ltb (place + length source) (at + 8 * l .behind)) _ _ (λ _. number-malformed)
       (λ e. on-pick (LastIs at) (eqb (l .behind) 0) _ _ (λ _. ltb-false (place + length source) (at + 8 * l .behind) e)
       (λ _. ltb-false (place + length source) (at + 8 * l .behind) e))
 
   report-read : layoutOf (wordAt source 0) .read ≡ true → 8 ≤ length source → Is (reportOf f source place)
   unfolding reportOf
-  report-read k h = of-fields (takeFields f l (place + 8) end) refl (fields-stand f l (place + 8) end (omega arith)) (fields-pass f l (place + 8) end)
+  report-read k h = of-fields (takeFields f l source place) refl (fields-stand f l source place (omega arith)) (fields-pass f l source place)
     where
       end : ℕ
       end = place + length source
 
-      of-last : (a b c s : Reference) (first at : ℕ) (list : List Argument) → takeFields f l (place + 8) end ≡ FieldsRead a b c s first
+      of-last : (a b c s : Reference) (first at : ℕ) (list : List Argument) → takeFields f l source place ≡ FieldsRead a b c s first
           → Stand l (place + 8) end a b c s first → Shape (l .first) a × Shape (l .second) b × Shape (l .third) c
           → argumentsOf f (l .count) (drop (first - place) source) first ≡ arguments list at
           → ArgumentsFit (l .count) (drop (first - place) source) first (arguments list at)
@@ -162,7 +162,7 @@ module _ (f : Format) (source : List ℕ) (place : ℕ) where
       of-last a b c s first at list e st sh q fit (Word last) g r =
           report a b c s first at last list (record { is-report = k; fields = e; shapes = sh; stand = st; read = q; fit = fit; last-is = g; room = r })
 
-      of-arguments : (a b c s : Reference) (first : ℕ) → takeFields f l (place + 8) end ≡ FieldsRead a b c s first
+      of-arguments : (a b c s : Reference) (first : ℕ) → takeFields f l source place ≡ FieldsRead a b c s first
           → Stand l (place + 8) end a b c s first → Shape (l .first) a × Shape (l .second) b × Shape (l .third) c → ArgumentsPass (argumentsOf f (l .count) (drop (first - place) source) first)
           → (q : Arguments) → argumentsOf f (l .count) (drop (first - place) source) first ≡ q
           → ArgumentsFit (l .count) (drop (first - place) source) first q
@@ -172,7 +172,7 @@ module _ (f : Format) (source : List ℕ) (place : ℕ) where
       of-arguments a b c s first e st sh p (arguments list at) g fit =
           of-last a b c s first at list e st sh g fit (lastWord source place at (l .behind)) refl (last-room at)
 
-      of-fields : (x : Fields) → takeFields f l (place + 8) end ≡ x → FieldsStand l (place + 8) end x → FieldsPass l x
+      of-fields : (x : Fields) → takeFields f l source place ≡ x → FieldsStand l (place + 8) end x → FieldsPass l x
           → Is (onFields x Refused
           (λ a b c s first. onWalked (walked (argumentsOf f (l .count) (drop (first - place) source) first)) Refused
           (λ at. onLast (lastWord source place at (l .behind)) Refused (λ last. ReportRead (reportRead l source a b c s first last)))))
@@ -195,12 +195,12 @@ module _ (f : Format) (source : List ℕ) (place : ℕ) where
 
 -- a record of type 2 is a string record, one of type 3 a thread record
 pub content-string : (f : Format) (source : List ℕ) (place : ℕ) → field 0 3 (wordAt source 0) ≡ 2
-    → contentOf f source place ≡ stringOf f (wordAt source 0) place (place + length source)
+    → contentOf f source place ≡ stringOf f source place
 unfolding contentOf layoutOf isEvent
 content-string f source place e = rw e
 
 pub content-thread : (f : Format) (source : List ℕ) (place : ℕ) → field 0 3 (wordAt source 0) ≡ 3
-    → contentOf f source place ≡ threadOf f (wordAt source 0) place (place + length source)
+    → contentOf f source place ≡ threadOf f source place
 unfolding contentOf layoutOf isEvent
 content-thread f source place e = rw e
 

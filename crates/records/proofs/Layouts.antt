@@ -80,25 +80,29 @@ FieldsStand l place end (FieldsRefused number) = Unit {0}
 FieldsStand l place end (FieldsRead a b c s next) = Stand l place end a b c s next
 
 -- every layout stands so
-pub fields-stand : (f : Format) (l : Layout) (place end : ℕ) → place ≤ end → FieldsStand l place end (takeFields f l place end)
+pub fields-stand : (f : Format) (l : Layout) (source : List ℕ) (place : ℕ) → 8 ≤ length source
+    → FieldsStand l (place + 8) (place + length source) (takeFields f l source place)
 unfolding takeFields takeParts takePart takeWords
-fields-stand f l place end h =
+fields-stand f l source place h =
     on-pick (λ t. P (onTaken t next)) (ltb end from) _ _ (λ e. tt)
-    (λ e. go (takeParts f rest from end) (parts-end f rest from end (ltb-false end from e)) (parts-counted f rest from end))
+    (λ e. go (takeParts f rest from source place) (parts-end f rest from source place (ltb-false end from e)) (parts-counted f rest from source place))
   where
+    end : ℕ
+    end = place + length source
+
     from : ℕ
-    from = place + 8 * l .words
+    from = place + 8 + 8 * l .words
 
     rest : List Part
     rest = l .first ∷ l .second ∷ l .third ∷ l .stream ∷ []
 
     next : Reference → ℕ → Body
-    next x n = prepend x (takeParts f rest n end)
+    next x n = prepend x (takeParts f rest n source place)
 
     P : Body → Type 0
-    P b = FieldsStand l place end (fieldsOf b)
+    P b = FieldsStand l (place + 8) end (fieldsOf b)
 
-    go : (b : Body) → Ends from end b → Counted 4 b → P (prepend (Inline place (8 * l .words)) b)
+    go : (b : Body) → Ends from end b → Counted 4 b → P (prepend (Inline (place + 8) (8 * l .words)) b)
     go (refused number) e k = tt
     go (body [] n) e k = absurd (omega (arith, k))
     go (body (a ∷ []) n) e k = absurd (omega (arith, k))
@@ -108,23 +112,23 @@ fields-stand f l place end h =
         record {
           starts = omega (arith, e .0);
           ends = e .1;
-          in-first = inside-wider place end a (omega arith) (omega arith) (e .2 .0);
-          in-second = inside-wider place end b (omega arith) (omega arith) (e .2 .1 .0);
-          in-third = inside-wider place end c (omega arith) (omega arith) (e .2 .1 .1 .0);
-          in-stream = inside-wider place end s (omega arith) (omega arith) (e .2 .1 .1 .1 .0);
+          in-first = inside-wider (place + 8) end a (omega arith) (omega arith) (e .2 .0);
+          in-second = inside-wider (place + 8) end b (omega arith) (omega arith) (e .2 .1 .0);
+          in-third = inside-wider (place + 8) end c (omega arith) (omega arith) (e .2 .1 .1 .0);
+          in-stream = inside-wider (place + 8) end s (omega arith) (omega arith) (e .2 .1 .1 .1 .0);
         }
     go (body (a ∷ b ∷ c ∷ s ∷ x ∷ xs) n) e k = absurd (omega (arith, k))
 
 -- leading words that are known to be taken
-pub words-taken : (f : Format) (n place end : ℕ) (x : Reference) (next : ℕ) → place ≤ end → takeWords n place end ≡ PartRead x next
-    → Moves place end (PartRead x next)
+pub words-taken : (f : Format) (n place : ℕ) (source : List ℕ) (start : ℕ) (x : Reference) (next : ℕ) → place ≤ start + length source
+    → takeWords n place source start ≡ PartRead x next → Moves place (start + length source) (PartRead x next)
 unfolding takePart
-words-taken f n place end x next h e = part-taken f (words n) place end x next h e
+words-taken f n place source start x next h e = part-taken f (words n) place source start x next h e
 
 -- the same of fields that are known to be read
-pub fields-read : (f : Format) (l : Layout) (place end : ℕ) (a b c s : Reference) (next : ℕ) → place ≤ end
-    → takeFields f l place end ≡ FieldsRead a b c s next → Stand l place end a b c s next
-fields-read f l place end a b c s next h e = subst (FieldsStand l place end) e (fields-stand f l place end h)
+pub fields-read : (f : Format) (l : Layout) (source : List ℕ) (place : ℕ) (a b c s : Reference) (next : ℕ) → 8 ≤ length source
+    → takeFields f l source place ≡ FieldsRead a b c s next → Stand l (place + 8) (place + length source) a b c s next
+fields-read f l source place a b c s next h e = subst (FieldsStand l (place + 8) (place + length source)) e (fields-stand f l source place h)
 
 abbrev EndInside : List ℕ → ℕ → Walked → Type 0
 EndInside rest place (WalkRefused number) = Unit {0}
@@ -148,13 +152,13 @@ onWords (PartRefused number) then = FieldsRefused number
 onWords (PartRead w next) then = then next
 
 -- the fields of a layout are its leading words and two pairs of parts
-pub fields-by-pairs : (f : Format) (l : Layout) (place end : ℕ)
-    → takeFields f l place end
-    ≡ onWords (takeWords (l .words) place end)
-    (λ start. onPair (takePair f (l .first) (l .second) start end) FieldsRefused
-    (λ a b middle. onPair (takePair f (l .third) (l .stream) middle end) FieldsRefused (λ c s next. FieldsRead a b c s next)))
+pub fields-by-pairs : (f : Format) (l : Layout) (source : List ℕ) (place : ℕ)
+    → takeFields f l source place
+    ≡ onWords (takeWords (l .words) (place + 8) source place)
+    (λ start. onPair (takePair f (l .first) (l .second) start source place) FieldsRefused
+    (λ a b middle. onPair (takePair f (l .third) (l .stream) middle source place) FieldsRefused (λ c s next. FieldsRead a b c s next)))
 unfolding takeFields takeParts takePart takePair
-fields-by-pairs f l place end = of-words (takeWords (l .words) place end)
+fields-by-pairs f l source place = of-words (takeWords (l .words) (place + 8) source place)
   where
     last : Taken → Body
     last t = onTaken t (λ s n. prepend s (body [] n))
@@ -166,45 +170,46 @@ fields-by-pairs f l place end = of-words (takeWords (l .words) place end)
     of-stream w a b c (PartRead s n) = refl
 
     of-third : (w a b : Reference) (t : Taken)
-        → fieldsOf (prepend w (prepend a (prepend b (onTaken t (λ c n. prepend c (last (takePart f (l .stream) n end)))))))
-        ≡ onPair (pairOf (onTaken t (λ c n. prepend c (last (takePart f (l .stream) n end))))) FieldsRefused (λ c s next. FieldsRead a b c s next)
+        → fieldsOf (prepend w (prepend a (prepend b (onTaken t (λ c n. prepend c (last (takePart f (l .stream) n source place)))))))
+        ≡ onPair (pairOf (onTaken t (λ c n. prepend c (last (takePart f (l .stream) n source place))))) FieldsRefused (λ c s next. FieldsRead a b c s next)
     of-third w a b (PartRefused number) = refl
-    of-third w a b (PartRead c n) = of-stream w a b c (takePart f (l .stream) n end)
+    of-third w a b (PartRead c n) = of-stream w a b c (takePart f (l .stream) n source place)
 
     of-second : (w a : Reference) (t : Taken)
-        → fieldsOf (prepend w (prepend a (onTaken t (λ b n. prepend b (takeParts f (l .third ∷ l .stream ∷ []) n end)))))
+        → fieldsOf (prepend w (prepend a (onTaken t (λ b n. prepend b (takeParts f (l .third ∷ l .stream ∷ []) n source place)))))
         ≡ onPair (pairOf (prepend a (last t))) FieldsRefused
-        (λ a b middle. onPair (takePair f (l .third) (l .stream) middle end) FieldsRefused (λ c s next. FieldsRead a b c s next))
+        (λ a b middle. onPair (takePair f (l .third) (l .stream) middle source place) FieldsRefused (λ c s next. FieldsRead a b c s next))
     of-second w a (PartRefused number) = refl
-    of-second w a (PartRead b n) = of-third w a b (takePart f (l .third) n end)
+    of-second w a (PartRead b n) = of-third w a b (takePart f (l .third) n source place)
 
     of-first : (w : Reference) (t : Taken)
-        → fieldsOf (prepend w (onTaken t (λ a n. prepend a (takeParts f (l .second ∷ l .third ∷ l .stream ∷ []) n end))))
-        ≡ onPair (pairOf (onTaken t (λ a n. prepend a (last (takePart f (l .second) n end))))) FieldsRefused
-        (λ a b middle. onPair (takePair f (l .third) (l .stream) middle end) FieldsRefused (λ c s next. FieldsRead a b c s next))
+        → fieldsOf (prepend w (onTaken t (λ a n. prepend a (takeParts f (l .second ∷ l .third ∷ l .stream ∷ []) n source place))))
+        ≡ onPair (pairOf (onTaken t (λ a n. prepend a (last (takePart f (l .second) n source place))))) FieldsRefused
+        (λ a b middle. onPair (takePair f (l .third) (l .stream) middle source place) FieldsRefused (λ c s next. FieldsRead a b c s next))
     of-first w (PartRefused number) = refl
-    of-first w (PartRead a n) = of-second w a (takePart f (l .second) n end)
+    of-first w (PartRead a n) = of-second w a (takePart f (l .second) n source place)
 
     of-words : (t : Taken)
-        → fieldsOf (onTaken t (λ w n. prepend w (takeParts f (l .first ∷ l .second ∷ l .third ∷ l .stream ∷ []) n end)))
-        ≡ onWords t (λ start. onPair (takePair f (l .first) (l .second) start end) FieldsRefused
-        (λ a b middle. onPair (takePair f (l .third) (l .stream) middle end) FieldsRefused (λ c s next. FieldsRead a b c s next)))
+        → fieldsOf (onTaken t (λ w n. prepend w (takeParts f (l .first ∷ l .second ∷ l .third ∷ l .stream ∷ []) n source place)))
+        ≡ onWords t (λ start. onPair (takePair f (l .first) (l .second) start source place) FieldsRefused
+        (λ a b middle. onPair (takePair f (l .third) (l .stream) middle source place) FieldsRefused (λ c s next. FieldsRead a b c s next)))
     of-words (PartRefused number) = refl
-    of-words (PartRead w n) = of-first w (takePart f (l .first) n end)
+    of-words (PartRead w n) = of-first w (takePart f (l .first) n source place)
 
 -- a pair that is read ends behind its start, and before the end
-pub pair-moves : (f : Format) (one two : Part) (place end : ℕ) (a b : Reference) (next : ℕ) → place ≤ end
-    → takePair f one two place end ≡ PairRead a b next → next ≤ end
+pub pair-moves : (f : Format) (one two : Part) (place : ℕ) (source : List ℕ) (start : ℕ) (a b : Reference) (next : ℕ) → place ≤ start + length source
+    → takePair f one two place source start ≡ PairRead a b next → next ≤ start + length source
 unfolding takePair
-pair-moves f one two place end a b next h = go (takeParts f (one ∷ two ∷ []) place end) (parts-end f (one ∷ two ∷ []) place end h)
+pair-moves f one two place source start a b next h =
+    go (takeParts f (one ∷ two ∷ []) place source start) (parts-end f (one ∷ two ∷ []) place source start h)
   where
-    go : (q : Body) → Ends place end q → pairOf q ≡ PairRead a b next → next ≤ end
+    go : (q : Body) → Ends place (start + length source) q → pairOf q ≡ PairRead a b next → next ≤ start + length source
     go (refused number) k e = let z : _≡_ {A = ℕ} 0 1 = cc in absurd (omega arith)
     go (body rs n) k e = let z : n ≡ next = cc in omega (arith, k .1)
 
 -- a record of which fields, arguments and last word are read
 pub report-is : (f : Format) (source : List ℕ) (place : ℕ) (l : Layout) {a b c s : Reference} {first at last : ℕ}
-    → layoutOf (wordAt source 0) ≡ l → takeFields f l (place + 8) (place + length source) ≡ FieldsRead a b c s first
+    → layoutOf (wordAt source 0) ≡ l → takeFields f l source place ≡ FieldsRead a b c s first
     → walked (argumentsOf f (l .count) (drop (first - place) source) first) ≡ End at → lastWord source place at (l .behind) ≡ Word last
     → reportOf f source place ≡ ReportRead (reportRead l source a b c s first last)
 unfolding reportOf

@@ -69,9 +69,9 @@ abbrev pub fieldsOf : Body → Fields
 fieldsOf (refused number) = FieldsRefused number
 fieldsOf (body references next) = FieldsRead (part 1 references) (part 2 references) (part 3 references) (part 4 references) next
 
--- a record up to its arguments
-unfoldable pub takeFields : Format → Layout → ℕ → ℕ → Fields
-takeFields f l place end = fieldsOf (takeParts f (layoutParts l) place end)
+-- a record up to its arguments: its bytes are `source` and start at `place`
+unfoldable pub takeFields : Format → Layout → List ℕ → ℕ → Fields
+takeFields f l source place = fieldsOf (takeParts f (layoutParts l) (place + 8) source place)
 
 -- the word behind the arguments, which end at `at`
 unfoldable pub lastWord : List ℕ → ℕ → ℕ → ℕ → Last
@@ -112,7 +112,7 @@ reportRead l source a b c s first last =
 unfoldable pub reportOf : Format → List ℕ → ℕ → Content
 reportOf f source place =
     let l = layoutOf (wordAt source 0) in
-    onFields (takeFields f l (place + 8) (place + length source)) Refused
+    onFields (takeFields f l source place) Refused
     (λ a b c s first.
     onWalked (walked (argumentsOf f (l .count) (drop (first - place) source) first)) Refused
     (λ at.

@@ -19,9 +19,10 @@ use Rattle.records.specs.declared.Record.{Record}
 use Rattle.records.specs.Layout.{layoutOf, reportOf}
 
 -- "Kind 1, provider info: id [20..51], name length [52..59], name stream."
-unfoldable pub providerInfoOf : Format → ℕ → ℕ → ℕ → Content
-providerInfoOf f header place end =
-    onBody (takeParts f (stream (field 52 59 header) ∷ []) (place + 8) end) Refused
+unfoldable pub providerInfoOf : Format → List ℕ → ℕ → Content
+providerInfoOf f source place =
+    let header = wordAt source 0 in
+    onBody (takeParts f (stream (field 52 59 header) ∷ []) (place + 8) source place) Refused
     (λ references next. ProviderInfo (field 20 51 header) (place + 8) (field 52 59 header))
 
 -- "Metadata (0): kind [16..19]. Kind 2, section: id [20..51]. Kind 3, provider event: id [20..51], event [52..55].
@@ -29,7 +30,7 @@ providerInfoOf f header place end =
 unfoldable pub metadataOf : Format → List ℕ → ℕ → Content
 metadataOf f source place =
     let header = wordAt source 0 in
-    pick (eqb (field 16 19 header) 1) (providerInfoOf f header place (place + length source))
+    pick (eqb (field 16 19 header) 1) (providerInfoOf f source place)
     (pick (eqb (field 16 19 header) 2) (Section (field 20 51 header))
     (pick (eqb (field 16 19 header) 3) (ProviderEvent (field 20 51 header) (field 52 55 header))
     (pick (eqb (field 16 23 header) 4) (pick (startsWithMagic source) Magic (Refused malformed))
@@ -38,34 +39,35 @@ metadataOf f source place =
 -- "Initialization (1): one word, ticks per second."
 unfoldable pub initializationOf : Format → List ℕ → ℕ → Content
 initializationOf f source place =
-    onBody (takeParts f (words 1 ∷ []) (place + 8) (place + length source)) Refused
+    onBody (takeParts f (words 1 ∷ []) (place + 8) source place) Refused
     (λ references next. Initialization (wordAt source 8))
 
 -- "String (2): index [16..30], length [32..46], stream."; "for a string record 8, 7, 6"; "An index of 0 is ignored, with no further check."
-unfoldable pub stringOf : Format → ℕ → ℕ → ℕ → Content
-stringOf f header place end =
+unfoldable pub stringOf : Format → List ℕ → ℕ → Content
+stringOf f source place =
+    let header = wordAt source 0 in
     pick (eqb (field 16 30 header) 0) Ignored
     (pick (ltb (f .highest) (field 16 30 header)) (Refused highIndex)
-    (onBody (takeParts f (stream (field 32 46 header) ∷ []) (place + 8) end) Refused
+    (onBody (takeParts f (stream (field 32 46 header) ∷ []) (place + 8) source place) Refused
     (λ references next. String (field 16 30 header) (place + 8) (field 32 46 header))))
 
 -- "Thread (3): index [16..23], process word, thread word."
-unfoldable pub threadOf : Format → ℕ → ℕ → ℕ → Content
-threadOf f header place end =
+unfoldable pub threadOf : Format → List ℕ → ℕ → Content
+threadOf f source place =
+    let header = wordAt source 0 in
     pick (eqb (field 16 23 header) 0) Ignored
-    (onBody (takeParts f (words 2 ∷ []) (place + 8) end) Refused
+    (onBody (takeParts f (words 2 ∷ []) (place + 8) source place) Refused
     (λ references next. Thread (field 16 23 header) (place + 8)))
 
 -- a record that refers to texts and threads, or by its type; "Every other record type, metadata type, trace info type and event type is skipped by its size, and shown as skipped."
 unfoldable pub contentOf : Format → List ℕ → ℕ → Content
 contentOf f source place =
     let header = wordAt source 0 in
-    let end = place + length source in
     pick (layoutOf header .read) (reportOf f source place)
     (pick (eqb (field 0 3 header) 0) (metadataOf f source place)
     (pick (eqb (field 0 3 header) 1) (initializationOf f source place)
-    (pick (eqb (field 0 3 header) 2) (stringOf f header place end)
-    (pick (eqb (field 0 3 header) 3) (threadOf f header place end)
+    (pick (eqb (field 0 3 header) 2) (stringOf f source place)
+    (pick (eqb (field 0 3 header) 3) (threadOf f source place)
     (Skipped (field 0 3 header) (recordWords header))))))
 
 abbrev pub onExtent : Extent → (ℕ → Record) → (ℕ → Record) → Record

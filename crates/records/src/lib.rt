@@ -208,19 +208,19 @@ fn own_of(source: &[u8]) -> Event
     }
 }
 
-// Two parts, one behind the other, from `place` to `end`.
-fn take_pair(f: Format, one: Part, two: Part, place: usize, end: usize) -> Pair
-    requires { ⌜ PartFits one × PartFits two × (place ≤ end) × (end < 2 ^ 63) ⌝ }
-    ensures { λ r. ⌜ r ≡ takePair f one two place end ⌝ }
+// Two parts, one behind the other, at a place of a record, whose bytes are `source` and start at the place `start`.
+fn take_pair(f: Format, one: Part, two: Part, place: usize, source: &[u8], start: usize) -> Pair
+    requires { ⌜ PartFits one × PartFits two × (place ≤ start + length (now source)) × (start + length (now source) < 2 ^ 63) ⌝ }
+    ensures { λ r. ⌜ r ≡ takePair f one two place (now (source .entry)) start ⌝ }
 {
-    let taken = format::take_part(f, one, place, end);
+    let taken = format::take_part(f, one, place, source, start);
     match taken {
         Taken::Refused(number) => Pair::Refused(number),
         Taken::Part {
             reference: first,
             next: at,
         } => {
-            let behind = format::take_part(f, two, at, end);
+            let behind = format::take_part(f, two, at, source, start);
             match behind {
                 Taken::Refused(number) => Pair::Refused(number),
                 Taken::Part {
@@ -236,23 +236,23 @@ fn take_pair(f: Format, one: Part, two: Part, place: usize, end: usize) -> Pair
     }
 }
 
-// The references and the stream of a layout, from `place` to `end`.
-fn take_fields(f: Format, layout: Layout, place: usize, end: usize) -> Fields
-    requires { ⌜ LayoutFits layout × (place ≤ end) × (end < 2 ^ 63) ⌝ }
-    ensures { λ r. ⌜ r ≡ takeFields f layout place end ⌝ }
+// The references and the stream of the record that is `source`, whole, at a place of the archive.
+fn take_fields(f: Format, layout: Layout, source: &[u8], place: usize) -> Fields
+    requires { ⌜ LayoutFits layout × (8 ≤ length (now source)) × (place + length (now source) < 2 ^ 63) ⌝ }
+    ensures { λ r. ⌜ r ≡ takeFields f layout (now (source .entry)) place ⌝ }
 {
     let one = layout.first;
     let two = layout.second;
     let three = layout.third;
     let four = layout.stream;
-    let leading = format::take_words(layout.words, place, end);
+    let leading = format::take_words(layout.words, place + 8, source, place);
     match leading {
         Taken::Refused(number) => Fields::Refused(number),
         Taken::Part {
             reference: _,
             next: start,
         } => {
-            let pair = take_pair(f, one, two, start, end);
+            let pair = take_pair(f, one, two, start, source, place);
             match pair {
                 Pair::Refused(number) => Fields::Refused(number),
                 Pair::Pair {
@@ -260,7 +260,7 @@ fn take_fields(f: Format, layout: Layout, place: usize, end: usize) -> Fields
                     second,
                     next: middle,
                 } => {
-                    let rest = take_pair(f, three, four, middle, end);
+                    let rest = take_pair(f, three, four, middle, source, place);
                     match rest {
                         Pair::Refused(number) => Fields::Refused(number),
                         Pair::Pair {
@@ -302,7 +302,7 @@ fn report_of(f: Format, source: &[u8], place: usize) -> Content
     ensures { λ r. ⌜ r ≡ reportOf f (now (source .entry)) place ⌝ }
 {
     let layout = layout_of(words::word(source, 0));
-    let fields = take_fields(f, layout, place + 8, place + source.len());
+    let fields = take_fields(f, layout, source, place);
     match fields {
         Fields::Refused(number) => Content::Refused(number),
         Fields::Fields {
@@ -353,12 +353,13 @@ fn report_of(f: Format, source: &[u8], place: usize) -> Content
 }
 
 // Provider info.
-fn provider_info_of(f: Format, header: u64, place: usize, end: usize) -> Content
-    requires { ⌜ place < 2 ^ 62 ⌝ }
-    ensures { λ r. ⌜ r ≡ providerInfoOf f header place end ⌝ }
+fn provider_info_of(f: Format, source: &[u8], place: usize) -> Content
+    requires { ⌜ (8 ≤ length (now source)) × (place + length (now source) < 2 ^ 62) ⌝ }
+    ensures { λ r. ⌜ r ≡ providerInfoOf f (now (source .entry)) place ⌝ }
 {
+    let header = words::word(source, 0);
     let length = words::field(header, 52, 59) as usize;
-    let stream = format::take_stream(f, length, place + 8, end);
+    let stream = format::take_stream(f, length, place + 8, source, place);
     match stream {
         Taken::Refused(number) => Content::Refused(number),
         Taken::Part {
@@ -380,7 +381,7 @@ fn metadata_of(f: Format, source: &[u8], place: usize) -> Content
     let header = words::word(source, 0);
     let metadata_type = words::field(header, 16, 19);
     if metadata_type == 1 {
-        return provider_info_of(f, header, place, place + source.len());
+        return provider_info_of(f, source, place);
     }
     if metadata_type == 2 {
         return Content::Section {
@@ -420,10 +421,11 @@ fn initialization_of(f: Format, source: &[u8], place: usize) -> Content
 }
 
 // A string record.
-pub fn string_of(f: Format, header: u64, place: usize, end: usize) -> Content
-    requires { ⌜ place < 2 ^ 62 ⌝ }
-    ensures { λ r. ⌜ r ≡ stringOf f header place end ⌝ }
+pub fn string_of(f: Format, source: &[u8], place: usize) -> Content
+    requires { ⌜ (8 ≤ length (now source)) × (place + length (now source) < 2 ^ 62) ⌝ }
+    ensures { λ r. ⌜ r ≡ stringOf f (now (source .entry)) place ⌝ }
 {
+    let header = words::word(source, 0);
     let index = words::field(header, 16, 30) as usize;
     let length = words::field(header, 32, 46) as usize;
     if index == 0 {
@@ -432,7 +434,7 @@ pub fn string_of(f: Format, header: u64, place: usize, end: usize) -> Content
     if f.highest < index {
         return Content::Refused(HIGH_INDEX);
     }
-    let stream = format::take_stream(f, length, place + 8, end);
+    let stream = format::take_stream(f, length, place + 8, source, place);
     match stream {
         Taken::Refused(number) => Content::Refused(number),
         Taken::Part {
@@ -447,15 +449,16 @@ pub fn string_of(f: Format, header: u64, place: usize, end: usize) -> Content
 }
 
 // A thread record.
-pub fn thread_of(f: Format, header: u64, place: usize, end: usize) -> Content
-    requires { ⌜ place < 2 ^ 62 ⌝ }
-    ensures { λ r. ⌜ r ≡ threadOf f header place end ⌝ }
+pub fn thread_of(f: Format, source: &[u8], place: usize) -> Content
+    requires { ⌜ (8 ≤ length (now source)) × (place + length (now source) < 2 ^ 62) ⌝ }
+    ensures { λ r. ⌜ r ≡ threadOf f (now (source .entry)) place ⌝ }
 {
+    let header = words::word(source, 0);
     let index = words::field(header, 16, 23) as usize;
     if index == 0 {
         return Content::Ignored;
     }
-    let pair = format::take_words(2, place + 8, end);
+    let pair = format::take_words(2, place + 8, source, place);
     match pair {
         Taken::Refused(number) => Content::Refused(number),
         Taken::Part {
@@ -480,10 +483,10 @@ pub fn content_of(f: Format, source: &[u8], place: usize) -> Content
         return report_of(f, source, place);
     }
     if record_type == 2 {
-        return string_of(f, header, place, place + source.len());
+        return string_of(f, source, place);
     }
     if record_type == 3 {
-        return thread_of(f, header, place, place + source.len());
+        return thread_of(f, source, place);
     }
     if record_type == 0 {
         return metadata_of(f, source, place);

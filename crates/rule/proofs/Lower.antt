@@ -263,7 +263,7 @@ module _ (f : Format) (b : List ℕ) where
         → Stepped s tables (contentDecision f b tables s c (s .place + size))
     unfolding contentDecision effectDecision plainAnswer noneBad followed changeOf effectOf registering Stepped itemOf changed registrationOf source
     content-steps (Refused number) e p h i n =
-        rw (stop-decided f s number (s .place + size) Nothing (h .0)) (stays s tables number (s .place))
+        rw (stop-decided f s number (s .place + size) Nothing (h .stops)) (stays s tables number (s .place))
     content-steps Magic e p h i n = moves s (moved s (s .place + size)) tables size (some magic) refl (λ cost held. held) (λ cost le held. omega arith)
     content-steps (ProviderInfo id at long) e p h i n =
         rw (entering-decided f s id (s .place + size) (ProviderInfoShown id at long))
@@ -308,7 +308,7 @@ module _ (f : Format) (b : List ℕ) where
       of-record (inl (number, e)) =
           let whole = record-whole f b (s .place) .holds in
           let fits : RecordNumber number = rw e at whole in
-          rw (e, stop-decided f s number (s .place) Nothing (fits .0)) (stays s tables number (s .place))
+          rw (e, stop-decided f s number (s .place) Nothing (fits .stops)) (stays s tables number (s .place))
       of-record (inr (size, r)) =
           let long = length-take-le size (drop (s .place) b) (extent-read (drop (s .place) b) size (r .extent) .inside) in
           let word : 8 ≤ length (take size (drop (s .place) b)) = omega (arith, long, r .some) in

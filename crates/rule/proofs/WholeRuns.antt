@@ -66,7 +66,7 @@ step-advances f archive tables s = go (record-whole f archive (s .place) .some)
     go (inl (number, e)) =
         on-pick P (eqb (openingNumber f archive (length tables)) 0) _ _
         (λ q. on-pick P (belongsTo s (length archive)) _ _
-        (λ q. on-pick P (eqb (s .place) (length archive)) _ _ (λ q. inl tt) (λ q. rw (e, stop-decided f s number next Nothing (refused number e .0)) (inl tt)))
+        (λ q. on-pick P (eqb (s .place) (length archive)) _ _ (λ q. inl tt) (λ q. rw (e, stop-decided f s number next Nothing (refused number e .stops)) (inl tt)))
         (λ q. inl tt))
         (λ q. inl tt)
     go (inr l) =

@@ -8,7 +8,6 @@ use lib.Dec.{eqb, ltb}
 use lib.ListN.{length, take, drop, drop-of-length-le}
 use lib.Seq.{length-take-le}
 use Rattle.words.specs.Word.{wordAt, field}
-use Rattle.words.proofs.Words.{wordAt-take}
 use Rattle.words.proofs.Tests.{on-pick, cases}
 use Rattle.format.specs.declared.Format.{Format}
 use Rattle.format.specs.declared.Extent.the-variants.{Refused as ExtentRefused, Bytes}
@@ -43,7 +42,7 @@ silent f source place a b _ (skipped type small) = refl
 
 -- the content of a record registers what its header says
 pub content-registers : (f : Format) (source : List ℕ) (place : ℕ) → 8 ≤ length source
-    → registrationOf (contentOf f source place) ≡ registrationAt f (wordAt source 0) place (place + length source)
+    → registrationOf (contentOf f source place) ≡ registrationAt f source place
 unfolding registrationAt
 content-registers f source place h =
     let t = field 0 3 (wordAt source 0) in
@@ -79,19 +78,16 @@ entry-late f archive table index entry until size e h =
 pub entry-read : (f : Format) (archive : List ℕ) (table index entry until size : ℕ)
     → entry % 8 ≡ 0 → extentOf (drop entry archive) ≡ Bytes size → entry + size ≤ until
     → entryAt f archive table index entry until
-    ≡ belonging table index (registrationAt f (wordAt (drop entry archive) 0) entry (entry + size))
+    ≡ belonging table index (registrationAt f (take size (drop entry archive)) entry)
 unfolding entryAt recordOf belonging
 entry-read f archive table index entry until size a e h =
-    rw (e, eq-eqb (entry % 8) 0 a, le-ltb until (entry + size) h, content-registers f (take size rest) entry (rw long (w .some)), word, long)
+    rw (e, eq-eqb (entry % 8) 0 a, le-ltb until (entry + size) h, content-registers f (take size rest) entry (rw long (w .some)))
   where
     rest : List ℕ
     rest = drop entry archive
 
     w : Whole rest size
     w = extent-read rest size e
-
-    word : wordAt (take size rest) 0 ≡ wordAt rest 0
-    word = wordAt-take rest 0 size (w .some)
 
     long : length (take size rest) ≡ size
     long = length-take-le size rest (w .inside)

@@ -95,17 +95,17 @@ pub fn registration_of(content: Content) -> Registration
     }
 }
 
-// What the record of this header registers, from `place` to `end`.
-fn registration_at(f: Format, header: u64, place: usize, end: usize) -> Registration
-    requires { ⌜ place < 2 ^ 62 ⌝ }
-    ensures { λ r. ⌜ r ≡ registrationAt f header place end ⌝ }
+// What the record that is `source`, whole, at a place of the archive registers.
+fn registration_at(f: Format, source: &[u8], place: usize) -> Registration
+    requires { ⌜ (8 ≤ length (now source)) × (place + length (now source) < 2 ^ 62) ⌝ }
+    ensures { λ r. ⌜ r ≡ registrationAt f (now (source .entry)) place ⌝ }
 {
-    let record_type = words::field(header, 0, 3);
+    let record_type = words::field(words::word(source, 0), 0, 3);
     if record_type == 2 {
-        return registration_of(records::string_of(f, header, place, end));
+        return registration_of(records::string_of(f, source, place));
     }
     if record_type == 3 {
-        return registration_of(records::thread_of(f, header, place, end));
+        return registration_of(records::thread_of(f, source, place));
     }
     Registration::Nothing
 }
@@ -161,7 +161,7 @@ fn entry_at(
             if until < end {
                 return Resolved::Bad;
             }
-            let registration = registration_at(f, words::word(rest, 0), entry, end);
+            let registration = registration_at(f, &rest[..size], entry);
             belonging(registration, table, index)
         }
     }

@@ -12,8 +12,7 @@ returns c =
     let field2 = c .before .before .before .before .field2 in
     let if1 = c .before .before .before .before .before .if1 in
     let field = c .before .before .before .before .before .before .field in
-    let word = c .before .before .before .before .before .before .before .word in
-    simp (c .before .text .given .1, ← c .before .before .before .take-text .ensures, ← field2 .ensures, eq-eqb _ _ (if1 .taken), ← field .ensures, ← word .ensures)
+    simp (c .before .text .given .1, ← c .before .before .before .take-text .ensures, ← field2 .ensures, eq-eqb _ _ (if1 .taken), ← field .ensures)
 
 returns-2 : tie.Need-returns-2
 unfolding takeValue takeParts takePart takeWords
@@ -21,15 +20,13 @@ returns-2 c =
     let field2 = c .before .before .before .before .field2 in
     let if1 = c .before .before .before .before .before .if1 in
     let field = c .before .before .before .before .before .before .field in
-    let word = c .before .before .before .before .before .before .before .word in
-    simp (c .before .text2 .given .1, ← c .before .before .before .take-text .ensures, ← field2 .ensures, eq-eqb _ _ (if1 .taken), ← field .ensures, ← word .ensures)
+    simp (c .before .text2 .given .1, ← c .before .before .before .take-text .ensures, ← field2 .ensures, eq-eqb _ _ (if1 .taken), ← field .ensures)
 
 returns-3 : tie.Need-returns-3
 unfolding takeValue takeParts takePart takeWords
 returns-3 c =
     let field′ = c .before .before .before .before .field in
-    let word′ = c .before .before .before .before .before .word in
-    simp (lt-ltb _ _ (c .if3 .taken), c .before .if2 .taken, ← c .before .before .holds-word .ensures, ne-eqb _ _ (c .before .before .before .if1 .left), ← field′ .ensures, ← word′ .ensures)
+    simp (lt-ltb _ _ (c .if3 .taken), c .before .if2 .taken, ← c .before .before .holds-word .ensures, ne-eqb _ _ (c .before .before .before .if1 .left), ← field′ .ensures)
 
 returns-4 : tie.Need-returns-4
 unfolding takeValue takeParts takePart takeWords
@@ -37,18 +34,16 @@ returns-4 c =
     let holds-word = c .before .before .before .before .holds-word in
     let if1 = c .before .before .before .before .before .if1 in
     let field = c .before .before .before .before .before .before .field in
-    let word = c .before .before .before .before .before .before .before .word in
-    simp (← c .word-scalar .ensures, ← c .before .word2 .ensures, le-ltb _ _ (c .before .before .if3 .left), c .before .before .before .if2 .taken, ← holds-word .ensures, ne-eqb _ _ (if1 .left), ← field .ensures, ← word .ensures)
+    simp (← c .word-scalar .ensures, ← c .before .word .ensures, le-ltb _ _ (c .before .before .if3 .left), c .before .before .before .if2 .taken, ← holds-word .ensures, ne-eqb _ _ (if1 .left), ← field .ensures)
 
 returns-5 : tie.Need-returns-5
 unfolding takeValue takeParts takePart takeWords
 returns-5 c =
     let field′ = c .before .before .before .before .field in
-    let word′ = c .before .before .before .before .before .word in
-    simp (← c .header-scalar .ensures, c .before .if2 .left, ← c .before .before .holds-word .ensures, ne-eqb _ _ (c .before .before .before .if1 .left), ← field′ .ensures, ← word′ .ensures)
+    simp (← c .header-scalar .ensures, c .before .if2 .left, ← c .before .before .holds-word .ensures, ne-eqb _ _ (c .before .before .before .if1 .left), ← field′ .ensures)
 
 pub take-value-spec : {M : Type 1} → statement M
 take-value-spec =
-    tie.close (tie.spec (λ c κs. search needs) (λ c κs. search needs) (λ c κs. search needs) (λ c κs. search needs) (λ c. search needs) returns
-    (λ c. search needs) returns-2 (λ c κs. search needs) (λ c. search needs) returns-3 (λ c. search needs) (λ c κs. search needs)
+    tie.close (tie.spec (λ c κs. search needs) (λ c κs. search needs) (λ c κs. search needs) (λ c. search needs) returns
+    (λ c. search needs) returns-2 (λ c κs. search needs) (λ c. search needs) (λ c. search needs) returns-3 (λ c. search needs) (λ c κs. search needs)
     (λ c κs. search needs) returns-4 (λ c κs. search needs) returns-5)

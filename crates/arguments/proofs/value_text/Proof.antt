@@ -37,4 +37,4 @@ returns-5 c = simp (c .if2 .left, ← c .before .holds-word .ensures, ne-eqb _ _
 pub value-text-spec : {M : Type 1} → statement M
 value-text-spec =
     tie.close (tie.spec (λ c κs. search needs) (λ c κs. search needs) (λ c κs. search needs) (λ c. search needs) returns (λ c. search needs) returns-2
-    (λ c κs. search needs) (λ c. search needs) returns-3 returns-4 returns-5)
+    (λ c κs. search needs) (λ c. search needs) (λ c. search needs) returns-3 returns-4 returns-5)

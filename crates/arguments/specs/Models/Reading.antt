@@ -16,19 +16,19 @@ use Rattle.arguments.specs.declared.Texts.{Texts}
 use Rattle.arguments.specs.declared.Texts.the-variants.{Refused as TextsRefused, Texts as TextsRead}
 
 -- the value alone, whose parts start at `at`
-unfoldable pub takeValue : Format → List ℕ → ℕ → ℕ → ℕ → Valued
-takeValue f argument place at end =
-    onBody (takeParts f (valueParts (wordAt argument 0)) at end) ValueRefused
-    (λ references next. ValueRead (valueOf (wordAt argument 0) argument place (part 0 references)))
+unfoldable pub takeValue : Format → (header at : ℕ) → List ℕ → ℕ → Valued
+takeValue f header at argument place =
+    onBody (takeParts f (valueParts header) at argument place) ValueRefused
+    (λ references next. ValueRead (valueOf header argument place (part 0 references)))
 
 -- the texts of an argument alone, with its size
 unfoldable pub textsOf : Format → List ℕ → ℕ → Texts
 textsOf f rest place = onArgued (argumentOf f rest place) TextsRefused (λ a size. TextsRead (a .name) (textIn (a .value)) size)
 
 -- the text of the value alone, whose parts start at `at`
-unfoldable pub valueText : Format → ℕ → ℕ → ℕ → ValueTaken
-valueText f header at end =
-    onBody (takeParts f (valueParts header) at end) ValueTextRefused
+unfoldable pub valueText : Format → (header at : ℕ) → List ℕ → ℕ → ValueTaken
+valueText f header at argument place =
+    onBody (takeParts f (valueParts header) at argument place) ValueTextRefused
     (λ references next. ValueText (pick (eqb (argumentType header) 6) (part 0 references) (Inline 0 0)))
 
 -- the arguments themselves

@@ -7,16 +7,16 @@ use Rattle.format.proofs.take_part.Statement.{statement}
 use Rattle.format.proofs.take_part.Tie as tie
 
 take-words-requires : tie.Need-take-words-requires
-take-words-requires c κs = (subst PartFits (c .before .part .given .1) (c .before .before .before .pre .0), c .before .before .before .pre .1)
+take-words-requires c κs = (subst PartFits (c .before .part .given .1) (c .before .before .before .before .pre .0), c .before .before .before .before .pre .1, c .before .before .before .before .pre .2)
 
 take-stream-requires : tie.Need-take-stream-requires
-take-stream-requires c κs = (subst PartFits (c .before .part2 .given .1) (c .before .before .before .pre .0), c .before .before .before .pre .1)
+take-stream-requires c κs = (subst PartFits (c .before .part2 .given .1) (c .before .before .before .before .pre .0), c .before .before .before .before .pre .1, c .before .before .before .before .pre .2)
 
 take-text-requires : tie.Need-take-text-requires
-take-text-requires c κs = (subst PartFits (c .before .part3 .given .1) (c .before .before .before .pre .0), c .before .before .before .pre .1)
+take-text-requires c κs = (subst PartFits (c .before .part3 .given .1) (c .before .before .before .before .pre .0), c .before .before .before .before .pre .1, c .before .before .before .before .pre .2)
 
 take-thread-requires : tie.Need-take-thread-requires
-take-thread-requires c κs = (subst PartFits (c .before .part4 .given .1) (c .before .before .before .pre .0), c .before .before .before .pre .1)
+take-thread-requires c κs = (subst PartFits (c .before .part4 .given .1) (c .before .before .before .before .pre .0), c .before .before .before .before .pre .1, c .before .before .before .before .pre .2)
 
 returns : tie.Need-returns
 unfolding takePart

@@ -15,4 +15,4 @@ returns-2 c = simp (le-ltb _ _ (c .if1 .left))
 
 pub take-words-spec : {M : Type 1} → statement M
 take-words-spec =
-    tie.close (tie.spec (λ c. search needs) (λ c. search needs) returns (λ c. search needs) returns-2)
+    tie.close (tie.spec (λ c. search needs) (λ c. search needs) (λ c. search needs) returns (λ c. search needs) returns-2)

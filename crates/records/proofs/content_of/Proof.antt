@@ -55,6 +55,6 @@ returns-6 c =
 
 pub content-of-spec : {M : Type 1} → statement M
 content-of-spec =
-    tie.close (tie.spec (λ c κs. search needs) (λ c κs. search needs) (λ c κs. search needs) (λ c κs. search needs) returns (λ c. search needs)
-    (λ c κs. search needs) returns-2 (λ c. search needs) (λ c κs. search needs) returns-3 (λ c κs. search needs) returns-4
-    (λ c κs. search needs) returns-5 (λ c. search needs) (λ c κs. search needs) returns-6)
+    tie.close (tie.spec (λ c κs. search needs) (λ c κs. search needs) (λ c κs. search needs) (λ c κs. search needs) returns (λ c κs. search needs)
+    returns-2 (λ c κs. search needs) returns-3 (λ c κs. search needs) returns-4 (λ c κs. search needs) returns-5 (λ c. search needs)
+    (λ c κs. search needs) returns-6)

@@ -54,6 +54,6 @@ returns-6 c =
 
 pub metadata-of-spec : {M : Type 1} → statement M
 metadata-of-spec =
-    tie.close (tie.spec (λ c κs. search needs) (λ c κs. search needs) (λ c. search needs) (λ c κs. search needs) returns (λ c κs. search needs)
-    (λ c. search needs) returns-2 (λ c κs. search needs) (λ c. search needs) (λ c κs. search needs) (λ c. search needs) returns-3
-    (λ c κs. search needs) (λ c κs. search needs) returns-4 returns-5 (λ c κs. search needs) returns-6)
+    tie.close (tie.spec (λ c κs. search needs) (λ c κs. search needs) (λ c κs. search needs) returns (λ c κs. search needs) (λ c. search needs)
+    returns-2 (λ c κs. search needs) (λ c. search needs) (λ c κs. search needs) (λ c. search needs) returns-3 (λ c κs. search needs)
+    (λ c κs. search needs) returns-4 returns-5 (λ c κs. search needs) returns-6)

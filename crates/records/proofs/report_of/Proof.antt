@@ -21,7 +21,7 @@ sub-from c =
     let layout-of′ = c .before .before .before .before .layout-of in
     let given′ = c .before .before .before .before .before .before .before .args in
     let pre = c .before .before .before .before .before .before .before .pre in
-    let s = fields-read (given′ .f) (layout-of′ .result) (given′ .place + 8) (given′ .place + length (given′ .source .now))
+    let s = fields-read (given′ .f) (layout-of′ .result) (given′ .source .now) (given′ .place)
     (c .before .fields2 .given .0 .0) (c .before .fields2 .given .0 .1 .0) (c .before .fields2 .given .0 .1 .1 .0)
     (c .before .fields2 .given .0 .1 .1 .1 .0) (c .before .fields2 .given .0 .1 .1 .1 .1 .0) (omega (arith, pre .0))
     (sym (c .before .before .before .take-fields .ensures) ∙ c .before .fields2 .given .1) in omega (arith, s .starts)
@@ -31,7 +31,7 @@ sub-walk c =
     let layout-of′ = c .before .before .before .before .layout-of in
     let given′ = c .before .before .before .before .before .before .before .args in
     let pre = c .before .before .before .before .before .before .before .pre in
-    let s = fields-read (given′ .f) (layout-of′ .result) (given′ .place + 8) (given′ .place + length (given′ .source .now))
+    let s = fields-read (given′ .f) (layout-of′ .result) (given′ .source .now) (given′ .place)
     (c .before .fields2 .given .0 .0) (c .before .fields2 .given .0 .1 .0) (c .before .fields2 .given .0 .1 .1 .0)
     (c .before .fields2 .given .0 .1 .1 .1 .0) (c .before .fields2 .given .0 .1 .1 .1 .1 .0) (omega (arith, pre .0))
     (sym (c .before .before .before .take-fields .ensures) ∙ c .before .fields2 .given .1) in omega (arith, s .starts, s .ends)
@@ -41,7 +41,7 @@ part-walk-start c =
     let layout-of′ = c .before .before .before .before .layout-of in
     let given′ = c .before .before .before .before .before .before .before .args in
     let pre = c .before .before .before .before .before .before .before .pre in
-    let s = fields-read (given′ .f) (layout-of′ .result) (given′ .place + 8) (given′ .place + length (given′ .source .now))
+    let s = fields-read (given′ .f) (layout-of′ .result) (given′ .source .now) (given′ .place)
     (c .before .fields2 .given .0 .0) (c .before .fields2 .given .0 .1 .0) (c .before .fields2 .given .0 .1 .1 .0)
     (c .before .fields2 .given .0 .1 .1 .1 .0) (c .before .fields2 .given .0 .1 .1 .1 .1 .0) (omega (arith, pre .0))
     (sym (c .before .before .before .take-fields .ensures) ∙ c .before .fields2 .given .1) in omega (arith, s .starts, s .ends)
@@ -53,7 +53,7 @@ walk-requires c κs =
     let layout-of′ = c .before .before .before .before .before .layout-of in
     let given′ = c .before .before .before .before .before .before .before .before .args in
     let pre = c .before .before .before .before .before .before .before .before .pre in
-    let s = fields-read (given′ .f) (layout-of′ .result) (given′ .place + 8) (given′ .place + length (given′ .source .now)) (fields2 .given .0 .0)
+    let s = fields-read (given′ .f) (layout-of′ .result) (given′ .source .now) (given′ .place) (fields2 .given .0 .0)
     (fields2 .given .0 .1 .0) (fields2 .given .0 .1 .1 .0) (fields2 .given .0 .1 .1 .1 .0) (fields2 .given .0 .1 .1 .1 .1 .0) (omega (arith, pre .0))
     (sym (take-fields .ensures) ∙ fields2 .given .1) in simp part-from
     (omega (arith, s .starts, s .ends, length-drop ((fields2 .given .0 .1 .1 .1 .1 .0) - given′ .place) (given′ .source .now)))
@@ -66,7 +66,7 @@ last-word-requires c κs =
     let word = c .before .before .before .before .before .before .before .before .before .before .word in
     let given′ = c .before .before .before .before .before .before .before .before .before .before .before .before .args in
     let pre = c .before .before .before .before .before .before .before .before .before .before .before .before .pre in
-    let s = fields-read (given′ .f) (layout-of′ .result) (given′ .place + 8) (given′ .place + length (given′ .source .now)) (fields2 .given .0 .0)
+    let s = fields-read (given′ .f) (layout-of′ .result) (given′ .source .now) (given′ .place) (fields2 .given .0 .0)
     (fields2 .given .0 .1 .0) (fields2 .given .0 .1 .1 .0) (fields2 .given .0 .1 .1 .1 .0) (fields2 .given .0 .1 .1 .1 .1 .0) (omega (arith, pre .0))
     (sym (take-fields .ensures) ∙ fields2 .given .1) in let w = walk-ends (given′ .f) (layout-of′ .result .count)
     (drop ((fields2 .given .0 .1 .1 .1 .1 .0) - given′ .place) (given′ .source .now)) (fields2 .given .0 .1 .1 .1 .1 .0)
@@ -92,7 +92,7 @@ own-of-requires c κs =
     let word = c .before .before .before .before .before .before .before .before .before .before .before .before .before .before .word in
     let given′ = c .before .before .before .before .before .before .before .before .before .before .before .before .before .before .before .before .args in
     let pre = c .before .before .before .before .before .before .before .before .before .before .before .before .before .before .before .before .pre in
-    let s = fields-read (given′ .f) (layout-of′ .result) (given′ .place + 8) (given′ .place + length (given′ .source .now)) (fields2 .given .0 .0)
+    let s = fields-read (given′ .f) (layout-of′ .result) (given′ .source .now) (given′ .place) (fields2 .given .0 .0)
     (fields2 .given .0 .1 .0) (fields2 .given .0 .1 .1 .0) (fields2 .given .0 .1 .1 .1 .0) (fields2 .given .0 .1 .1 .1 .1 .0) (omega (arith, pre .0))
     (sym (take-fields .ensures) ∙ fields2 .given .1) in rw (← word .ensures, ← layout-of′ .ensures) (omega (arith, s .starts, s .ends))
 
@@ -141,7 +141,6 @@ returns-4 c =
 
 pub report-of-spec : {M : Type 1} → statement M
 report-of-spec =
-    tie.close (tie.spec (λ c κs. search needs) (λ c κs. search needs) (λ c. search needs) (λ c. search needs) take-fields-requires (λ c. search needs)
-    (λ c. search needs) sub-from sub-walk part-walk-start (λ c. search needs) walk-requires (λ c. search needs) (λ c. search needs)
-    last-word-requires (λ c. search needs) (λ c. search needs) own-of-requires (λ c κs. search needs) (λ c κs. search needs)
-    (λ c κs. search needs) returns returns-2 returns-3 returns-4)
+    tie.close (tie.spec (λ c κs. search needs) (λ c κs. search needs) take-fields-requires (λ c. search needs) (λ c. search needs) sub-from sub-walk
+    part-walk-start (λ c. search needs) walk-requires (λ c. search needs) (λ c. search needs) last-word-requires (λ c. search needs)
+    (λ c. search needs) own-of-requires (λ c κs. search needs) (λ c κs. search needs) (λ c κs. search needs) returns returns-2 returns-3 returns-4)

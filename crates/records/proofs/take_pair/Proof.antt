@@ -11,11 +11,11 @@ use Rattle.records.proofs.take_pair.Tie as tie
 take-part-requires-2 : tie.Need-take-part-requires-2
 take-part-requires-2 c κs =
     let start = c .before .before .before .before in
-    let a = start .args in
+    let a = start .before .args in
     let first = c .before .taken2 .given in
-    let moved = part-taken (a .f) (a .one) (a .place) (a .end) (first .0 .0) (first .0 .1 .0) (start .pre .2)
+    let moved = part-taken (a .f) (a .one) (a .place) (a .source .now) (a .start) (first .0 .0) (first .0 .1 .0) (start .before .pre .2)
     (sym (c .before .before .before .take-part .ensures) ∙ first .1) in
-    (start .pre .1, omega (arith, moved .1, start .pre .3))
+    (start .before .pre .1, omega (arith, moved .1, start .before .pre .3), start .before .pre .3)
 
 returns : tie.Need-returns
 unfolding takePair takeParts

@@ -44,8 +44,8 @@ abbrev pub pairOf : Body → Pair
 pairOf (refused number) = PairRefused number
 pairOf (body references next) = PairRead (part 0 references) (part 1 references) next
 
-unfoldable pub takePair : Format → Part → Part → ℕ → ℕ → Pair
-takePair f one two place end = pairOf (takeParts f (one ∷ two ∷ []) place end)
+unfoldable pub takePair : Format → Part → Part → ℕ → List ℕ → ℕ → Pair
+takePair f one two place source start = pairOf (takeParts f (one ∷ two ∷ []) place source start)
 
 abbrev pub onPair : {A : Type 0} → Pair → (ℕ → A) → (Reference → Reference → ℕ → A) → A
 onPair (PairRefused number) refuse then = refuse number

@@ -1,7 +1,8 @@
 -- Limits for which tables can be addressed, and what the record of an entry registers, as functions ask for it: models of code.
 use Prim.Native.Nat.{ℕ, _^_, _<_}
 use lib.Dec.{eqb}
-use Rattle.words.specs.Word.{pick, field}
+use mathlib.Core.List.{List}
+use Rattle.words.specs.Word.{pick, wordAt, field}
 use Rattle.format.specs.declared.Format.{Format}
 use Rattle.records.specs.Record.{stringOf, threadOf}
 use Rattle.tables.specs.Table.{registrationOf, onRegistration}
@@ -14,11 +15,11 @@ use Rattle.tables.specs.declared.Resolved.the-variants.{Bad, Known}
 pub record FormatFits (f : Format) : Type 0 where
   pub indexes : f .highest < 2 ^ 15
 
--- what the record of this header registers, from `place` to `end`: only string and thread records do
-unfoldable pub registrationAt : Format → ℕ → ℕ → ℕ → Registration
-registrationAt f header place end =
-    pick (eqb (field 0 3 header) 2) (registrationOf (stringOf f header place end))
-    (pick (eqb (field 0 3 header) 3) (registrationOf (threadOf f header place end)) Nothing)
+-- what the record that is `source`, whole, at a place registers: only string and thread records do
+unfoldable pub registrationAt : Format → List ℕ → ℕ → Registration
+registrationAt f source place =
+    pick (eqb (field 0 3 (wordAt source 0)) 2) (registrationOf (stringOf f source place))
+    (pick (eqb (field 0 3 (wordAt source 0)) 3) (registrationOf (threadOf f source place)) Nothing)
 
 -- what a registration stands for where one of this table and index is wanted
 unfoldable pub belonging : ℕ → ℕ → Registration → Resolved
