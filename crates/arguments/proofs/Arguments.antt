@@ -47,33 +47,33 @@ abbrev pub onName : Taken → (Reference → ℕ → Argued) → Argued
 onName (TextRefused number) then = Refused number
 onName (TextRead name next) then = then name next
 
-value-behind : (header : ℕ) (rest : List ℕ) (place size : ℕ) (name : Reference) (b : Body)
-    → onBody (prependPart name b) Refused (λ rs next. Read (record { name = part 0 rs; value = valueOf header rest place (part 1 rs) }) size)
-    ≡ named name size (onBody b ValueRefused (λ rs next. ValueRead (valueOf header rest place (part 0 rs))))
-value-behind header rest place size name (bodyRefused number) = refl
-value-behind header rest place size name (body rs next) = refl
+value-behind : (f : Format) (header : ℕ) (rest : List ℕ) (place size : ℕ) (name : Reference) (b : Body)
+    → onBody (prependPart name b) Refused (λ rs next. Read (record { name = part 0 rs; value = valueOf f header rest place (part 1 rs) }) size)
+    ≡ named name size (onBody b ValueRefused (λ rs next. ValueRead (valueOf f header rest place (part 0 rs))))
+value-behind f header rest place size name (bodyRefused number) = refl
+value-behind f header rest place size name (body rs next) = refl
 
 -- an argument's body is its name, and then its value
 pub name-then-value : (f : Format) (rest : List ℕ) (place : ℕ)
     → argumentBody f rest place
-    ≡ onName (takeText f (field 16 31 (wordAt rest 0)) (place + 8) (take (argumentSize (wordAt rest 0)) rest) place)
-    (λ name next. named name (argumentSize (wordAt rest 0)) (takeValue f (wordAt rest 0) next (take (argumentSize (wordAt rest 0)) rest) place))
+    ≡ onName (takeText f (field 16 31 (wordAt (f .order) rest 0)) (place + 8) (take (argumentSize (wordAt (f .order) rest 0)) rest) place)
+    (λ name next. named name (argumentSize (wordAt (f .order) rest 0)) (takeValue f (wordAt (f .order) rest 0) next (take (argumentSize (wordAt (f .order) rest 0)) rest) place))
 unfolding argumentBody takeParts takePart takeValue
 name-then-value f rest place = go (takeText f (field 16 31 h) (place + 8) own place)
   where
     h : ℕ
-    h = wordAt rest 0
+    h = wordAt (f .order) rest 0
 
     own : List ℕ
     own = take (argumentSize h) rest
 
     go : (t : Taken)
         → onBody (onTaken t (λ x next. prependPart x (takeParts f (valueParts h) next own place))) Refused
-        (λ rs next. Read (record { name = part 0 rs; value = valueOf h own place (part 1 rs) }) (argumentSize h))
+        (λ rs next. Read (record { name = part 0 rs; value = valueOf f h own place (part 1 rs) }) (argumentSize h))
         ≡ onName t (λ name next. named name (argumentSize h)
-        (onBody (takeParts f (valueParts h) next own place) ValueRefused (λ rs last. ValueRead (valueOf h own place (part 0 rs)))))
+        (onBody (takeParts f (valueParts h) next own place) ValueRefused (λ rs last. ValueRead (valueOf f h own place (part 0 rs)))))
     go (TextRefused number) = refl
-    go (TextRead x next) = value-behind h own place (argumentSize h) x (takeParts f (valueParts h) next own place)
+    go (TextRead x next) = value-behind f h own place (argumentSize h) x (takeParts f (valueParts h) next own place)
 
 -- ---- the texts alone
 
@@ -90,19 +90,19 @@ onNameTexts (TextRead name next) then = then name next
 abbrev pub textsIn : Argued → Texts
 textsIn r = onArgued r TextsRefused (λ a size. TextsRead (a .name) (textIn (a .value)) size)
 
-text-of-value : (header : ℕ) (rest : List ℕ) (place : ℕ) (r : Reference)
-    → textIn (valueOf header rest place r) ≡ pick (eqb (argumentType header) 6) r (Inline 0 0)
-text-of-value header rest place r =
+text-of-value : (f : Format) (header : ℕ) (rest : List ℕ) (place : ℕ) (r : Reference)
+    → textIn (valueOf f header rest place r) ≡ pick (eqb (argumentType header) 6) r (Inline 0 0)
+text-of-value f header rest place r =
     cases (eqb (argumentType header) 6) (λ e. rw e) (λ e. cases (holdsWord (argumentType header)) (λ e′. rw (e, e′)) (λ e′. rw (e, e′)))
 
 -- the same texts, by the name and then the value's text
 pub name-then-text : (f : Format) (rest : List ℕ) (place : ℕ)
     → textsOf f rest place
     ≡ pick (ltb (length rest) 8) (TextsRefused malformed)
-    (pick (eqb (argumentSize (wordAt rest 0)) 0) (TextsRefused malformed)
-    (pick (ltb (length rest) (argumentSize (wordAt rest 0))) (TextsRefused malformed)
-    (onNameTexts (takeText f (field 16 31 (wordAt rest 0)) (place + 8) (take (argumentSize (wordAt rest 0)) rest) place)
-    (λ name next. textsNamed name (argumentSize (wordAt rest 0)) (valueText f (wordAt rest 0) next (take (argumentSize (wordAt rest 0)) rest) place)))))
+    (pick (eqb (argumentSize (wordAt (f .order) rest 0)) 0) (TextsRefused malformed)
+    (pick (ltb (length rest) (argumentSize (wordAt (f .order) rest 0))) (TextsRefused malformed)
+    (onNameTexts (takeText f (field 16 31 (wordAt (f .order) rest 0)) (place + 8) (take (argumentSize (wordAt (f .order) rest 0)) rest) place)
+    (λ name next. textsNamed name (argumentSize (wordAt (f .order) rest 0)) (valueText f (wordAt (f .order) rest 0) next (take (argumentSize (wordAt (f .order) rest 0)) rest) place)))))
 unfolding textsOf argumentOf takeValue valueText
 name-then-text f rest place =
     cases (ltb (length rest) 8) (λ e. rw e)
@@ -111,16 +111,16 @@ name-then-text f rest place =
     (λ e₃. rw (e₁, e₂, e₃, name-then-value f rest place) (of-name (takeText f (field 16 31 hd) (place + 8) (take size rest) place)))))
   where
     hd : ℕ
-    hd = wordAt rest 0
+    hd = wordAt (f .order) rest 0
 
     size : ℕ
     size = argumentSize hd
 
     of-body : (name : Reference) (b : Body)
-        → textsIn (named name size (onBody b ValueRefused (λ rs next. ValueRead (valueOf hd (take size rest) place (part 0 rs)))))
+        → textsIn (named name size (onBody b ValueRefused (λ rs next. ValueRead (valueOf f hd (take size rest) place (part 0 rs)))))
         ≡ textsNamed name size (onBody b ValueTextRefused (λ rs next. ValueText (pick (eqb (argumentType hd) 6) (part 0 rs) (Inline 0 0))))
     of-body name (bodyRefused number) = refl
-    of-body name (body rs next) = ap (λ r. TextsRead name r size) (text-of-value hd (take size rest) place (part 0 rs))
+    of-body name (body rs next) = ap (λ r. TextsRead name r size) (text-of-value f hd (take size rest) place (part 0 rs))
 
     of-name : (t : Taken)
         → textsIn (onName t (λ name next. named name size (takeValue f hd next (take size rest) place)))
@@ -188,10 +188,10 @@ value-fits f hd at own place h =
     of-text (TextRead x next) m = (omega (arith, m .0, m .1), m .2)
 
     of-word : ValueFits at end (onBody (takeParts f (words 1 ∷ []) at own place) ValueRefused
-        (λ rs next. ValueRead (ScalarValue (wordScalar (argumentType hd) (wordAt own (placeOf (part 0 rs) - place))))))
+        (λ rs next. ValueRead (ScalarValue (wordScalar (argumentType hd) (wordAt (f .order) own (placeOf (part 0 rs) - place))))))
     of-word =
         cases (ltb end (at + 8)) (λ q. rw q tt)
-        (λ q. let l = ltb-false end (at + 8) q in rw (q, word-scalar-words (argumentType hd) (wordAt own (at - place))) (omega arith, tt))
+        (λ q. let l = ltb-false end (at + 8) q in rw (q, word-scalar-words (argumentType hd) (wordAt (f .order) own (at - place))) (omega arith, tt))
 
 -- what is said of an argument that is read, of any answer
 abbrev pub ArgumentFits : List ℕ → ℕ → Argued → Type 0
@@ -215,7 +215,7 @@ argument-fits f rest place =
     (text-moves f (field 16 31 hd) (place + 8) (take size rest) place)))))
   where
     hd : ℕ
-    hd = wordAt rest 0
+    hd = wordAt (f .order) rest 0
 
     size : ℕ
     size = argumentSize hd
@@ -308,7 +308,7 @@ walk-turn f (suc n) rest place h = let e : suc n - 1 ≡ n = omega arith in rw e
 pub keep-turn : (f : Format) (n : ℕ) (rest : List ℕ) (place extra : ℕ) → 0 < n
     → argumentsKeep f n rest place extra
     ≡ onArgued (argumentOf f rest place) (λ number. false)
-    (λ a size. argumentKeeps rest place a size && argumentsKeep f (n - 1) (drop size rest) (place + size) extra)
+    (λ a size. argumentKeeps f rest place a size && argumentsKeep f (n - 1) (drop size rest) (place + size) extra)
 unfolding argumentsKeep
 keep-turn f zero rest place extra h = absurd (omega arith)
 keep-turn f (suc n) rest place extra h = let e : suc n - 1 ≡ n = omega arith in rw e

@@ -118,10 +118,10 @@ value-bound f hd at own place bytes known =
     of-text (PartRead x next) m = m
 
     of-word : ValuedBound f (onBody (takeParts f (words 1 ∷ []) at own place) ValueRefused
-        (λ rs next. ValueRead (ScalarValue (wordScalar (argumentType hd) (wordAt own (placeOf (part 0 rs) - place))))))
+        (λ rs next. ValueRead (ScalarValue (wordScalar (argumentType hd) (wordAt (f .order) own (placeOf (part 0 rs) - place))))))
     of-word =
         cases (ltb (place + length own) (at + 8)) (λ q. rw q tt)
-        (λ q. rw q (word-bound (argumentType hd) (wordAt own (at - place)) (wordAt-lt own (at - place) bytes)))
+        (λ q. rw q (word-bound (argumentType hd) (wordAt (f .order) own (at - place)) (wordAt-lt (f .order) own (at - place) bytes)))
 
 -- ---- arguments
 
@@ -136,7 +136,7 @@ ArguedBound f (ArgumentRefused number) = Unit {0}
 ArguedBound f (ArgumentRead a size) = ArgumentBound f a
 
 -- an argument of a known type that is read is so
-pub argument-bound : (f : Format) (rest : List ℕ) (place : ℕ) → AllBytes rest → argumentType (wordAt rest 0) < 10
+pub argument-bound : (f : Format) (rest : List ℕ) (place : ℕ) → AllBytes rest → argumentType (wordAt (f .order) rest 0) < 10
     → ArguedBound f (argumentOf f rest place)
 unfolding argumentOf
 argument-bound f rest place bytes known =
@@ -147,7 +147,7 @@ argument-bound f rest place bytes known =
     (of-name (takeText f (field 16 31 hd) (place + 8) (take size rest) place) (text-short f (field 16 31 hd) (place + 8) (take size rest) place)))))
   where
     hd : ℕ
-    hd = wordAt rest 0
+    hd = wordAt (f .order) rest 0
 
     size : ℕ
     size = argumentSize hd
@@ -172,21 +172,21 @@ number-bound f zero (suc count) rest place extra bytes low keep =
     go (argumentOf f rest place) keep (argument-bound f rest place bytes)
   where
     go : (x : Argued)
-        → onArgued x (λ number. false) (λ a size. argumentKeeps rest place a size && argumentsKeep f count (drop size rest) (place + size) extra) ≡ true
-        → (argumentType (wordAt rest 0) < 10 → ArguedBound f x) → ArguedBound f x
+        → onArgued x (λ number. false) (λ a size. argumentKeeps f rest place a size && argumentsKeep f count (drop size rest) (place + size) extra) ≡ true
+        → (argumentType (wordAt (f .order) rest 0) < 10 → ArguedBound f x) → ArguedBound f x
     go (ArgumentRefused number) k b = tt
     go (ArgumentRead a size) k b =
-        let keeps = both-true (argumentKeeps rest place a size) (argumentsKeep f count (drop size rest) (place + size) extra) k .0 in
-        b (ltb-true (argumentType (wordAt rest 0)) 10 (both-true (ltb (argumentType (wordAt rest 0)) 10) _ keeps .0))
+        let keeps = both-true (argumentKeeps f rest place a size) (argumentsKeep f count (drop size rest) (place + size) extra) k .0 in
+        b (ltb-true (argumentType (wordAt (f .order) rest 0)) 10 (both-true (ltb (argumentType (wordAt (f .order) rest 0)) 10) _ keeps .0))
 number-bound f (suc n) (suc count) rest place extra bytes low keep =
     go (argumentOf f rest place) keep
     (λ more at b k. number-bound f n count more at extra b (omega arith) k)
   where
     go : (x : Argued)
-        → onArgued x (λ number. false) (λ a size. argumentKeeps rest place a size && argumentsKeep f count (drop size rest) (place + size) extra) ≡ true
+        → onArgued x (λ number. false) (λ a size. argumentKeeps f rest place a size && argumentsKeep f count (drop size rest) (place + size) extra) ≡ true
         → ((more : List ℕ) (at : ℕ) → AllBytes more → argumentsKeep f count more at extra ≡ true → ArguedBound f (numberedOf f n more at))
         → ArguedBound f (onArgued x ArgumentRefused (λ a size. numberedOf f n (drop size rest) (place + size)))
     go (ArgumentRefused number) k b = tt
     go (ArgumentRead a size) k b =
         b (drop size rest) (place + size) (bytes-left size rest bytes)
-        (both-true (argumentKeeps rest place a size) (argumentsKeep f count (drop size rest) (place + size) extra) k .1)
+        (both-true (argumentKeeps f rest place a size) (argumentsKeep f count (drop size rest) (place + size) extra) k .1)

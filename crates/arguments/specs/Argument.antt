@@ -85,27 +85,27 @@ valueParts header =
     (pick (holdsWord (argumentType header)) (words 1 ∷ []) [])
 
 -- the value, of which `reference` stands behind the name, if anything does
-abbrev pub valueOf : ℕ → List ℕ → ℕ → Reference → Value
-valueOf header argument place reference =
+abbrev pub valueOf : Format → ℕ → List ℕ → ℕ → Reference → Value
+valueOf f header argument place reference =
     pick (eqb (argumentType header) 6) (Text reference)
-    (pick (holdsWord (argumentType header)) (ScalarValue (wordScalar (argumentType header) (wordAt argument (placeOf reference - place))))
+    (pick (holdsWord (argumentType header)) (ScalarValue (wordScalar (argumentType header) (wordAt (f .order) argument (placeOf reference - place))))
     (ScalarValue (headerScalar header)))
 
 -- "Argument: type [0..3], size [4..15], name [16..31], inline name stream, then the value"; its own bytes are the first of what is left
 unfoldable pub argumentBody : Format → List ℕ → ℕ → Argued
 argumentBody f rest place =
-    let header = wordAt rest 0 in
+    let header = wordAt (f .order) rest 0 in
     let argument = take (argumentSize header) rest in
     onBody (takeParts f (text (field 16 31 header) ∷ valueParts header) (place + 8) argument place) Refused
     (λ references next.
-    Read (record { name = part 0 references; value = valueOf header argument place (part 1 references) }) (argumentSize header))
+    Read (record { name = part 0 references; value = valueOf f header argument place (part 1 references) }) (argumentSize header))
 
 -- "for an argument first 6 for a size of 0 or past its record"
 unfoldable pub argumentOf : Format → List ℕ → ℕ → Argued
 argumentOf f rest place =
     pick (ltb (length rest) 8) (Refused malformed)
-    (pick (eqb (argumentSize (wordAt rest 0)) 0) (Refused malformed)
-    (pick (ltb (length rest) (argumentSize (wordAt rest 0))) (Refused malformed)
+    (pick (eqb (argumentSize (wordAt (f .order) rest 0)) 0) (Refused malformed)
+    (pick (ltb (length rest) (argumentSize (wordAt (f .order) rest 0))) (Refused malformed)
     (argumentBody f rest place)))
 
 -- the arguments of an event in order, and the place right behind them

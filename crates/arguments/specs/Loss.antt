@@ -36,10 +36,10 @@ valuePaddingZero argument place (ScalarValue s) = true
 valuePaddingZero argument place (Text reference) = paddingZero argument place reference
 
 -- whether an argument of `size` bytes is written again as it is
-unfoldable pub argumentKeeps : List ℕ → ℕ → Argument → ℕ → Bool
-argumentKeeps argument place a size =
-    ltb (argumentType (wordAt argument 0)) 10
-    && (eqb (reservedBits (wordAt argument 0)) 0
+unfoldable pub argumentKeeps : Format → List ℕ → ℕ → Argument → ℕ → Bool
+argumentKeeps f argument place a size =
+    ltb (argumentType (wordAt (f .order) argument 0)) 10
+    && (eqb (reservedBits (wordAt (f .order) argument 0)) 0
     && (eqb size (argumentBytes a)
     && (paddingZero argument place (a .name) && valuePaddingZero argument place (a .value))))
 
@@ -48,4 +48,4 @@ unfoldable pub argumentsKeep : Format → ℕ → List ℕ → ℕ → ℕ → B
 argumentsKeep f zero rest place extra = eqb (length rest) extra
 argumentsKeep f (suc count) rest place extra =
     onArgued (argumentOf f rest place) (λ number. false)
-    (λ a size. argumentKeeps rest place a size && argumentsKeep f count (drop size rest) (place + size) extra)
+    (λ a size. argumentKeeps f rest place a size && argumentsKeep f count (drop size rest) (place + size) extra)

@@ -138,7 +138,8 @@ fn take_value(f: Format, header: u64, at: usize, argument: &[u8], place: usize) 
         if place + argument.len() < at + 8 {
             return Valued::Refused(MALFORMED);
         }
-        let word = words::word(argument, at - place);
+        let order = f.order;
+        let word = words::word(order, argument, at - place);
         return Valued::Value(Value::Scalar(word_scalar(variant, word)));
     }
     Valued::Value(Value::Scalar(header_scalar(header)))
@@ -152,7 +153,8 @@ pub fn argument_of(f: Format, rest: &[u8], place: usize) -> Argued
     if rest.len() < 8 {
         return Argued::Refused(MALFORMED);
     }
-    let header = words::word(rest, 0);
+    let order = f.order;
+    let header = words::word(order, rest, 0);
     let size = 8 * words::field(header, 4, 15) as usize;
     if size == 0 {
         return Argued::Refused(MALFORMED);
@@ -221,7 +223,8 @@ pub fn texts_of(f: Format, rest: &[u8], place: usize) -> Texts
     if room < 8 {
         return Texts::Refused(MALFORMED);
     }
-    let header = words::word(rest, 0);
+    let order = f.order;
+    let header = words::word(order, rest, 0);
     let size = 8 * words::field(header, 4, 15) as usize;
     if size == 0 {
         return Texts::Refused(MALFORMED);
@@ -363,11 +366,12 @@ fn value_padding_zero(rest: &[u8], place: usize, value: Value) -> bool
 }
 
 // Whether the argument that was read at the start of `rest` loses nothing when it is repacked.
-fn argument_keeps(rest: &[u8], place: usize, argument: Argument, size: usize) -> bool
+fn argument_keeps(f: Format, rest: &[u8], place: usize, argument: Argument, size: usize) -> bool
     requires { ⌜ (place + length (now rest) < 2 ^ 63) × Fits (now rest) place argument size ⌝ }
-    ensures { λ r. ⌜ r ≡ argumentKeeps (now (rest .entry)) place argument size ⌝ }
+    ensures { λ r. ⌜ r ≡ argumentKeeps f (now (rest .entry)) place argument size ⌝ }
 {
-    let header = words::word(rest, 0);
+    let order = f.order;
+    let header = words::word(order, rest, 0);
     if 10 <= words::field(header, 0, 3) {
         return false;
     }
@@ -400,7 +404,7 @@ pub fn arguments_keep(f: Format, part: &[u8], place: usize, count: usize, extra:
                 return false;
             }
             Argued::Argument { argument, size } => {
-                if argument_keeps(rest, at, argument, size) {
+                if argument_keeps(f, rest, at, argument, size) {
                     rest = &rest[size..];
                     at += size;
                     left -= 1;

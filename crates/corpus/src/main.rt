@@ -27,7 +27,7 @@ fn read_length(fd: i32) -> Length {
     let mut bytes = [0u8; 8];
     let outcome = lines::input::read_bytes(fd, &mut bytes, 4);
     match outcome {
-        Outcome::All => Length::Bytes(words::word(&bytes, 0) as usize),
+        Outcome::All => Length::Bytes(words::little_word(&bytes, 0) as usize),
         Outcome::End => Length::None,
         Outcome::Failed => Length::Failed,
     }

@@ -12,7 +12,7 @@ use lib.Seq.{take-append-seam}
 use lib.ListN.{length, length-append}
 use lib.Seq.{drop-append-seam}
 use Rattle.words.proofs.Tests.{cases}
-use Rattle.words.specs.Word.{wordAt, bytesOf, field, Field, _of_, unsigned, bit}
+use Rattle.words.specs.Word.{wordAt, wordBytes, field, Field, _of_, unsigned, bit}
 use Rattle.words.specs.Stream.{streamWords}
 use Rattle.words.proofs.Words.{At, at-left, at-right, word-is}
 use Rattle.words.proofs.Signed.{unsigned-lt, signed-unsigned}
@@ -120,16 +120,16 @@ abbrev pub argumentFields : (Key → ℕ) → Argument → List Field
 argumentFields index a = referenceOf (encodedText index (a .name)) of 16 ∷ halfOf index (a .value) of 32 ∷ []
 
 -- every argument is a record, whose body is its name and its value
-pub argument-record : (index : Key → ℕ) (a : Argument)
-    → argumentRecord index a ≡ recordBytes (typeOf (a .value)) (argumentFields index a) (partsBytes (argumentParts index a))
-argument-record index a = of-value (a .value)
+pub argument-record : (f : Format) (index : Key → ℕ) (a : Argument)
+    → argumentRecord f index a ≡ recordBytes f (typeOf (a .value)) (argumentFields index a) (partsBytes f (argumentParts index a))
+argument-record f index a = of-value (a .value)
   where
     name : Encoded
     name = encodedText index (a .name)
 
     of-value : (v : Value)
-        → valueRecord index name v
-        ≡ recordBytes (typeOf v) (referenceOf name of 16 ∷ halfOf index v of 32 ∷ []) (partsBytes (name ∷ encodedValue index v))
+        → valueRecord f index name v
+        ≡ recordBytes f (typeOf v) (referenceOf name of 16 ∷ halfOf index v of 32 ∷ []) (partsBytes f (name ∷ encodedValue index v))
     of-value (scalar s) = refl
     of-value (text t) = refl
 
@@ -192,81 +192,81 @@ valueAt index (scalar s) place = ScalarValue s
 valueAt index (text t) place = TextValue (referenceAt (encodedText index t) place)
 
 -- a header and bytes of an argument that are read as these parts and this value; its parts start at `at`
-pub record Valued (header : ℕ) (argument : List ℕ) (place at : ℕ) (ws : List Encoded) (v : ReadValue) : Type 0 where
+pub record Valued (f : Format) (header : ℕ) (argument : List ℕ) (place at : ℕ) (ws : List Encoded) (v : ReadValue) : Type 0 where
   pub parts : valueParts header ≡ map partOf ws
-  pub value : valueOf header argument place (part 0 (referencesAt ws at)) ≡ v
+  pub value : valueOf f header argument place (part 0 (referencesAt f ws at)) ≡ v
 
 -- a scalar that stands in a word: types 3, 4, 5, 7 and 8
-word-read : (header : ℕ) (argument : List ℕ) (place at type n : ℕ) → eqb type 6 ≡ false → holdsWord type ≡ true
-    → argumentType header ≡ type → n < 2 ^ 64 → At argument (at - place) (partsBytes (word n ∷ []))
-    → Valued header argument place at (word n ∷ []) (ScalarValue (wordScalar type n))
-word-read header argument place at type n other holds is small there =
-    let there′ = at-left argument (at - place) (bytesOf 8 n) [] there in
-    record { parts = rw (is, other, holds); value = rw (is, other, holds, word-is argument (at - place) n small there′) }
+word-read : (f : Format) (header : ℕ) (argument : List ℕ) (place at type n : ℕ) → eqb type 6 ≡ false → holdsWord type ≡ true
+    → argumentType header ≡ type → n < 2 ^ 64 → At argument (at - place) (partsBytes f (word n ∷ []))
+    → Valued f header argument place at (word n ∷ []) (ScalarValue (wordScalar type n))
+word-read f header argument place at type n other holds is small there =
+    let there′ = at-left argument (at - place) (wordBytes (f .order) n) [] there in
+    record { parts = rw (is, other, holds); value = rw (is, other, holds, word-is (f .order) argument (at - place) n small there′) }
 
 bit-read : (header : ℕ) (b : Bool) → field 32 63 header ≡ bit b → eqb (field 32 32 header) 1 ≡ b
 bit-read header true half = eq-eqb (field 32 32 header) 1 (omega arith)
 bit-read header false half = ne-eqb (field 32 32 header) 1 (omega arith)
 
-scalar-read : (header : ℕ) (argument : List ℕ) (place at : ℕ) (s : Scalar) → ScalarFits s
-    → argumentType header ≡ scalarType s → field 32 63 header ≡ scalarHalf s → At argument (at - place) (partsBytes (scalarParts s))
-    → Valued header argument place at (scalarParts s) (ScalarValue s)
+scalar-read : (f : Format) (header : ℕ) (argument : List ℕ) (place at : ℕ) (s : Scalar) → ScalarFits s
+    → argumentType header ≡ scalarType s → field 32 63 header ≡ scalarHalf s → At argument (at - place) (partsBytes f (scalarParts s))
+    → Valued f header argument place at (scalarParts s) (ScalarValue s)
 unfolding headerScalar holdsWord wordScalar
-scalar-read header argument place at Null fit type half there = record { parts = rw type; value = rw type }
-scalar-read header argument place at (Signed32 z) fit type half there =
+scalar-read f header argument place at Null fit type half there = record { parts = rw type; value = rw type }
+scalar-read f header argument place at (Signed32 z) fit type half there =
     record { parts = rw type; value = rw (type, half, signed-unsigned 32 z (omega arith) fit) }
-scalar-read header argument place at (Unsigned32 n) fit type half there = record { parts = rw type; value = rw (type, half) }
-scalar-read header argument place at (Signed64 z) fit type half there =
+scalar-read f header argument place at (Unsigned32 n) fit type half there = record { parts = rw type; value = rw (type, half) }
+scalar-read f header argument place at (Signed64 z) fit type half there =
     let n = unsigned 64 z in
     rw (signed-unsigned 64 z (omega arith) fit) at
-    (word-read header argument place at 3 n refl refl type (unsigned-lt 64 z (omega arith) fit) there)
-scalar-read header argument place at (Unsigned64 n) fit type half there = word-read header argument place at 4 n refl refl type fit there
-scalar-read header argument place at (Double n) fit type half there = word-read header argument place at 5 n refl refl type fit there
-scalar-read header argument place at (Pointer n) fit type half there = word-read header argument place at 7 n refl refl type fit there
-scalar-read header argument place at (KernelObject n) fit type half there = word-read header argument place at 8 n refl refl type fit there
-scalar-read header argument place at (Boolean b) fit type half there = record { parts = rw type; value = rw (type, bit-read header b half) }
-scalar-read header argument place at (Unknown t) fit type half there = absurd fit
+    (word-read f header argument place at 3 n refl refl type (unsigned-lt 64 z (omega arith) fit) there)
+scalar-read f header argument place at (Unsigned64 n) fit type half there = word-read f header argument place at 4 n refl refl type fit there
+scalar-read f header argument place at (Double n) fit type half there = word-read f header argument place at 5 n refl refl type fit there
+scalar-read f header argument place at (Pointer n) fit type half there = word-read f header argument place at 7 n refl refl type fit there
+scalar-read f header argument place at (KernelObject n) fit type half there = word-read f header argument place at 8 n refl refl type fit there
+scalar-read f header argument place at (Boolean b) fit type half there = record { parts = rw type; value = rw (type, bit-read header b half) }
+scalar-read f header argument place at (Unknown t) fit type half there = absurd fit
 
 text-read : (header : ℕ) (argument : List ℕ) (place at : ℕ) (f : Format) (w : Encoded) → AsText f w
     → argumentType header ≡ 6 → field 32 63 header ≡ referenceOf w
-    → Valued header argument place at (w ∷ []) (TextValue (referenceAt w at))
+    → Valued f header argument place at (w ∷ []) (TextValue (referenceAt w at))
 text-read header argument place at f w t type half =
     let reference : field 32 47 header ≡ referenceOf w = omega (arith, t .bits) in
     record { parts = rw (type, reference, t .part); value = rw type }
 
 -- a value that fits is read by its type, the upper half of its header, and what stands behind the name
 pub value-read : (header : ℕ) (argument : List ℕ) (place at : ℕ) (f : Format) (index : Key → ℕ) (v : Value) → ValueFits f index v
-    → argumentType header ≡ typeOf v → field 32 63 header ≡ halfOf index v → At argument (at - place) (partsBytes (encodedValue index v))
-    → Valued header argument place at (encodedValue index v) (valueAt index v at)
-value-read header argument place at f index (scalar s) fit type half there = scalar-read header argument place at s fit type half there
+    → argumentType header ≡ typeOf v → field 32 63 header ≡ halfOf index v → At argument (at - place) (partsBytes f (encodedValue index v))
+    → Valued f header argument place at (encodedValue index v) (valueAt index v at)
+value-read header argument place at f index (scalar s) fit type half there = scalar-read f header argument place at s fit type half there
 value-read header argument place at f index (text t) fit type half there =
     text-read header argument place at f (encodedText index t) (text-encoded f index t fit) type half
 
 -- ---- one argument
 
 -- what is read for an argument written at a place
-abbrev pub argumentAt : (Key → ℕ) → Argument → ℕ → ReadArgument
-argumentAt index a place =
+abbrev pub argumentAt : Format → (Key → ℕ) → Argument → ℕ → ReadArgument
+argumentAt f index a place =
     let name = encodedText index (a .name) in
-    record { name = referenceAt name (place + 8); value = valueAt index (a .value) (place + 8 + length (partBytes name)) }
+    record { name = referenceAt name (place + 8); value = valueAt index (a .value) (place + 8 + length (partBytes f name)) }
 
 encoded-read : (f : Format) (type half : ℕ) (name : Encoded) (ws : List Encoded) (more : List ℕ) (place : ℕ) (v : ReadValue)
-    → RecordFits type (referenceOf name of 16 ∷ half of 32 ∷ []) (partsBytes (name ∷ ws)) → AsText f name → AllFine f ws
-    → Valued (wordAt (encodedArgument type half name ws ++ more) 0) (encodedArgument type half name ws) place
-    (place + 8 + length (partBytes name)) ws v
-    → argumentOf f (encodedArgument type half name ws ++ more) place
-    ≡ Read (record { name = referenceAt name (place + 8); value = v }) (length (encodedArgument type half name ws))
+    → RecordFits type (referenceOf name of 16 ∷ half of 32 ∷ []) (partsBytes f (name ∷ ws)) → AsText f name → AllFine f ws
+    → Valued f (wordAt (f .order) (encodedArgument f type half name ws ++ more) 0) (encodedArgument f type half name ws) place
+    (place + 8 + length (partBytes f name)) ws v
+    → argumentOf f (encodedArgument f type half name ws ++ more) place
+    ≡ Read (record { name = referenceAt name (place + 8); value = v }) (length (encodedArgument f type half name ws))
 unfolding argumentOf argumentBody
 encoded-read f type half name ws more place v fit t fine valued =
-    let source = encodedArgument type half name ws in
+    let source = encodedArgument f type half name ws in
     let rest = source ++ more in
     let long = length-append source more in
-    let own = length-record type (referenceOf name of 16 ∷ half of 32 ∷ []) (partsBytes (name ∷ ws)) in
+    let own = length-record f type (referenceOf name of 16 ∷ half of 32 ∷ []) (partsBytes f (name ∷ ws)) in
     rw (
       valued .parts,
-      field-is fit 1 rest 0 (more, refl),
-      field-is fit 2 rest 0 (more, refl),
-      ← length-size fit,
+      field-is f fit 1 rest 0 (more, refl),
+      field-is f fit 2 rest 0 (more, refl),
+      ← length-size f fit,
       le-ltb (length rest) 8 (omega (arith, long, own)),
       ne-eqb (length source) 0 (omega (arith, own)),
       le-ltb (length rest) (length source) (omega (arith, long)),
@@ -278,39 +278,39 @@ encoded-read f type half name ws more place v fit t fine valued =
 
 -- an argument's values fit their fields
 pub argument-fits : (f : Format) (index : Key → ℕ) (a : Argument) → ArgumentFits f index a → argumentWords index a < 2 ^ 12
-    → RecordFits (typeOf (a .value)) (argumentFields index a) (partsBytes (argumentParts index a))
+    → RecordFits (typeOf (a .value)) (argumentFields index a) (partsBytes f (argumentParts index a))
 argument-fits f index a fit sized =
     let name = text-encoded f index (a .name) (fit .name) in
     let value = value-encoded f index (a .value) (fit .value) in
-    let size = length-parts (argumentParts index a) in
+    let size = length-parts f (argumentParts index a) in
     record { fits = omega (arith, name .bits, value .type-bits, value .half-bits, size); full = refl; whole = omega (arith, size) }
 
 -- an argument that fits is read as itself, whatever stands behind it
 pub argument-read : (f : Format) (index : Key → ℕ) (a : Argument) (more : List ℕ) (place : ℕ) → ArgumentFits f index a
     → argumentWords index a < 2 ^ 12
-    → argumentOf f (argumentRecord index a ++ more) place ≡ Read (argumentAt index a place) (length (argumentRecord index a))
+    → argumentOf f (argumentRecord f index a ++ more) place ≡ Read (argumentAt f index a place) (length (argumentRecord f index a))
 argument-read f index a more place fit sized =
     let v = a .value in
     let name = encodedText index (a .name) in
     let ws = encodedValue index v in
     let fields = argument-fits f index a fit sized in
-    let source = encodedArgument (typeOf v) (halfOf index v) name ws in
+    let source = encodedArgument f (typeOf v) (halfOf index v) name ws in
     let rest = source ++ more in
     let start : At rest 0 source = (more, refl) in
-    let body = body-at (typeOf v) (argumentFields index a) (partsBytes (name ∷ ws)) source 0 (at-start source) in
-    let at = place + 8 + length (partBytes name) in
-    let from : 0 + 8 + length (partBytes name) ≡ at - place = omega arith in
-    let behind = rw from at (at-right source (0 + 8) (partBytes name) (partsBytes ws) body) in
-    let valued = value-read (wordAt rest 0) source place at f index v (fit .value) (field-is fields 0 rest 0 start) (field-is fields 3 rest 0 start) behind in
-    rw (argument-record index a)
+    let body = body-at f (typeOf v) (argumentFields index a) (partsBytes f (name ∷ ws)) source 0 (at-start source) in
+    let at = place + 8 + length (partBytes f name) in
+    let from : 0 + 8 + length (partBytes f name) ≡ at - place = omega arith in
+    let behind = rw from at (at-right source (0 + 8) (partBytes f name) (partsBytes f ws) body) in
+    let valued = value-read (wordAt (f .order) rest 0) source place at f index v (fit .value) (field-is f fields 0 rest 0 start) (field-is f fields 3 rest 0 start) behind in
+    rw (argument-record f index a)
     (encoded-read f (typeOf v) (halfOf index v) name ws more place (valueAt index v at) fields
     (text-encoded f index (a .name) (fit .name)) (value-encoded f index v (fit .value) .fine) valued)
 
 -- an argument is as long as its words
-pub length-argument : (index : Key → ℕ) (a : Argument) → length (argumentRecord index a) ≡ 8 * argumentWords index a
-length-argument index a =
-    rw (argument-record index a)
-    (omega (arith, length-record (typeOf (a .value)) (argumentFields index a) (partsBytes (argumentParts index a)), length-parts (argumentParts index a)))
+pub length-argument : (f : Format) (index : Key → ℕ) (a : Argument) → length (argumentRecord f index a) ≡ 8 * argumentWords index a
+length-argument f index a =
+    rw (argument-record f index a)
+    (omega (arith, length-record f (typeOf (a .value)) (argumentFields index a) (partsBytes f (argumentParts index a)), length-parts f (argumentParts index a)))
 
 -- an argument that fits has at most its header, the longest name, and the longest value
 pub argument-words : (f : Format) (index : Key → ℕ) (a : Argument) → ArgumentFits f index a
@@ -325,10 +325,10 @@ small-argument index a fit = argument-words smallFormat index a fit
 -- ---- all arguments
 
 -- arguments are as long as their words
-pub length-arguments : (index : Key → ℕ) (l : List Argument) → length (argumentsRecords index l) ≡ 8 * argumentsWords index l
-length-arguments index [] = refl
-length-arguments index (a ∷ l) =
-    omega (arith, length-append (argumentRecord index a) (argumentsRecords index l), length-argument index a, length-arguments index l)
+pub length-arguments : (f : Format) (index : Key → ℕ) (l : List Argument) → length (argumentsRecords f index l) ≡ 8 * argumentsWords index l
+length-arguments f index [] = refl
+length-arguments f index (a ∷ l) =
+    omega (arith, length-append (argumentRecord f index a) (argumentsRecords f index l), length-argument f index a, length-arguments f index l)
 
 -- arguments that fit have at most so many words each
 pub arguments-words : (f : Format) (index : Key → ℕ) (l : List Argument) → AllFit f index l
@@ -338,20 +338,20 @@ arguments-words f index (a ∷ l) fit =
     omega (arith, argument-words f index a (fit .0), arguments-words f index l (fit .1))
 
 -- what is read for arguments written one behind the other from a place on
-abbrev pub argumentsAt : (Key → ℕ) → List Argument → ℕ → List ReadArgument
-argumentsAt index [] place = []
-argumentsAt index (a ∷ l) place = argumentAt index a place ∷ argumentsAt index l (place + length (argumentRecord index a))
+abbrev pub argumentsAt : Format → (Key → ℕ) → List Argument → ℕ → List ReadArgument
+argumentsAt f index [] place = []
+argumentsAt f index (a ∷ l) place = argumentAt f index a place ∷ argumentsAt f index l (place + length (argumentRecord f index a))
 
 -- arguments that fit are read as themselves, whatever stands behind them
 pub arguments-read : (f : Format) (index : Key → ℕ) (l : List Argument) (more : List ℕ) (place : ℕ) → AllFit f index l
     → AllSized index l
-    → argumentsOf f (length l) (argumentsRecords index l ++ more) place
-    ≡ arguments (argumentsAt index l place) (place + length (argumentsRecords index l))
+    → argumentsOf f (length l) (argumentsRecords f index l ++ more) place
+    ≡ arguments (argumentsAt f index l place) (place + length (argumentsRecords f index l))
 unfolding argumentsOf
 arguments-read f index [] more place fit sized = rw (add-zero place)
 arguments-read f index (a ∷ l) more place fit sized =
-    let first = argumentRecord index a in
-    let others = argumentsRecords index l in
+    let first = argumentRecord f index a in
+    let others = argumentsRecords f index l in
     rw (
       append-assoc first others more,
       argument-read f index a (others ++ more) place (fit .0) (sized .0),
@@ -362,51 +362,51 @@ arguments-read f index (a ∷ l) more place fit sized =
     )
 
 -- in these bytes the value that is read is the value that was written
-abbrev pub SpellsValue : List ℕ → (Key → ℕ) → ReadValue → Value → Type 0
-SpellsValue bytes index (ScalarValue s) (scalar s′) = s ≡ s′
-SpellsValue bytes index (ScalarValue s) (text t) = ⊥
-SpellsValue bytes index (TextValue r) (scalar s) = ⊥
-SpellsValue bytes index (TextValue r) (text t) = Spells bytes r (encodedText index t)
+abbrev pub SpellsValue : Format → List ℕ → (Key → ℕ) → ReadValue → Value → Type 0
+SpellsValue f bytes index (ScalarValue s) (scalar s′) = s ≡ s′
+SpellsValue f bytes index (ScalarValue s) (text t) = ⊥
+SpellsValue f bytes index (TextValue r) (scalar s) = ⊥
+SpellsValue f bytes index (TextValue r) (text t) = Spells f bytes r (encodedText index t)
 
 -- in these bytes the argument that is read is the argument that was written
-pub record SpellsArgument (bytes : List ℕ) (index : Key → ℕ) (q : ReadArgument) (a : Argument) : Type 0 where
-  pub name : Spells bytes (q .name) (encodedText index (a .name))
-  pub value : SpellsValue bytes index (q .value) (a .value)
+pub record SpellsArgument (f : Format) (bytes : List ℕ) (index : Key → ℕ) (q : ReadArgument) (a : Argument) : Type 0 where
+  pub name : Spells f bytes (q .name) (encodedText index (a .name))
+  pub value : SpellsValue f bytes index (q .value) (a .value)
 
 -- and so for arguments, one by one
-abbrev pub SpellsArguments : List ℕ → (Key → ℕ) → List ReadArgument → List Argument → Type 0
-SpellsArguments bytes index [] [] = Unit {0}
-SpellsArguments bytes index [] (a ∷ l) = ⊥
-SpellsArguments bytes index (q ∷ qs) [] = ⊥
-SpellsArguments bytes index (q ∷ qs) (a ∷ l) = SpellsArgument bytes index q a × SpellsArguments bytes index qs l
+abbrev pub SpellsArguments : Format → List ℕ → (Key → ℕ) → List ReadArgument → List Argument → Type 0
+SpellsArguments f bytes index [] [] = Unit {0}
+SpellsArguments f bytes index [] (a ∷ l) = ⊥
+SpellsArguments f bytes index (q ∷ qs) [] = ⊥
+SpellsArguments f bytes index (q ∷ qs) (a ∷ l) = SpellsArgument f bytes index q a × SpellsArguments f bytes index qs l
 
 value-spelled : (f : Format) (index : Key → ℕ) (bytes : List ℕ) (place : ℕ) (v : Value) → ValueFits f index v
-    → At bytes place (partsBytes (encodedValue index v)) → SpellsValue bytes index (valueAt index v place) v
+    → At bytes place (partsBytes f (encodedValue index v)) → SpellsValue f bytes index (valueAt index v place) v
 value-spelled f index bytes place (scalar s) fit at = refl
 value-spelled f index bytes place (text t) fit at =
     let w = encodedText index t in
-    spelled f bytes place w (text-encoded f index t fit .fine) (at-left bytes place (partBytes w) [] at)
+    spelled f bytes place w (text-encoded f index t fit .fine) (at-left bytes place (partBytes f w) [] at)
 
 argument-spelled : (f : Format) (index : Key → ℕ) (bytes : List ℕ) (place : ℕ) (a : Argument) → ArgumentFits f index a
-    → At bytes place (argumentRecord index a) → SpellsArgument bytes index (argumentAt index a place) a
+    → At bytes place (argumentRecord f index a) → SpellsArgument f bytes index (argumentAt f index a place) a
 argument-spelled f index bytes place a fit at =
     let name = encodedText index (a .name) in
     let ws = encodedValue index (a .value) in
-    let body = body-at (typeOf (a .value)) (argumentFields index a) (partsBytes (name ∷ ws)) bytes place (rw (argument-record index a) at at) in
-    let first = at-left bytes (place + 8) (partBytes name) (partsBytes ws) body in
-    let second = at-right bytes (place + 8) (partBytes name) (partsBytes ws) body in
+    let body = body-at f (typeOf (a .value)) (argumentFields index a) (partsBytes f (name ∷ ws)) bytes place (rw (argument-record f index a) at at) in
+    let first = at-left bytes (place + 8) (partBytes f name) (partsBytes f ws) body in
+    let second = at-right bytes (place + 8) (partBytes f name) (partsBytes f ws) body in
     record {
       name = spelled f bytes (place + 8) name (text-encoded f index (a .name) (fit .name) .fine) first;
-      value = value-spelled f index bytes (place + 8 + length (partBytes name)) (a .value) (fit .value) second;
+      value = value-spelled f index bytes (place + 8 + length (partBytes f name)) (a .value) (fit .value) second;
     }
 
 -- where arguments stand, what is read for them spells them
 pub arguments-spelled : (f : Format) (index : Key → ℕ) (bytes : List ℕ) (place : ℕ) (l : List Argument) → AllFit f index l
-    → At bytes place (argumentsRecords index l) → SpellsArguments bytes index (argumentsAt index l place) l
+    → At bytes place (argumentsRecords f index l) → SpellsArguments f bytes index (argumentsAt f index l place) l
 arguments-spelled f index bytes place [] fit at = tt
 arguments-spelled f index bytes place (a ∷ l) fit at =
-    let first = argumentRecord index a in
-    let others = argumentsRecords index l in (
+    let first = argumentRecord f index a in
+    let others = argumentsRecords f index l in (
       argument-spelled f index bytes place a (fit .0) (at-left bytes place first others at),
       arguments-spelled f index bytes (place + length first) l (fit .1) (at-right bytes place first others at),
     )

@@ -1,11 +1,13 @@
 -- Items as they are written read back: every item's record is read as all of its bytes, and each that refers to nothing as itself.
 -- Assumes nothing.
 use Prim.Native.Nat.{ℕ, _+_, _<_, _≤_}
-use mathlib.Core.Path.{_≡_, refl}
+use mathlib.Core.Path.{_≡_, refl, _∙_}
 use mathlib.Core.List.{List, [], _∷_, append-nil}
 use native.Mathlib.Omega.{arith}
 use lib.ListN.{length}
-use Rattle.words.specs.Word.{little, wordAt, bytesOf, _of_}
+use Rattle.words.specs.declared.Order.{Order}
+use Rattle.words.specs.declared.Order.the-variants.{Little}
+use Rattle.words.specs.Word.{little, littleAt, bytesOf, wordAt, wordBytes, _of_, pack}
 use Rattle.words.specs.Stream.{padded, magic as magicBytes, startsWithMagic}
 use Rattle.words.proofs.Words.{At}
 use Rattle.format.specs.declared.Format.{Format}
@@ -25,35 +27,35 @@ use Rattle.encoding.proofs.EncodedReports.{own-encoded, small-report}
 -- ---- any item
 
 -- the record of an item can be written: its values fit their fields, and its type is none of a large record
-pub record ItemRecordFits (index : Key → ℕ) (i : Item) : Type 0 where
+pub record ItemRecordFits (f : Format) (index : Key → ℕ) (i : Item) : Type 0 where
   pub known : layoutOfItem i .type < 15
-  pub fits : RecordFits (layoutOfItem i .type) (layoutHeader index (layoutOfItem i)) (layoutBody index (layoutOfItem i))
+  pub fits : RecordFits (layoutOfItem i .type) (layoutHeader index (layoutOfItem i)) (layoutBody f index (layoutOfItem i))
 
 -- it can where the item fits
-pub item-fits : (f : Format) (index : Key → ℕ) (i : Item) → ItemFits f index i → ItemRecordFits index i
+pub item-fits : (f : Format) (index : Key → ℕ) (i : Item) → ItemFits f index i → ItemRecordFits f index i
 item-fits f index magic fit = record { known = omega arith; fits = record { fits = omega arith; full = refl; whole = refl } }
 item-fits f index (providerInfo id name) fit =
-    let size = length-body index (layoutOfItem (providerInfo id name)) in
+    let size = length-body f index (layoutOfItem (providerInfo id name)) in
     record { known = omega arith; fits = record { fits = omega (arith, size, fit .layout .size, fit .suits); full = refl; whole = omega (arith, size) } }
 item-fits f index (section id) fit =
     record { known = omega arith; fits = record { fits = omega (arith, fit .suits); full = refl; whole = refl } }
 item-fits f index (providerEvent id e) fit =
     record { known = omega arith; fits = record { fits = omega (arith, fit .suits); full = refl; whole = refl } }
 item-fits f index (initialization rate) fit =
-    let size = length-body index (layoutOfItem (initialization rate)) in
+    let size = length-body f index (layoutOfItem (initialization rate)) in
     record { known = omega arith; fits = record { fits = omega (arith, size); full = refl; whole = omega (arith, size) } }
 item-fits f index (report r) fit = let own = own-encoded f index r fit in record { known = own .known; fits = own .fits }
 item-fits f index (skipped type size) fit = absurd (fit .suits)
 
 -- an item's record has a word at least
-pub item-long : (index : Key → ℕ) (i : Item) → 8 ≤ length (itemRecord index i)
-item-long index i = omega (arith, length-layout index (layoutOfItem i))
+pub item-long : (f : Format) (index : Key → ℕ) (i : Item) → 8 ≤ length (itemRecord f index i)
+item-long f index i = omega (arith, length-layout f index (layoutOfItem i))
 
 -- where an item's record stands, it is read as all of its bytes
 pub item-stands : (f : Format) (index : Key → ℕ) (archive : List ℕ) (place : ℕ) (i : Item) → ItemFits f index i
-    → At archive place (itemRecord index i)
-    → recordAt f archive place ≡ record { content = contentOf f (itemRecord index i) place; next = place + length (itemRecord index i) }
-item-stands f index archive place i fit at = let h = item-fits f index i fit in record-at (h .fits) (h .known) f archive place at
+    → At archive place (itemRecord f index i)
+    → recordAt f archive place ≡ record { content = contentOf f (itemRecord f index i) place; next = place + length (itemRecord f index i) }
+item-stands f index archive place i fit at = let h = item-fits f index i fit in record-at f (h .fits) (h .known) archive place at
 
 -- with strings of at most 256 bytes every item is small enough for one record
 pub small-item : (index : Key → ℕ) (i : Item) → KindSuits i → PiecesFit smallFormat index (layoutOfItem i .pieces)
@@ -72,68 +74,79 @@ small-item index (skipped type size) suits pieces fit = absurd suits
 pub magic-fits : (f : Format) (index : Key → ℕ) → ItemFits f index magic
 magic-fits f index = record { suits = tt; layout = record { pieces = tt; arguments = tt; last = tt; size = omega arith } }
 
+-- the magic as a word, in each order
+abbrev magicWord : ℕ
+magicWord = pack (0 of 4 ∷ 1 of 12 ∷ 4 of 4 ∷ 0 of 4 ∷ 0x16547846 of 32 ∷ 0 of 8 ∷ [])
+
+magic-bytes : (o : Order) → wordBytes o magicWord ≡ magicBytes
+unfolding magicBytes wordBytes bytesOf
+magic-bytes Little = refl
+
+magic-word : (o : Order) → wordAt o magicBytes 0 ≡ magicWord
+unfolding magicBytes wordAt littleAt little
+magic-word Little = refl
+
 -- the magic is its eight bytes
-pub magic-record : (index : Key → ℕ) → itemRecord index magic ≡ magicBytes
-unfolding magicBytes bytesOf
-magic-record index = refl
+pub magic-record : (f : Format) (index : Key → ℕ) → itemRecord f index magic ≡ magicBytes
+magic-record f index = append-nil (wordBytes (f .order) magicWord) ∙ magic-bytes (f .order)
 
 -- a provider info is a header and a name, an initialization a header and a rate
-pub provider-info-record : (index : Key → ℕ) (id : ℕ) (name : List ℕ)
-    → itemRecord index (providerInfo id name) ≡ recordBytes 0 (1 of 4 ∷ id of 32 ∷ length name of 8 ∷ 0 of 4 ∷ []) (padded name)
-provider-info-record index id name =
-    rw (append-nil (partsBytes (encodedPieces index (stream name ∷ []))), append-nil (padded name))
+pub provider-info-record : (f : Format) (index : Key → ℕ) (id : ℕ) (name : List ℕ)
+    → itemRecord f index (providerInfo id name) ≡ recordBytes f 0 (1 of 4 ∷ id of 32 ∷ length name of 8 ∷ 0 of 4 ∷ []) (padded name)
+provider-info-record f index id name =
+    rw (append-nil (partsBytes f (encodedPieces index (stream name ∷ []))), append-nil (padded name))
 
-pub initialization-record : (index : Key → ℕ) (rate : ℕ)
-    → itemRecord index (initialization rate) ≡ recordBytes 1 (0 of 48 ∷ []) (bytesOf 8 rate)
-initialization-record index rate =
-    rw (append-nil (partsBytes (encodedPieces index (words (rate ∷ []) ∷ []))), append-nil (bytesOf 8 rate), append-nil (bytesOf 8 rate))
+pub initialization-record : (f : Format) (index : Key → ℕ) (rate : ℕ)
+    → itemRecord f index (initialization rate) ≡ recordBytes f 1 (0 of 48 ∷ []) (wordBytes (f .order) rate)
+initialization-record f index rate =
+    rw (append-nil (partsBytes f (encodedPieces index (words (rate ∷ []) ∷ []))), append-nil (wordBytes (f .order) rate), append-nil (wordBytes (f .order) rate))
 
 module _ (f : Format) (index : Key → ℕ) (place : ℕ) where
   -- the magic is read as the magic
-  pub magic-read : contentOf f (itemRecord index magic) place ≡ Magic
-  unfolding contentOf layoutOf isEvent metadataOf wordAt little magicBytes bytesOf startsWithMagic
-  magic-read = refl
+  pub magic-read : contentOf f (itemRecord f index magic) place ≡ Magic
+  unfolding contentOf layoutOf isEvent metadataOf magicBytes startsWithMagic
+  magic-read = rw (magic-record f index, magic-word (f .order))
 
   -- a provider info is read as its id and its name, which stands behind the header
   pub provider-info-read : (id : ℕ) (name : List ℕ) → ItemFits f index (providerInfo id name)
-      → contentOf f (itemRecord index (providerInfo id name)) place ≡ ProviderInfo id (place + 8) (length name)
+      → contentOf f (itemRecord f index (providerInfo id name)) place ≡ ProviderInfo id (place + 8) (length name)
   unfolding contentOf layoutOf isEvent metadataOf providerInfoOf takeParts takePart
   provider-info-read id name fit =
       let i = providerInfo id name in
       let fits = item-fits f index i fit .fits in
       rw (
-        own-field fits 0,
-        own-field fits 2,
-        own-field fits 3,
-        own-field fits 4,
-        stream-read f (length name) (place + 8) (itemRecord index i) place (fit .layout .pieces .0)
-            (omega (arith, length-layout index (layoutOfItem i))),
+        own-field f fits 0,
+        own-field f fits 2,
+        own-field f fits 3,
+        own-field f fits 4,
+        stream-read f (length name) (place + 8) (itemRecord f index i) place (fit .layout .pieces .0)
+            (omega (arith, length-layout f index (layoutOfItem i))),
       )
 
   -- a section is read as its id
-  pub section-read : (id : ℕ) → ItemFits f index (section id) → contentOf f (itemRecord index (section id)) place ≡ Section id
+  pub section-read : (id : ℕ) → ItemFits f index (section id) → contentOf f (itemRecord f index (section id)) place ≡ Section id
   unfolding contentOf layoutOf isEvent metadataOf
   section-read id fit =
-      let fits = item-fits f index (section id) fit .fits in rw (own-field fits 0, own-field fits 2, own-field fits 3)
+      let fits = item-fits f index (section id) fit .fits in rw (own-field f fits 0, own-field f fits 2, own-field f fits 3)
 
   -- a provider event is read as its id and its event
   pub provider-event-read : (id e : ℕ) → ItemFits f index (providerEvent id e)
-      → contentOf f (itemRecord index (providerEvent id e)) place ≡ ProviderEvent id e
+      → contentOf f (itemRecord f index (providerEvent id e)) place ≡ ProviderEvent id e
   unfolding contentOf layoutOf isEvent metadataOf
   provider-event-read id e fit =
       let fits = item-fits f index (providerEvent id e) fit .fits in
-      rw (own-field fits 0, own-field fits 2, own-field fits 3, own-field fits 4)
+      rw (own-field f fits 0, own-field f fits 2, own-field f fits 3, own-field f fits 4)
 
   -- an initialization is read as its rate
   pub initialization-read : (rate : ℕ) → ItemFits f index (initialization rate)
-      → contentOf f (itemRecord index (initialization rate)) place ≡ Initialization rate
+      → contentOf f (itemRecord f index (initialization rate)) place ≡ Initialization rate
   unfolding contentOf layoutOf isEvent initializationOf takeParts takePart
   initialization-read rate fit =
       let i = initialization rate in
       let fits = item-fits f index i fit .fits in
-      let source = itemRecord index i in
+      let source = itemRecord f index i in
       rw (
-        own-field fits 0,
-        words-read 1 (place + 8) source place (omega (arith, length-layout index (layoutOfItem i))),
-        pieces-spelled index (layoutOfItem i) f source 0 (fit .layout .pieces) (at-start source) .0 .0,
+        own-field f fits 0,
+        words-read 1 (place + 8) source place (omega (arith, length-layout f index (layoutOfItem i))),
+        pieces-spelled f index (layoutOfItem i) source 0 (fit .layout .pieces) (at-start source) .0 .0,
       )

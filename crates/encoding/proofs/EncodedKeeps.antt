@@ -9,9 +9,9 @@ use native.Mathlib.Nat.{add-sub-cancel-left}
 use borrow.Author.Tests.{eq-eqb, lt-ltb}
 use lib.ListN.{length, drop, length-append}
 use lib.Seq.{drop-at, drop-append-seam}
-use Rattle.words.specs.Word.{wordAt, bytesOf, field, Field, _of_, pack}
+use Rattle.words.specs.Word.{wordAt, wordBytes, field, Field, _of_, pack}
 use Rattle.words.specs.Stream.{streamWords, paddingOf, padded}
-use Rattle.words.proofs.Words.{At, at-left, at-right, length-bytesOf}
+use Rattle.words.proofs.Words.{At, at-left, at-right, length-wordBytes}
 use Rattle.words.proofs.Streams.{length-padded, padding-is}
 use Rattle.format.specs.declared.Format.{Format}
 use Rattle.format.specs.declared.Reference.{Reference}
@@ -37,19 +37,19 @@ use Rattle.encoding.proofs.EncodedItems.{item-fits, magic-read, provide
 -- ---- padding
 
 -- behind a part that is written stands zero padding; `at` is its place, `start` that of the bytes that it is looked for in
-pub part-keeps : (source : List ℕ) (start at : ℕ) (w : Encoded) → start ≤ at → At source (at - start) (partBytes w)
+pub part-keeps : (f : Format) (source : List ℕ) (start at : ℕ) (w : Encoded) → start ≤ at → At source (at - start) (partBytes f w)
     → paddingZero source start (referenceAt w at) ≡ true
 unfolding paddingZero
-part-keeps source start at (word n) low there = refl
-part-keeps source start at (words ns) low there =
+part-keeps f source start at (word n) low there = refl
+part-keeps f source start at (words ns) low there =
     let none : paddingOf (8 * length ns) ≡ 0 = omega arith in rw none
-part-keeps source start at (stream b) low there =
+part-keeps f source start at (stream b) low there =
     let same : at - start + length b ≡ at + length b - start = omega arith in rw same at (padding-is source (at - start) b there)
-part-keeps source start at (textIndex index) low there = refl
-part-keeps source start at (threadIndex index) low there = refl
-part-keeps source start at (textInline b) low there =
+part-keeps f source start at (textIndex index) low there = refl
+part-keeps f source start at (threadIndex index) low there = refl
+part-keeps f source start at (textInline b) low there =
     let same : at - start + length b ≡ at + length b - start = omega arith in rw same at (padding-is source (at - start) b there)
-part-keeps source start at (threadInline t) low there = refl
+part-keeps f source start at (threadInline t) low there = refl
 
 -- zero padding stands behind each of these references
 abbrev pub AllKeep : List ℕ → ℕ → List Reference → Type 0
@@ -57,14 +57,14 @@ AllKeep source start [] = Unit {0}
 AllKeep source start (r ∷ rs) = (paddingZero source start r ≡ true) × AllKeep source start rs
 
 -- and so for parts that are written one behind the other
-pub parts-keep : (source : List ℕ) (start at : ℕ) (ws : List Encoded) → start ≤ at → At source (at - start) (partsBytes ws)
-    → AllKeep source start (referencesAt ws at)
-parts-keep source start at [] low there = tt
-parts-keep source start at (w ∷ ws) low there =
-    let n = length (partBytes w) in
+pub parts-keep : (f : Format) (source : List ℕ) (start at : ℕ) (ws : List Encoded) → start ≤ at → At source (at - start) (partsBytes f ws)
+    → AllKeep source start (referencesAt f ws at)
+parts-keep f source start at [] low there = tt
+parts-keep f source start at (w ∷ ws) low there =
+    let n = length (partBytes f w) in
     let same : at - start + n ≡ at + n - start = omega arith in (
-      part-keeps source start at w low (at-left source (at - start) (partBytes w) (partsBytes ws) there),
-      parts-keep source start (at + n) ws (omega arith) (rw same at (at-right source (at - start) (partBytes w) (partsBytes ws) there)),
+      part-keeps f source start at w low (at-left source (at - start) (partBytes f w) (partsBytes f ws) there),
+      parts-keep f source start (at + n) ws (omega arith) (rw same at (at-right source (at - start) (partBytes f w) (partsBytes f ws) there)),
     )
 
 -- ---- records that refer to nothing
@@ -73,34 +73,34 @@ words-keep : (source : List ℕ) (size : ℕ) → length source ≡ 8 * size →
 unfolding wordsKeep
 words-keep source size long = rw (eq-eqb (length source) (8 * size) long)
 
-stream-keeps : (source : List ℕ) (place : ℕ) (b : List ℕ) → length source ≡ 8 * (1 + streamWords (length b)) → At source 8 (padded b)
+stream-keeps : (f : Format) (source : List ℕ) (place : ℕ) (b : List ℕ) → length source ≡ 8 * (1 + streamWords (length b)) → At source 8 (padded b)
     → streamKeeps source place (place + 8) (length b) 0 ≡ true
 unfolding streamKeeps
-stream-keeps source place b long there =
+stream-keeps f source place b long there =
     rw (
       words-keep source (1 + streamWords (length b)) long,
-      part-keeps source place (place + 8) (textInline b) (omega arith) (rw (add-sub-cancel-left place 8) there),
+      part-keeps f source place (place + 8) (textInline b) (omega arith) (rw (add-sub-cancel-left place 8) there),
     )
 
 -- a string record loses nothing
 pub string-keeps : (f : Format) (index : ℕ) (b : List ℕ) (place : ℕ) → StringFits f index b
-    → recordKeeps f (stringRecord index b) place (String index (place + 8) (length b)) ≡ true
+    → recordKeeps f (stringRecord f index b) place (String index (place + 8) (length b)) ≡ true
 unfolding recordKeeps
 string-keeps f index b place s =
     let fit = string-fits f index b s in
     let fields = index of 15 ∷ 0 of 1 ∷ length b of 15 ∷ 0 of 17 ∷ [] in
-    let source = stringRecord index b in
-    rw (own-field fit 3, own-field fit 5)
-    (stream-keeps source place b (omega (arith, length-record 2 fields (padded b), length-padded b))
-    (body-at 2 fields (padded b) source 0 (at-start source)))
+    let source = stringRecord f index b in
+    rw (own-field f fit 3, own-field f fit 5)
+    (stream-keeps f source place b (omega (arith, length-record f 2 fields (padded b), length-padded b))
+    (body-at f 2 fields (padded b) source 0 (at-start source)))
 
 -- nor does a thread record
 pub thread-keeps : (f : Format) (index : ℕ) (t : ThreadWords) (place : ℕ) → index < 2 ^ 8
-    → recordKeeps f (threadRecord index t) place (Thread index (place + 8)) ≡ true
+    → recordKeeps f (threadRecord f index t) place (Thread index (place + 8)) ≡ true
 unfolding recordKeeps
 thread-keeps f index t place h =
-    let fit = thread-fits index t h in
-    rw (own-field fit 3) (words-keep (threadRecord index t) 3 (omega (arith, length-size fit, length-part (threadInline t))))
+    let fit = thread-fits f index t h in
+    rw (own-field f fit 3) (words-keep (threadRecord f index t) 3 (omega (arith, length-size f fit, length-part f (threadInline t))))
 
 -- ---- arguments
 
@@ -148,51 +148,51 @@ unfolding valueBytes
 value-bytes index (scalar s) at = omega (arith, scalar-parts s)
 value-bytes index (text t) at = omega (arith, part-bytes (encodedText index t) at)
 
-value-padding : (source : List ℕ) (start at : ℕ) (index : Key → ℕ) (v : Value) → start ≤ at
-    → At source (at - start) (partsBytes (encodedValue index v)) → valuePaddingZero source start (valueAt index v at) ≡ true
+value-padding : (f : Format) (source : List ℕ) (start at : ℕ) (index : Key → ℕ) (v : Value) → start ≤ at
+    → At source (at - start) (partsBytes f (encodedValue index v)) → valuePaddingZero source start (valueAt index v at) ≡ true
 unfolding valuePaddingZero
-value-padding source start at index (scalar s) low there = refl
-value-padding source start at index (text t) low there =
-    let w = encodedText index t in part-keeps source start at w low (at-left source (at - start) (partBytes w) [] there)
+value-padding f source start at index (scalar s) low there = refl
+value-padding f source start at index (text t) low there =
+    let w = encodedText index t in part-keeps f source start at w low (at-left source (at - start) (partBytes f w) [] there)
 
 -- an argument that fits loses nothing, whatever stands behind it
 pub argument-keeps : (f : Format) (index : Key → ℕ) (a : Argument) (more : List ℕ) (place : ℕ) → ArgumentFits f index a
     → argumentWords index a < 2 ^ 12
-    → argumentKeeps (argumentRecord index a ++ more) place (argumentAt index a place) (length (argumentRecord index a)) ≡ true
+    → argumentKeeps f (argumentRecord f index a ++ more) place (argumentAt f index a place) (length (argumentRecord f index a)) ≡ true
 unfolding argumentKeeps
 argument-keeps f index a more place fit sized =
     let v = a .value in
     let name = encodedText index (a .name) in
     let ws = encodedValue index v in
-    let rest = argumentRecord index a ++ more in
+    let rest = argumentRecord f index a ++ more in
     let fields = argument-fits f index a fit sized in
-    let start : At rest 0 (recordBytes (typeOf v) (argumentFields index a) (partsBytes (name ∷ ws))) =
-    (more, ap (λ l. l ++ more) (argument-record index a)) in
-    let body = body-at (typeOf v) (argumentFields index a) (partsBytes (name ∷ ws)) rest 0 start in
-    let n = length (partBytes name) in
+    let start : At rest 0 (recordBytes f (typeOf v) (argumentFields index a) (partsBytes f (name ∷ ws))) =
+    (more, ap (λ l. l ++ more) (argument-record f index a)) in
+    let body = body-at f (typeOf v) (argumentFields index a) (partsBytes f (name ∷ ws)) rest 0 start in
+    let n = length (partBytes f name) in
     let from : 0 + 8 ≡ place + 8 - place = omega arith in
     let from′ : 0 + 8 + n ≡ place + 8 + n - place = omega arith in
-    let first = rw from at (at-left rest (0 + 8) (partBytes name) (partsBytes ws) body) in
-    let second = rw from′ at (at-right rest (0 + 8) (partBytes name) (partsBytes ws) body) in
-    let header = value-header f index (wordAt rest 0) v (fit .value) (field-is fields 0 rest 0 start) (field-is fields 3 rest 0 start) in
-    let size : length (argumentRecord index a) ≡ argumentBytes (argumentAt index a place) =
-    omega (arith, length-argument index a, part-bytes name (place + 8), value-bytes index v (place + 8 + n)) in
+    let first = rw from at (at-left rest (0 + 8) (partBytes f name) (partsBytes f ws) body) in
+    let second = rw from′ at (at-right rest (0 + 8) (partBytes f name) (partsBytes f ws) body) in
+    let header = value-header f index (wordAt (f .order) rest 0) v (fit .value) (field-is f fields 0 rest 0 start) (field-is f fields 3 rest 0 start) in
+    let size : length (argumentRecord f index a) ≡ argumentBytes (argumentAt f index a place) =
+    omega (arith, length-argument f index a, part-bytes name (place + 8), value-bytes index v (place + 8 + n)) in
     rw (
-      lt-ltb (argumentType (wordAt rest 0)) 10 (header .known),
+      lt-ltb (argumentType (wordAt (f .order) rest 0)) 10 (header .known),
       header .reserved,
-      eq-eqb (length (argumentRecord index a)) (argumentBytes (argumentAt index a place)) size,
-      part-keeps rest place (place + 8) name (omega arith) first,
-      value-padding rest place (place + 8 + n) index v (omega arith) second,
+      eq-eqb (length (argumentRecord f index a)) (argumentBytes (argumentAt f index a place)) size,
+      part-keeps f rest place (place + 8) name (omega arith) first,
+      value-padding f rest place (place + 8 + n) index v (omega arith) second,
     )
 
 -- arguments that fit lose nothing, where as many bytes stand behind them as are asked for
 pub arguments-keep : (f : Format) (index : Key → ℕ) (l : List Argument) (more : List ℕ) (place : ℕ) → AllFit f index l → AllSized index l
-    → argumentsKeep f (length l) (argumentsRecords index l ++ more) place (length more) ≡ true
+    → argumentsKeep f (length l) (argumentsRecords f index l ++ more) place (length more) ≡ true
 unfolding argumentsKeep
 arguments-keep f index [] more place fit sized = eq-eqb (length more) (length more) refl
 arguments-keep f index (a ∷ l) more place fit sized =
-    let first = argumentRecord index a in
-    let others = argumentsRecords index l in
+    let first = argumentRecord f index a in
+    let others = argumentsRecords f index l in
     rw (
       append-assoc first others more,
       argument-read f index a (others ++ more) place (fit .0) (sized .0),
@@ -204,45 +204,45 @@ arguments-keep f index (a ∷ l) more place fit sized =
 -- ---- records that refer to texts and threads
 
 -- behind the fields of a record stand its arguments and its last word, and nothing else
-behind-fields : (index : Key → ℕ) (r : Report) (place : ℕ)
-    → drop (reportAt index r place .arguments - place) (reportRecord index r) ≡ behindPieces index (reportLayout r)
-behind-fields index r place =
-    let header = bytesOf 8 (pack (headerFields (ownLayout (r .own) .type) (layoutHeader index (reportLayout r)) (layoutBody index (reportLayout r)))) in
-    let fields = partsBytes (reportParts index r) in
+behind-fields : (f : Format) (index : Key → ℕ) (r : Report) (place : ℕ)
+    → drop (reportAt f index r place .arguments - place) (reportRecord f index r) ≡ behindPieces f index (reportLayout r)
+behind-fields f index r place =
+    let header = wordBytes (f .order) (pack (headerFields (ownLayout (r .own) .type) (layoutHeader index (reportLayout r)) (layoutBody f index (reportLayout r)))) in
+    let fields = partsBytes f (reportParts index r) in
     let long : length (header ++ fields) ≡ place + 8 + length fields - place =
     omega (
       arith,
       length-append header fields,
-      length-bytesOf 8 (pack (headerFields (ownLayout (r .own) .type) (layoutHeader index (reportLayout r)) (layoutBody index (reportLayout r)))),
+      length-wordBytes (f .order) (pack (headerFields (ownLayout (r .own) .type) (layoutHeader index (reportLayout r)) (layoutBody f index (reportLayout r)))),
     ) in
-    rw (← append-assoc header fields (behindPieces index (reportLayout r)))
-    (drop-at (header ++ fields) (behindPieces index (reportLayout r)) (place + 8 + length fields - place) long)
+    rw (← append-assoc header fields (behindPieces f index (reportLayout r)))
+    (drop-at (header ++ fields) (behindPieces f index (reportLayout r)) (place + 8 + length fields - place) long)
 
 -- a record that fits loses nothing
 pub report-keeps : (f : Format) (index : Key → ℕ) (r : Report) (place : ℕ) → ItemFits f index (report r)
-    → recordKeeps f (reportRecord index r) place (ReportRead (reportAt index r place)) ≡ true
+    → recordKeeps f (reportRecord f index r) place (ReportRead (reportAt f index r place)) ≡ true
 unfolding recordKeeps reportKeeps
 report-keeps f index r place fit =
-    let source = reportRecord index r in
-    let x = wordsBytes (lastWords (ownLayout (r .own) .behind) (r .last)) in
-    let fields : At source (place + 8 - place) (partsBytes (reportParts index r)) =
-    rw (add-sub-cancel-left place 8) (pieces-at index (reportLayout r) source 0 (at-start source)) in
+    let source = reportRecord f index r in
+    let x = wordsBytes f (lastWords (ownLayout (r .own) .behind) (r .last)) in
+    let fields : At source (place + 8 - place) (partsBytes f (reportParts index r)) =
+    rw (add-sub-cancel-left place 8) (pieces-at f index (reportLayout r) source 0 (at-start source)) in
     let long : length x ≡ 8 * ownLayout (r .own) .behind =
     omega (
       arith,
-      length-words (lastWords (ownLayout (r .own) .behind) (r .last)),
+      length-words f (lastWords (ownLayout (r .own) .behind) (r .last)),
       length-last (ownLayout (r .own) .behind) (r .last) (behind-few (r .own)),
     ) in
-    let kept = parts-keep source place (place + 8) (reportParts index r) (omega arith) fields in
+    let kept = parts-keep f source place (place + 8) (reportParts index r) (omega arith) fields in
     rw (
       own-encoded f index r fit .layout,
       kept .1 .0,
       kept .1 .1 .0,
       kept .1 .1 .1 .0,
       kept .1 .1 .1 .1 .0,
-      behind-fields index r place,
+      behind-fields f index r place,
       ← long,
-      arguments-keep f index (r .arguments) x (reportAt index r place .arguments) (fit .layout .arguments)
+      arguments-keep f index (r .arguments) x (reportAt f index r place .arguments) (fit .layout .arguments)
           (all-sized index (r .arguments) (omega (arith, fit .layout .size))),
     )
 
@@ -250,26 +250,26 @@ report-keeps f index r place fit =
 
 -- an item that fits, as it is read, loses nothing
 pub item-keeps : (f : Format) (index : Key → ℕ) (place : ℕ) (i : Item) → ItemFits f index i
-    → recordKeeps f (itemRecord index i) place (contentOf f (itemRecord index i) place) ≡ true
+    → recordKeeps f (itemRecord f index i) place (contentOf f (itemRecord f index i) place) ≡ true
 unfolding recordKeeps
 item-keeps f index place magic fit = rw (magic-read f index place)
 item-keeps f index place (providerInfo id name) fit =
     let i = providerInfo id name in
-    let source = itemRecord index i in
-    rw (provider-info-read f index place id name fit, own-field (item-fits f index i fit .fits) 5)
-    (stream-keeps source place name (omega (arith, length-layout index (layoutOfItem i)))
-    (at-left source 8 (padded name) [] (pieces-at index (layoutOfItem i) source 0 (at-start source))))
+    let source = itemRecord f index i in
+    rw (provider-info-read f index place id name fit, own-field f (item-fits f index i fit .fits) 5)
+    (stream-keeps f source place name (omega (arith, length-layout f index (layoutOfItem i)))
+    (at-left source 8 (padded name) [] (pieces-at f index (layoutOfItem i) source 0 (at-start source))))
 item-keeps f index place (section id) fit =
     let i = section id in
-    rw (section-read f index place id fit, own-field (item-fits f index i fit .fits) 4)
-    (words-keep (itemRecord index i) 1 (omega (arith, length-layout index (layoutOfItem i))))
+    rw (section-read f index place id fit, own-field f (item-fits f index i fit .fits) 4)
+    (words-keep (itemRecord f index i) 1 (omega (arith, length-layout f index (layoutOfItem i))))
 item-keeps f index place (providerEvent id e) fit =
     let i = providerEvent id e in
-    rw (provider-event-read f index place id e fit, own-field (item-fits f index i fit .fits) 5)
-    (words-keep (itemRecord index i) 1 (omega (arith, length-layout index (layoutOfItem i))))
+    rw (provider-event-read f index place id e fit, own-field f (item-fits f index i fit .fits) 5)
+    (words-keep (itemRecord f index i) 1 (omega (arith, length-layout f index (layoutOfItem i))))
 item-keeps f index place (initialization rate) fit =
     let i = initialization rate in
-    rw (initialization-read f index place rate fit, own-field (item-fits f index i fit .fits) 2)
-    (words-keep (itemRecord index i) 2 (omega (arith, length-layout index (layoutOfItem i))))
+    rw (initialization-read f index place rate fit, own-field f (item-fits f index i fit .fits) 2)
+    (words-keep (itemRecord f index i) 2 (omega (arith, length-layout f index (layoutOfItem i))))
 item-keeps f index place (report r) fit = rw (report-content f index r place fit) (report-keeps f index r place fit)
 item-keeps f index place (skipped type size) fit = absurd (fit .suits)

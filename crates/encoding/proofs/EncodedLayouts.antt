@@ -29,24 +29,24 @@ abbrev pub layoutWords : (Key → ℕ) → ItemLayout → ℕ
 layoutWords index l = 1 + partsWords (encodedPieces index (l .pieces)) + argumentsWords index (l .arguments) + length (l .last)
 
 -- the bytes behind its pieces: the arguments and the last words
-abbrev pub behindPieces : (Key → ℕ) → ItemLayout → List ℕ
-behindPieces index l = argumentsRecords index (l .arguments) ++ wordsBytes (l .last)
+abbrev pub behindPieces : Format → (Key → ℕ) → ItemLayout → List ℕ
+behindPieces f index l = argumentsRecords f index (l .arguments) ++ wordsBytes f (l .last)
 
 -- its body is a word shorter
-pub length-body : (index : Key → ℕ) (l : ItemLayout) → 8 + length (layoutBody index l) ≡ 8 * layoutWords index l
-length-body index l =
+pub length-body : (f : Format) (index : Key → ℕ) (l : ItemLayout) → 8 + length (layoutBody f index l) ≡ 8 * layoutWords index l
+length-body f index l =
     omega (
       arith,
-      length-append (partsBytes (encodedPieces index (l .pieces))) (behindPieces index l),
-      length-append (argumentsRecords index (l .arguments)) (wordsBytes (l .last)),
-      length-parts (encodedPieces index (l .pieces)),
-      length-arguments index (l .arguments),
-      length-words (l .last),
+      length-append (partsBytes f (encodedPieces index (l .pieces))) (behindPieces f index l),
+      length-append (argumentsRecords f index (l .arguments)) (wordsBytes f (l .last)),
+      length-parts f (encodedPieces index (l .pieces)),
+      length-arguments f index (l .arguments),
+      length-words f (l .last),
     )
 
 -- a record is as long as its words
-pub length-layout : (index : Key → ℕ) (l : ItemLayout) → length (layoutRecord index l) ≡ 8 * layoutWords index l
-length-layout index l = length-record (l .type) (layoutHeader index l) (layoutBody index l) ∙ length-body index l
+pub length-layout : (f : Format) (index : Key → ℕ) (l : ItemLayout) → length (layoutRecord f index l) ≡ 8 * layoutWords index l
+length-layout f index l = length-record f (l .type) (layoutHeader index l) (layoutBody f index l) ∙ length-body f index l
 
 -- ---- what can be written
 
@@ -148,41 +148,41 @@ pieces-fine f index (words ns ∷ ps) fit = (fit .0, pieces-fine f index ps (fit
 pieces-fine f index (stream b ∷ ps) fit = (fit .0, pieces-fine f index ps (fit .1))
 pieces-fine f index (refers x ∷ ps) fit = (piece-fine f index x (fit .0), pieces-fine f index ps (fit .1))
 
-module _ (index : Key → ℕ) (l : ItemLayout) where
+module _ (f : Format) (index : Key → ℕ) (l : ItemLayout) where
   abbrev pieces : List Encoded
   pieces = encodedPieces index (l .pieces)
 
   -- where a record stands, its pieces stand behind its header
-  pub pieces-at : (bytes : List ℕ) (place : ℕ) → At bytes place (layoutRecord index l) → At bytes (place + 8) (partsBytes pieces)
+  pub pieces-at : (bytes : List ℕ) (place : ℕ) → At bytes place (layoutRecord f index l) → At bytes (place + 8) (partsBytes f pieces)
   pieces-at bytes place at =
-      at-left bytes (place + 8) (partsBytes pieces) (behindPieces index l)
-      (body-at (l .type) (layoutHeader index l) (layoutBody index l) bytes place at)
+      at-left bytes (place + 8) (partsBytes f pieces) (behindPieces f index l)
+      (body-at f (l .type) (layoutHeader index l) (layoutBody f index l) bytes place at)
 
   -- and its arguments and last words behind these
-  pub behind-at : (bytes : List ℕ) (place : ℕ) → At bytes place (layoutRecord index l)
-      → At bytes (place + 8 + length (partsBytes pieces)) (behindPieces index l)
+  pub behind-at : (bytes : List ℕ) (place : ℕ) → At bytes place (layoutRecord f index l)
+      → At bytes (place + 8 + length (partsBytes f pieces)) (behindPieces f index l)
   behind-at bytes place at =
-      at-right bytes (place + 8) (partsBytes pieces) (behindPieces index l)
-      (body-at (l .type) (layoutHeader index l) (layoutBody index l) bytes place at)
+      at-right bytes (place + 8) (partsBytes f pieces) (behindPieces f index l)
+      (body-at f (l .type) (layoutHeader index l) (layoutBody f index l) bytes place at)
 
   -- the references of its pieces spell them
-  pub pieces-spelled : (f : Format) (bytes : List ℕ) (place : ℕ) → PiecesFit f index (l .pieces) → At bytes place (layoutRecord index l)
-      → AllSpell bytes (referencesAt pieces (place + 8)) pieces
-  pieces-spelled f bytes place fit at =
+  pub pieces-spelled : (bytes : List ℕ) (place : ℕ) → PiecesFit f index (l .pieces) → At bytes place (layoutRecord f index l)
+      → AllSpell f bytes (referencesAt f pieces (place + 8)) pieces
+  pieces-spelled bytes place fit at =
       all-spelled f bytes (place + 8) pieces (pieces-fine f index (l .pieces) fit) (pieces-at bytes place at)
 
   -- a record has its header, its pieces and what stands behind them
-  pub length-all : length (layoutRecord index l) ≡ 8 + length (partsBytes pieces) + length (behindPieces index l)
+  pub length-all : length (layoutRecord f index l) ≡ 8 + length (partsBytes f pieces) + length (behindPieces f index l)
   length-all =
       omega (
         arith,
-        length-record (l .type) (layoutHeader index l) (layoutBody index l),
-        length-append (partsBytes pieces) (behindPieces index l),
+        length-record f (l .type) (layoutHeader index l) (layoutBody f index l),
+        length-append (partsBytes f pieces) (behindPieces f index l),
       )
 
   -- reading takes its pieces
-  pub pieces-read : (f : Format) (place : ℕ) → PiecesFit f index (l .pieces)
-      → takeParts f (map partOf pieces) (place + 8) (layoutRecord index l) place
-      ≡ body (referencesAt pieces (place + 8)) (place + 8 + length (partsBytes pieces))
-  pieces-read f place fit =
-      parts-read f pieces (place + 8) (layoutRecord index l) place (pieces-fine f index (l .pieces) fit) (omega (arith, length-all))
+  pub pieces-read : (place : ℕ) → PiecesFit f index (l .pieces)
+      → takeParts f (map partOf pieces) (place + 8) (layoutRecord f index l) place
+      ≡ body (referencesAt f pieces (place + 8)) (place + 8 + length (partsBytes f pieces))
+  pieces-read place fit =
+      parts-read f pieces (place + 8) (layoutRecord f index l) place (pieces-fine f index (l .pieces) fit) (omega (arith, length-all))

@@ -7,9 +7,9 @@ use native.Mathlib.Omega.{arith}
 use native.Mathlib.Nat.{add-assoc, add-zero, add-sub-cancel-left}
 use borrow.Author.Tests.{le-ltb, lt-ltb, ne-eqb}
 use lib.ListN.{length, take, drop, length-append}
-use Rattle.words.specs.Word.{wordAt, bytesOf}
+use Rattle.words.specs.Word.{wordAt, wordBytes}
 use Rattle.words.specs.Stream.{streamWords}
-use Rattle.words.proofs.Words.{At, at-left, at-right, length-bytesOf, word-is, stream-is}
+use Rattle.words.proofs.Words.{At, at-left, at-right, length-wordBytes, word-is, stream-is}
 use Rattle.words.proofs.Streams.{length-padded}
 use Rattle.format.specs.declared.Format.{Format}
 use Rattle.format.specs.declared.Reference.{Reference}
@@ -44,9 +44,9 @@ referenceAt (textInline b) place = Inline place (length b)
 referenceAt (threadInline t) place = Inline place 16
 
 -- the references of parts, each right behind the one before
-abbrev pub referencesAt : List Encoded → ℕ → List Reference
-referencesAt [] place = []
-referencesAt (w ∷ ws) place = referenceAt w place ∷ referencesAt ws (place + length (partBytes w))
+abbrev pub referencesAt : Format → List Encoded → ℕ → List Reference
+referencesAt f [] place = []
+referencesAt f (w ∷ ws) place = referenceAt w place ∷ referencesAt f ws (place + length (partBytes f w))
 
 abbrev pub AllWords : List ℕ → Type 0
 AllWords [] = Unit {0}
@@ -85,29 +85,29 @@ partsWords [] = 0
 partsWords (w ∷ ws) = partWords w + partsWords ws
 
 -- so many words
-pub length-words : (ns : List ℕ) → length (wordsBytes ns) ≡ 8 * length ns
-length-words [] = refl
-length-words (n ∷ ns) = omega (arith, length-append (bytesOf 8 n) (wordsBytes ns), length-bytesOf 8 n, length-words ns)
+pub length-words : (f : Format) (ns : List ℕ) → length (wordsBytes f ns) ≡ 8 * length ns
+length-words f [] = refl
+length-words f (n ∷ ns) = omega (arith, length-append (wordBytes (f .order) n) (wordsBytes f ns), length-wordBytes (f .order) n, length-words f ns)
 
 -- a part is as long as its words
-pub length-part : (w : Encoded) → length (partBytes w) ≡ 8 * partWords w
-length-part (word n) = length-bytesOf 8 n
-length-part (words ns) = length-words ns
-length-part (stream b) = length-padded b
-length-part (textIndex index) = refl
-length-part (threadIndex index) = refl
-length-part (textInline b) = length-padded b
-length-part (threadInline (thread p t)) =
-    omega (arith, length-append (bytesOf 8 p) (bytesOf 8 t), length-bytesOf 8 p, length-bytesOf 8 t)
+pub length-part : (f : Format) (w : Encoded) → length (partBytes f w) ≡ 8 * partWords w
+length-part f (word n) = length-wordBytes (f .order) n
+length-part f (words ns) = length-words f ns
+length-part f (stream b) = length-padded b
+length-part f (textIndex index) = refl
+length-part f (threadIndex index) = refl
+length-part f (textInline b) = length-padded b
+length-part f (threadInline (thread p t)) =
+    omega (arith, length-append (wordBytes (f .order) p) (wordBytes (f .order) t), length-wordBytes (f .order) p, length-wordBytes (f .order) t)
 
 -- parts are as long as their words
-pub length-parts : (ws : List Encoded) → length (partsBytes ws) ≡ 8 * partsWords ws
-length-parts [] = refl
-length-parts (w ∷ ws) = omega (arith, length-append (partBytes w) (partsBytes ws), length-part w, length-parts ws)
+pub length-parts : (f : Format) (ws : List Encoded) → length (partsBytes f ws) ≡ 8 * partsWords ws
+length-parts f [] = refl
+length-parts f (w ∷ ws) = omega (arith, length-append (partBytes f w) (partsBytes f ws), length-part f w, length-parts f ws)
 
 -- parts are a whole number of words
-pub parts-whole : (ws : List Encoded) → length (partsBytes ws) % 8 ≡ 0
-parts-whole ws = omega (arith, length-parts ws)
+pub parts-whole : (f : Format) (ws : List Encoded) → length (partsBytes f ws) % 8 ≡ 0
+parts-whole f ws = omega (arith, length-parts f ws)
 
 -- ---- reading takes what is written
 
@@ -144,16 +144,16 @@ part-read f (textInline b) place source start fine inside = text-read f b place 
 part-read f (threadInline t) place source start fine inside = words-read 2 place source start inside
 
 -- reading takes the parts that are written, one right behind the other
-pub parts-read : (f : Format) (ws : List Encoded) (place : ℕ) (source : List ℕ) (start : ℕ) → AllFine f ws → place + length (partsBytes ws) ≤ (start + length source)
-    → takeParts f (map partOf ws) place source start ≡ body (referencesAt ws place) (place + length (partsBytes ws))
+pub parts-read : (f : Format) (ws : List Encoded) (place : ℕ) (source : List ℕ) (start : ℕ) → AllFine f ws → place + length (partsBytes f ws) ≤ (start + length source)
+    → takeParts f (map partOf ws) place source start ≡ body (referencesAt f ws place) (place + length (partsBytes f ws))
 unfolding takeParts
 parts-read f [] place source start fine inside = rw (add-zero place)
 parts-read f (w ∷ ws) place source start fine inside =
-    let both = length-append (partBytes w) (partsBytes ws) in
+    let both = length-append (partBytes f w) (partsBytes f ws) in
     rw (
-      part-read f w place source start (fine .0) (omega (arith, both, length-part w)),
-      ← length-part w,
-      parts-read f ws (place + length (partBytes w)) source start (fine .1) (omega (arith, both)),
+      part-read f w place source start (fine .0) (omega (arith, both, length-part f w)),
+      ← length-part f w,
+      parts-read f ws (place + length (partBytes f w)) source start (fine .1) (omega (arith, both)),
       both,
       add-assoc place,
     )
@@ -161,68 +161,68 @@ parts-read f (w ∷ ws) place source start fine inside =
 -- ---- what is taken is what was written
 
 -- these words stand one behind the other from a place on
-abbrev pub WordsAre : List ℕ → ℕ → List ℕ → Type 0
-WordsAre bytes place [] = Unit {0}
-WordsAre bytes place (n ∷ ns) = (wordAt bytes place ≡ n) × WordsAre bytes (place + 8) ns
+abbrev pub WordsAre : Format → List ℕ → ℕ → List ℕ → Type 0
+WordsAre f bytes place [] = Unit {0}
+WordsAre f bytes place (n ∷ ns) = (wordAt (f .order) bytes place ≡ n) × WordsAre f bytes (place + 8) ns
 
 -- in these bytes, whose places count from their start, the reference that is read is the part that was written
-abbrev pub Spells : List ℕ → Reference → Encoded → Type 0
-Spells bytes (Inline place n) (word value) = wordAt bytes place ≡ value
-Spells bytes (Inline place n) (words ns) = WordsAre bytes place ns
-Spells bytes (Inline place n) (stream b) = (n ≡ length b) × (take n (drop place bytes) ≡ b)
-Spells bytes (Inline place n) (textIndex index) = ⊥
-Spells bytes (Inline place n) (threadIndex index) = ⊥
-Spells bytes (Inline place n) (textInline b) = (n ≡ length b) × (take n (drop place bytes) ≡ b)
-Spells bytes (Inline place n) (threadInline (thread p t)) = (wordAt bytes place ≡ p) × (wordAt bytes (place + 8) ≡ t)
-Spells bytes (Index i) (word value) = ⊥
-Spells bytes (Index i) (words ns) = ⊥
-Spells bytes (Index i) (stream b) = ⊥
-Spells bytes (Index i) (textIndex index) = i ≡ index
-Spells bytes (Index i) (threadIndex index) = i ≡ index
-Spells bytes (Index i) (textInline b) = ⊥
-Spells bytes (Index i) (threadInline t) = ⊥
+abbrev pub Spells : Format → List ℕ → Reference → Encoded → Type 0
+Spells f bytes (Inline place n) (word value) = wordAt (f .order) bytes place ≡ value
+Spells f bytes (Inline place n) (words ns) = WordsAre f bytes place ns
+Spells f bytes (Inline place n) (stream b) = (n ≡ length b) × (take n (drop place bytes) ≡ b)
+Spells f bytes (Inline place n) (textIndex index) = ⊥
+Spells f bytes (Inline place n) (threadIndex index) = ⊥
+Spells f bytes (Inline place n) (textInline b) = (n ≡ length b) × (take n (drop place bytes) ≡ b)
+Spells f bytes (Inline place n) (threadInline (thread p t)) = (wordAt (f .order) bytes place ≡ p) × (wordAt (f .order) bytes (place + 8) ≡ t)
+Spells f bytes (Index i) (word value) = ⊥
+Spells f bytes (Index i) (words ns) = ⊥
+Spells f bytes (Index i) (stream b) = ⊥
+Spells f bytes (Index i) (textIndex index) = i ≡ index
+Spells f bytes (Index i) (threadIndex index) = i ≡ index
+Spells f bytes (Index i) (textInline b) = ⊥
+Spells f bytes (Index i) (threadInline t) = ⊥
 
 -- the references that are read are the parts that were written, one by one
-abbrev pub AllSpell : List ℕ → List Reference → List Encoded → Type 0
-AllSpell bytes [] [] = Unit {0}
-AllSpell bytes [] (w ∷ ws) = ⊥
-AllSpell bytes (r ∷ rs) [] = ⊥
-AllSpell bytes (r ∷ rs) (w ∷ ws) = Spells bytes r w × AllSpell bytes rs ws
+abbrev pub AllSpell : Format → List ℕ → List Reference → List Encoded → Type 0
+AllSpell f bytes [] [] = Unit {0}
+AllSpell f bytes [] (w ∷ ws) = ⊥
+AllSpell f bytes (r ∷ rs) [] = ⊥
+AllSpell f bytes (r ∷ rs) (w ∷ ws) = Spells f bytes r w × AllSpell f bytes rs ws
 
 -- where the two words of a thread stand, they are read
-pub thread-is : (bytes : List ℕ) (place p t : ℕ) → p < 256 ^ 8 → t < 256 ^ 8 → At bytes place (partBytes (threadInline (thread p t)))
-    → (wordAt bytes place ≡ p) × (wordAt bytes (place + 8) ≡ t)
-thread-is bytes place p t hp ht at =
-    let second = at-right bytes place (bytesOf 8 p) (bytesOf 8 t) at in (
-      word-is bytes place p hp (at-left bytes place (bytesOf 8 p) (bytesOf 8 t) at),
-      word-is bytes (place + 8) t ht (rw (length-bytesOf 8 p) at second),
+pub thread-is : (f : Format) (bytes : List ℕ) (place p t : ℕ) → p < 256 ^ 8 → t < 256 ^ 8 → At bytes place (partBytes f (threadInline (thread p t)))
+    → (wordAt (f .order) bytes place ≡ p) × (wordAt (f .order) bytes (place + 8) ≡ t)
+thread-is f bytes place p t hp ht at =
+    let second = at-right bytes place (wordBytes (f .order) p) (wordBytes (f .order) t) at in (
+      word-is (f .order) bytes place p hp (at-left bytes place (wordBytes (f .order) p) (wordBytes (f .order) t) at),
+      word-is (f .order) bytes (place + 8) t ht (rw (length-wordBytes (f .order) p) at second),
     )
 
 -- where words stand, they are read
-pub words-are : (bytes : List ℕ) (place : ℕ) (ns : List ℕ) → AllWords ns → At bytes place (wordsBytes ns) → WordsAre bytes place ns
-words-are bytes place [] small at = tt
-words-are bytes place (n ∷ ns) small at =
-    let behind = at-right bytes place (bytesOf 8 n) (wordsBytes ns) at in (
-      word-is bytes place n (small .0) (at-left bytes place (bytesOf 8 n) (wordsBytes ns) at),
-      words-are bytes (place + 8) ns (small .1) (rw (length-bytesOf 8 n) at behind),
+pub words-are : (f : Format) (bytes : List ℕ) (place : ℕ) (ns : List ℕ) → AllWords ns → At bytes place (wordsBytes f ns) → WordsAre f bytes place ns
+words-are f bytes place [] small at = tt
+words-are f bytes place (n ∷ ns) small at =
+    let behind = at-right bytes place (wordBytes (f .order) n) (wordsBytes f ns) at in (
+      word-is (f .order) bytes place n (small .0) (at-left bytes place (wordBytes (f .order) n) (wordsBytes f ns) at),
+      words-are f bytes (place + 8) ns (small .1) (rw (length-wordBytes (f .order) n) at behind),
     )
 
 -- where a part stands, its reference spells it
-pub spelled : (f : Format) (bytes : List ℕ) (place : ℕ) (w : Encoded) → Fine f w → At bytes place (partBytes w)
-    → Spells bytes (referenceAt w place) w
-spelled f bytes place (word n) fine at = word-is bytes place n fine at
-spelled f bytes place (words ns) fine at = words-are bytes place ns fine at
+pub spelled : (f : Format) (bytes : List ℕ) (place : ℕ) (w : Encoded) → Fine f w → At bytes place (partBytes f w)
+    → Spells f bytes (referenceAt w place) w
+spelled f bytes place (word n) fine at = word-is (f .order) bytes place n fine at
+spelled f bytes place (words ns) fine at = words-are f bytes place ns fine at
 spelled f bytes place (stream b) fine at = (refl, stream-is bytes place b at)
 spelled f bytes place (textIndex index) fine at = refl
 spelled f bytes place (threadIndex index) fine at = refl
 spelled f bytes place (textInline b) fine at = (refl, stream-is bytes place b at)
-spelled f bytes place (threadInline (thread p t)) fine at = thread-is bytes place p t (fine .0) (fine .1) at
+spelled f bytes place (threadInline (thread p t)) fine at = thread-is f bytes place p t (fine .0) (fine .1) at
 
 -- where parts stand, their references spell them
-pub all-spelled : (f : Format) (bytes : List ℕ) (place : ℕ) (ws : List Encoded) → AllFine f ws → At bytes place (partsBytes ws)
-    → AllSpell bytes (referencesAt ws place) ws
+pub all-spelled : (f : Format) (bytes : List ℕ) (place : ℕ) (ws : List Encoded) → AllFine f ws → At bytes place (partsBytes f ws)
+    → AllSpell f bytes (referencesAt f ws place) ws
 all-spelled f bytes place [] fine at = tt
 all-spelled f bytes place (w ∷ ws) fine at = (
-  spelled f bytes place w (fine .0) (at-left bytes place (partBytes w) (partsBytes ws) at),
-  all-spelled f bytes (place + length (partBytes w)) ws (fine .1) (at-right bytes place (partBytes w) (partsBytes ws) at),
+  spelled f bytes place w (fine .0) (at-left bytes place (partBytes f w) (partsBytes f ws) at),
+  all-spelled f bytes (place + length (partBytes f w)) ws (fine .1) (at-right bytes place (partBytes f w) (partsBytes f ws) at),
 )

@@ -7,10 +7,10 @@ use native.Mathlib.Omega.{arith}
 use borrow.Author.Tests.{le-ltb, ne-eqb}
 use lib.ListN.{length, take, drop, length-append}
 use lib.Seq.{take-append-seam}
-use Rattle.words.specs.Word.{wordAt, bytesOf, Field, _of_, pack}
+use Rattle.words.specs.Word.{wordAt, wordBytes, Field, _of_, pack}
 use Rattle.words.specs.Stream.{streamWords, padded}
 use Rattle.words.proofs.Fields.{Fits, widths, offset, width, value, field-law, pack-lt}
-use Rattle.words.proofs.Words.{At, at-left, at-right, length-bytesOf, word-is, stream-is}
+use Rattle.words.proofs.Words.{At, at-left, at-right, length-wordBytes, word-is, stream-is}
 use Rattle.words.proofs.Streams.{length-padded}
 use Rattle.format.specs.declared.Format.{Format}
 use Rattle.format.specs.Header.{recordWords, extentOf}
@@ -39,50 +39,50 @@ pub at-start : (l : List ℕ) → At l 0 l
 at-start l = ([], sym (append-nil l))
 
 -- a record is a word longer than its body
-pub length-record : (type : ℕ) (fields : List Field) (body : List ℕ) → length (recordBytes type fields body) ≡ 8 + length body
-length-record type fields body =
+pub length-record : (f : Format) (type : ℕ) (fields : List Field) (body : List ℕ) → length (recordBytes f type fields body) ≡ 8 + length body
+length-record f type fields body =
     let header = pack (headerFields type fields body) in
-    length-append (bytesOf 8 header) body ∙ ap (λ (n : ℕ). n + length body) (length-bytesOf 8 header)
+    length-append (wordBytes (f .order) header) body ∙ ap (λ (n : ℕ). n + length body) (length-wordBytes (f .order) header)
 
 -- where a record stands, its body stands right behind its header
-pub body-at : (type : ℕ) (fields : List Field) (body bytes : List ℕ) (place : ℕ) → At bytes place (recordBytes type fields body)
+pub body-at : (f : Format) (type : ℕ) (fields : List Field) (body bytes : List ℕ) (place : ℕ) → At bytes place (recordBytes f type fields body)
     → At bytes (place + 8) body
-body-at type fields body bytes place at =
+body-at f type fields body bytes place at =
     let header = pack (headerFields type fields body) in
-    rw (length-bytesOf 8 header) at (at-right bytes place (bytesOf 8 header) body at)
+    rw (length-wordBytes (f .order) header) at (at-right bytes place (wordBytes (f .order) header) body at)
 
-module _ {type : ℕ} {fields : List Field} {body : List ℕ} (fit : RecordFits type fields body) where
+module _ (f : Format) {type : ℕ} {fields : List Field} {body : List ℕ} (fit : RecordFits type fields body) where
   -- a record is as long as its size field says
-  pub length-size : length (recordBytes type fields body) ≡ 8 * (1 + length body / 8)
-  length-size = omega (arith, length-record type fields body, fit .whole)
+  pub length-size : length (recordBytes f type fields body) ≡ 8 * (1 + length body / 8)
+  length-size = omega (arith, length-record f type fields body, fit .whole)
 
   -- where a record stands, its header is read
-  pub header-is : (bytes : List ℕ) (place : ℕ) → At bytes place (recordBytes type fields body)
-      → wordAt bytes place ≡ pack (headerFields type fields body)
+  pub header-is : (bytes : List ℕ) (place : ℕ) → At bytes place (recordBytes f type fields body)
+      → wordAt (f .order) bytes place ≡ pack (headerFields type fields body)
   header-is bytes place at =
       let header = headerFields type fields body in
       let small : pack header < 256 ^ 8 = rw (fit .full) at (pack-lt header (fit .fits)) in
-      word-is bytes place (pack header) small (at-left bytes place (bytesOf 8 (pack header)) body at)
+      word-is (f .order) bytes place (pack header) small (at-left bytes place (wordBytes (f .order) (pack header)) body at)
 
   -- and each field of it
-  pub field-is : (i : ℕ) (bytes : List ℕ) (place : ℕ) → At bytes place (recordBytes type fields body)
-      → wordAt bytes place / 2 ^ offset i (headerFields type fields body) % 2 ^ width i (headerFields type fields body)
+  pub field-is : (i : ℕ) (bytes : List ℕ) (place : ℕ) → At bytes place (recordBytes f type fields body)
+      → wordAt (f .order) bytes place / 2 ^ offset i (headerFields type fields body) % 2 ^ width i (headerFields type fields body)
       ≡ value i (headerFields type fields body)
   field-is i bytes place at = rw (header-is bytes place at) (field-law i (headerFields type fields body) (fit .fits))
 
   -- the same in the bytes of the record alone
   pub own-field : (i : ℕ)
-      → wordAt (recordBytes type fields body) 0 / 2 ^ offset i (headerFields type fields body) % 2 ^ width i (headerFields type fields body)
+      → wordAt (f .order) (recordBytes f type fields body) 0 / 2 ^ offset i (headerFields type fields body) % 2 ^ width i (headerFields type fields body)
       ≡ value i (headerFields type fields body)
-  own-field i = field-is i (recordBytes type fields body) 0 (at-start (recordBytes type fields body))
+  own-field i = field-is i (recordBytes f type fields body) 0 (at-start (recordBytes f type fields body))
 
   -- a record is read as all of its bytes, whatever stands behind it
-  pub record-read : type < 15 → (f : Format) (rest : List ℕ) (place : ℕ)
-      → recordOf f (recordBytes type fields body ++ rest) place
-      ≡ record { content = contentOf f (recordBytes type fields body) place; next = place + length (recordBytes type fields body) }
+  pub record-read : type < 15 → (rest : List ℕ) (place : ℕ)
+      → recordOf f (recordBytes f type fields body ++ rest) place
+      ≡ record { content = contentOf f (recordBytes f type fields body) place; next = place + length (recordBytes f type fields body) }
   unfolding recordOf extentOf recordWords
-  record-read known f rest place =
-      let source = recordBytes type fields body in
+  record-read known rest place =
+      let source = recordBytes f type fields body in
       let long = length-append source rest in
       rw (
         field-is 0 (source ++ rest) 0 (rest, refl),
@@ -90,28 +90,28 @@ module _ {type : ℕ} {fields : List Field} {body : List ℕ} (fit : RecordFits 
         ne-eqb type 15 (omega arith),
         ne-eqb (1 + length body / 8) 0 (omega arith),
         ← length-size,
-        le-ltb (length (source ++ rest)) 8 (omega (arith, long, length-record type fields body)),
+        le-ltb (length (source ++ rest)) 8 (omega (arith, long, length-record f type fields body)),
         le-ltb (length (source ++ rest)) (length source) (omega (arith, long)),
         take-append-seam source rest,
       )
 
   -- the same in an archive
-  pub record-at : type < 15 → (f : Format) (archive : List ℕ) (place : ℕ) → At archive place (recordBytes type fields body)
+  pub record-at : type < 15 → (archive : List ℕ) (place : ℕ) → At archive place (recordBytes f type fields body)
       → recordAt f archive place
-      ≡ record { content = contentOf f (recordBytes type fields body) place; next = place + length (recordBytes type fields body) }
-  record-at known f archive place at = rw (at .1) (record-read known f (at .0) place)
+      ≡ record { content = contentOf f (recordBytes f type fields body) place; next = place + length (recordBytes f type fields body) }
+  record-at known archive place at = rw (at .1) (record-read known (at .0) place)
 
 -- a text that is a record's body is read behind the header
-pub body-text : (type : ℕ) (fields : List Field) (b bytes : List ℕ) (place : ℕ) → At bytes place (recordBytes type fields (padded b))
+pub body-text : (f : Format) (type : ℕ) (fields : List Field) (b bytes : List ℕ) (place : ℕ) → At bytes place (recordBytes f type fields (padded b))
     → take (length b) (drop (place + 8) bytes) ≡ b
-body-text type fields b bytes place at = stream-is bytes (place + 8) b (body-at type fields (padded b) bytes place at)
+body-text f type fields b bytes place at = stream-is bytes (place + 8) b (body-at f type fields (padded b) bytes place at)
 
 -- and so are the two words of a thread
-pub body-thread : (type : ℕ) (fields : List Field) (p t : ℕ) (bytes : List ℕ) (place : ℕ) → p < 256 ^ 8 → t < 256 ^ 8
-    → At bytes place (recordBytes type fields (partBytes (threadInline (thread p t))))
-    → (wordAt bytes (place + 8) ≡ p) × (wordAt bytes (place + 8 + 8) ≡ t)
-body-thread type fields p t bytes place hp ht at =
-    thread-is bytes (place + 8) p t hp ht (body-at type fields (partBytes (threadInline (thread p t))) bytes place at)
+pub body-thread : (f : Format) (type : ℕ) (fields : List Field) (p t : ℕ) (bytes : List ℕ) (place : ℕ) → p < 256 ^ 8 → t < 256 ^ 8
+    → At bytes place (recordBytes f type fields (partBytes f (threadInline (thread p t))))
+    → (wordAt (f .order) bytes (place + 8) ≡ p) × (wordAt (f .order) bytes (place + 8 + 8) ≡ t)
+body-thread f type fields p t bytes place hp ht at =
+    thread-is f bytes (place + 8) p t hp ht (body-at f type fields (partBytes f (threadInline (thread p t))) bytes place at)
 
 -- ---- registrations
 
@@ -136,35 +136,35 @@ string-fits f index b s =
 
 -- a string record is read as its index and its text, which stands behind the header
 pub string-read : (f : Format) (index : ℕ) (b : List ℕ) (place : ℕ) → StringFits f index b
-    → contentOf f (stringRecord index b) place ≡ String index (place + 8) (length b)
+    → contentOf f (stringRecord f index b) place ≡ String index (place + 8) (length b)
 unfolding contentOf layoutOf isEvent stringOf takeParts takePart
 string-read f index b place s =
     let fit = string-fits f index b s in
     rw (
-      own-field fit 0,
-      own-field fit 2,
-      own-field fit 4,
+      own-field f fit 0,
+      own-field f fit 2,
+      own-field f fit 4,
       ne-eqb index 0 (omega (arith, s .some)),
       le-ltb (f .highest) index (s .low),
-      stream-read f (length b) (place + 8) (stringRecord index b) place (s .short)
-          (omega (arith, length-size fit, length-padded b)),
+      stream-read f (length b) (place + 8) (stringRecord f index b) place (s .short)
+          (omega (arith, length-size f fit, length-padded b)),
     )
 
 -- a thread record's values fit their fields
-pub thread-fits : (index : ℕ) (t : ThreadWords) → index < 2 ^ 8 → RecordFits 3 (index of 8 ∷ 0 of 40 ∷ []) (partBytes (threadInline t))
-thread-fits index t h =
-    let size = length-part (threadInline t) in
+pub thread-fits : (f : Format) (index : ℕ) (t : ThreadWords) → index < 2 ^ 8 → RecordFits 3 (index of 8 ∷ 0 of 40 ∷ []) (partBytes f (threadInline t))
+thread-fits f index t h =
+    let size = length-part f (threadInline t) in
     record { fits = omega (arith, size); full = refl; whole = omega (arith, size) }
 
 -- a thread record is read as its index and its thread, which stands behind the header
 pub thread-read : (f : Format) (index : ℕ) (t : ThreadWords) (place : ℕ) → 0 < index → index < 2 ^ 8
-    → contentOf f (threadRecord index t) place ≡ Thread index (place + 8)
+    → contentOf f (threadRecord f index t) place ≡ Thread index (place + 8)
 unfolding contentOf layoutOf isEvent threadOf takeParts takePart
 thread-read f index t place some h =
-    let fit = thread-fits index t h in
+    let fit = thread-fits f index t h in
     rw (
-      own-field fit 0,
-      own-field fit 2,
+      own-field f fit 0,
+      own-field f fit 2,
       ne-eqb index 0 (omega arith),
-      words-read 2 (place + 8) (threadRecord index t) place (omega (arith, length-size fit, length-part (threadInline t))),
+      words-read 2 (place + 8) (threadRecord f index t) place (omega (arith, length-size f fit, length-part f (threadInline t))),
     )

@@ -9,7 +9,7 @@ use borrow.Author.Tests.{eqb-false, eqb-true, le-ltb, le-leb}
 use lib.Dec.{eqb}
 use lib.ListN.{length, drop, length-append}
 use Rattle.words.proofs.Tests.{cases}
-use Rattle.words.specs.Word.{wordAt, bytesOf}
+use Rattle.words.specs.Word.{wordAt, wordBytes}
 use Rattle.words.proofs.Words.{At, at-left, at-right, word-is}
 use Rattle.format.specs.declared.Format.{Format}
 use Rattle.format.specs.Limits.{smallFormat}
@@ -37,8 +37,8 @@ use Rattle.encoding.proofs.EncodedLayouts.{layoutWords, behindPieces, l
 abbrev pub reportParts : (Key → ℕ) → Report → List Encoded
 reportParts index r = encodedPieces index (reportLayout r .pieces)
 
-abbrev pub reportRecord : (Key → ℕ) → Report → List ℕ
-reportRecord index r = itemRecord index (report r)
+abbrev pub reportRecord : Format → (Key → ℕ) → Report → List ℕ
+reportRecord f index r = itemRecord f index (report r)
 
 -- as many words as stand behind the arguments
 pub length-last : (behind last : ℕ) → behind ≤ 1 → length (lastWords behind last) ≡ behind
@@ -69,35 +69,35 @@ layoutEncoded index r =
 
 pub record OwnEncoded (f : Format) (index : Key → ℕ) (r : Report) : Type 0 where
   pub known : ownLayout (r .own) .type < 15
-  pub fits : RecordFits (ownLayout (r .own) .type) (layoutHeader index (reportLayout r)) (layoutBody index (reportLayout r))
-  pub layout : layoutOf (wordAt (reportRecord index r) 0) ≡ layoutEncoded index r
-  pub values : WordsAre (reportRecord index r) 8 (ownLayout (r .own) .words) → ownOf (reportRecord index r) ≡ r .own
+  pub fits : RecordFits (ownLayout (r .own) .type) (layoutHeader index (reportLayout r)) (layoutBody f index (reportLayout r))
+  pub layout : layoutOf (wordAt (f .order) (reportRecord f index r) 0) ≡ layoutEncoded index r
+  pub values : WordsAre f (reportRecord f index r) 8 (ownLayout (r .own) .words) → ownOf f (reportRecord f index r) ≡ r .own
 
 -- an event
 pub own-encoded : (f : Format) (index : Key → ℕ) (r : Report) → ItemFits f index (report r) → OwnEncoded f index r
 unfolding layoutOf isEvent ownOf
 own-encoded f index r fit =
     let own = fit .suits .own in
-    let size = length-body index (reportLayout r) in
+    let size = length-body f index (reportLayout r) in
     let a = referent-thread f index (r .first) (own .first) (fit .layout .pieces .1 .0) in
     let b = referent-text f index (r .second) (own .second) (fit .layout .pieces .1 .1 .0) in
     let c = referent-text f index (r .third) (own .third) (fit .layout .pieces .1 .1 .1 .0) in
-    let fits : RecordFits (ownLayout (r .own) .type) (layoutHeader index (reportLayout r)) (layoutBody index (reportLayout r)) =
+    let fits : RecordFits (ownLayout (r .own) .type) (layoutHeader index (reportLayout r)) (layoutBody f index (reportLayout r)) =
     record { fits = omega (arith, size, fit .layout .size, own .type, own .few, a .bits, b .bits, c .bits); full = refl; whole = omega (arith, size) } in
     record {
       known = omega arith;
       fits = fits;
       layout =
-          rw (own-field fits 0, own-field fits 4, own-field fits 5, own-field fits 6, own-field fits 3, own-field fits 2, le-leb (r .own .variant) 10 (own .type), ← (a .part), ← (b .part), ← (c .part), own .stream);
-      values = λ w. rw (own-field fits 2, w .0);
+          rw (own-field f fits 0, own-field f fits 4, own-field f fits 5, own-field f fits 6, own-field f fits 3, own-field f fits 2, le-leb (r .own .variant) 10 (own .type), ← (a .part), ← (b .part), ← (c .part), own .stream);
+      values = λ w. rw (own-field f fits 2, w .0);
     }
 
 -- ---- reading
 
 -- what is read for a record written at a place
-abbrev pub reportAt : (Key → ℕ) → Report → ℕ → ReadReport
-reportAt index r place =
-    let references = referencesAt (reportParts index r) (place + 8) in
+abbrev pub reportAt : Format → (Key → ℕ) → Report → ℕ → ReadReport
+reportAt f index r place =
+    let references = referencesAt f (reportParts index r) (place + 8) in
     let l = layoutEncoded index r in
     record {
       own = r .own;
@@ -106,108 +106,108 @@ reportAt index r place =
       third = lookupOf (l .third) (part 3 references);
       stream = part 4 references;
       count = length (r .arguments);
-      arguments = place + 8 + length (partsBytes (reportParts index r));
+      arguments = place + 8 + length (partsBytes f (reportParts index r));
       last = r .last;
     }
 
-last-read : (source : List ℕ) (place at behind last : ℕ) → AllWords (lastWords behind last) → (behind ≡ 0 → last ≡ 0)
-    → At source (at - place) (wordsBytes (lastWords behind last)) → at + 8 * behind ≤ place + length source
-    → lastWord source place at behind ≡ Word last
+last-read : (f : Format) (source : List ℕ) (place at behind last : ℕ) → AllWords (lastWords behind last) → (behind ≡ 0 → last ≡ 0)
+    → At source (at - place) (wordsBytes f (lastWords behind last)) → at + 8 * behind ≤ place + length source
+    → lastWord f source place at behind ≡ Word last
 unfolding lastWord
-last-read source place at behind last small none there room =
+last-read f source place at behind last small none there room =
     cases (eqb behind 0) (λ e. rw (le-ltb (place + length source) (at + 8 * behind) room, e, none (eqb-true behind 0 e)))
     (λ e.
-    let there′ : At source (at - place) (bytesOf 8 last ++ []) = rw e at there in
+    let there′ : At source (at - place) (wordBytes (f .order) last ++ []) = rw e at there in
     let small′ : AllWords (last ∷ []) = rw e at small in
     rw (
       le-ltb (place + length source) (at + 8 * behind) room,
       e,
-      word-is source (at - place) last (small′ .0) (at-left source (at - place) (bytesOf 8 last) [] there′),
+      word-is (f .order) source (at - place) last (small′ .0) (at-left source (at - place) (wordBytes (f .order) last) [] there′),
     ))
 
-own-behind : (index : Key → ℕ) (r : Report) (place : ℕ)
-    → At (reportRecord index r) (reportAt index r place .arguments - place) (behindPieces index (reportLayout r))
-own-behind index r place =
-    let source = reportRecord index r in
-    let n = length (partsBytes (reportParts index r)) in
+own-behind : (f : Format) (index : Key → ℕ) (r : Report) (place : ℕ)
+    → At (reportRecord f index r) (reportAt f index r place .arguments - place) (behindPieces f index (reportLayout r))
+own-behind f index r place =
+    let source = reportRecord f index r in
+    let n = length (partsBytes f (reportParts index r)) in
     let from : 0 + 8 + n ≡ place + 8 + n - place = omega arith in
-    rw from at (behind-at index (reportLayout r) source 0 (at-start source))
+    rw from at (behind-at f index (reportLayout r) source 0 (at-start source))
 
 module _ (f : Format) (index : Key → ℕ) (r : Report) (place : ℕ) (fit : ItemFits f index (report r)) where
   abbrev source : List ℕ
-  source = reportRecord index r
+  source = reportRecord f index r
 
   abbrev first : ℕ
-  first = reportAt index r place .arguments
+  first = reportAt f index r place .arguments
 
   abbrev list : List ℕ
-  list = argumentsRecords index (r .arguments)
+  list = argumentsRecords f index (r .arguments)
 
   abbrev end : List ℕ
-  end = wordsBytes (lastWords (ownLayout (r .own) .behind) (r .last))
+  end = wordsBytes f (lastWords (ownLayout (r .own) .behind) (r .last))
 
-  room : length source ≡ 8 + length (partsBytes (reportParts index r)) + length list + 8 * ownLayout (r .own) .behind
+  room : length source ≡ 8 + length (partsBytes f (reportParts index r)) + length list + 8 * ownLayout (r .own) .behind
   room =
       omega (
         arith,
-        length-all index (reportLayout r),
+        length-all f index (reportLayout r),
         length-append list end,
-        length-words (lastWords (ownLayout (r .own) .behind) (r .last)),
+        length-words f (lastWords (ownLayout (r .own) .behind) (r .last)),
         length-last (ownLayout (r .own) .behind) (r .last) (behind-few (r .own)),
       )
 
   fields-there : takeFields f (layoutEncoded index r) source place
-      ≡ FieldsRead (reportAt index r place .first .reference) (reportAt index r place .second .reference) (reportAt index r place .third .reference)
-      (reportAt index r place .stream) first
+      ≡ FieldsRead (reportAt f index r place .first .reference) (reportAt f index r place .second .reference) (reportAt f index r place .third .reference)
+      (reportAt f index r place .stream) first
   unfolding takeFields
-  fields-there = rw (pieces-read index (reportLayout r) f place (fit .layout .pieces))
+  fields-there = rw (pieces-read f index (reportLayout r) place (fit .layout .pieces))
 
   -- its arguments are read
   pub arguments-there : argumentsOf f (length (r .arguments)) (drop (first - place) source) first
-      ≡ arguments (argumentsAt index (r .arguments) first) (first + length list)
+      ≡ arguments (argumentsAt f index (r .arguments) first) (first + length list)
   arguments-there =
-      let there = own-behind index r place in
+      let there = own-behind f index r place in
       let sized = all-sized index (r .arguments) (omega (arith, fit .layout .size)) in
       rw (there .1, append-assoc list end (there .0)) (arguments-read f index (r .arguments) (end ++ there .0) first (fit .layout .arguments) sized)
 
-  last-there : lastWord source place (first + length list) (ownLayout (r .own) .behind) ≡ Word (r .last)
+  last-there : lastWord f source place (first + length list) (ownLayout (r .own) .behind) ≡ Word (r .last)
   last-there =
       let from : first - place + length list ≡ first + length list - place = omega arith in
-      let there = rw from at (at-right source (first - place) list end (own-behind index r place)) in
-      last-read source place (first + length list) (ownLayout (r .own) .behind) (r .last) (fit .layout .last) (fit .suits .no-last) there (omega (arith, room))
+      let there = rw from at (at-right source (first - place) list end (own-behind f index r place)) in
+      last-read f source place (first + length list) (ownLayout (r .own) .behind) (r .last) (fit .layout .last) (fit .suits .no-last) there (omega (arith, room))
 
   -- a record that fits is read as its own values, its references and its last word
-  pub report-content : contentOf f source place ≡ ReportRead (reportAt index r place)
+  pub report-content : contentOf f source place ≡ ReportRead (reportAt f index r place)
   unfolding contentOf
   report-content =
       let own = own-encoded f index r fit in
       rw (
         own .layout,
         report-is f source place (layoutEncoded index r) (own .layout) fields-there (ap walked arguments-there) last-there,
-        own .values (pieces-spelled index (reportLayout r) f source 0 (fit .layout .pieces) (at-start source) .0),
+        own .values (pieces-spelled f index (reportLayout r) source 0 (fit .layout .pieces) (at-start source) .0),
       )
 
 -- a record that is read at a place of an archive as it was written: the same values, and references that spell what was written
 pub record ReportSpelled (f : Format) (index : Key → ℕ) (r : Report) (archive : List ℕ) (place : ℕ) (q : ReadReport) : Type 0 where
-  pub content : contentOf f (reportRecord index r) place ≡ ReportRead q
+  pub content : contentOf f (reportRecord f index r) place ≡ ReportRead q
   pub own : q .own ≡ r .own
-  pub first : Spells archive (q .first .reference) (encodedReferent index (r .first))
-  pub second : Spells archive (q .second .reference) (encodedReferent index (r .second))
-  pub third : Spells archive (q .third .reference) (encodedReferent index (r .third))
-  pub stream : Spells archive (q .stream) (stream (r .stream))
+  pub first : Spells f archive (q .first .reference) (encodedReferent index (r .first))
+  pub second : Spells f archive (q .second .reference) (encodedReferent index (r .second))
+  pub third : Spells f archive (q .third .reference) (encodedReferent index (r .third))
+  pub stream : Spells f archive (q .stream) (stream (r .stream))
   pub tables : (q .first .table ≡ referentTable (r .first)) × (q .second .table ≡ referentTable (r .second)) × (q .third .table ≡ referentTable (r .third))
   pub count : q .count ≡ length (r .arguments)
-  pub arguments : SpellsArguments archive index (reportArguments f (reportRecord index r) place q) (r .arguments)
+  pub arguments : SpellsArguments f archive index (reportArguments f (reportRecord f index r) place q) (r .arguments)
   pub last : q .last ≡ r .last
 
 -- a record that fits is read as it was written
 pub report-read : (f : Format) (index : Key → ℕ) (r : Report) (archive : List ℕ) (place : ℕ) → ItemFits f index (report r)
-    → At archive place (reportRecord index r) → ReportSpelled f index r archive place (reportAt index r place)
+    → At archive place (reportRecord f index r) → ReportSpelled f index r archive place (reportAt f index r place)
 report-read f index r archive place fit at =
-    let fields = pieces-spelled index (reportLayout r) f archive place (fit .layout .pieces) at in
-    let l = argumentsRecords index (r .arguments) in
-    let first = reportAt index r place .arguments in
-    let there = at-left archive first l (wordsBytes (lastWords (ownLayout (r .own) .behind) (r .last))) (behind-at index (reportLayout r) archive place at) in
+    let fields = pieces-spelled f index (reportLayout r) archive place (fit .layout .pieces) at in
+    let l = argumentsRecords f index (r .arguments) in
+    let first = reportAt f index r place .arguments in
+    let there = at-left archive first l (wordsBytes f (lastWords (ownLayout (r .own) .behind) (r .last))) (behind-at f index (reportLayout r) archive place at) in
     record {
       content = report-content f index r place fit;
       own = refl;

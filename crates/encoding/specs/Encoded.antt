@@ -4,8 +4,9 @@ use Prim.Native.Nat.{ℕ, _+_, _/_}
 use mathlib.Core.List.{List, [], _∷_, _++_}
 use lib.ListN.{length}
 use lib.Dec.{eqb}
-use Rattle.words.specs.Word.{pick, bytesOf, Field, _of_, pack, unsigned, bit}
+use Rattle.words.specs.Word.{pick, wordBytes, Field, _of_, pack, unsigned, bit}
 use Rattle.words.specs.Stream.{padded}
+use Rattle.format.specs.declared.Format.{Format}
 use Rattle.arguments.specs.declared.Scalar.{Scalar}
 use Rattle.arguments.specs.declared.Scalar.the-variants.{Null, Signed32, Unsigned32, Signed64, Unsigned64, Double, Pointer, KernelObject, Boolean, Unknown}
 use Rattle.arguments.specs.Argument.{scalarType}
@@ -30,27 +31,27 @@ referenceOf (textInline []) = 0
 referenceOf (textInline (b ∷ bs)) = 0x8000 + length (b ∷ bs)
 referenceOf (threadInline t) = 0
 
-abbrev pub wordsBytes : List ℕ → List ℕ
-wordsBytes [] = []
-wordsBytes (n ∷ ns) = bytesOf 8 n ++ wordsBytes ns
+abbrev pub wordsBytes : Format → List ℕ → List ℕ
+wordsBytes f [] = []
+wordsBytes f (n ∷ ns) = wordBytes (f .order) n ++ wordsBytes f ns
 
 -- the bytes that stand in the body
-abbrev pub partBytes : Encoded → List ℕ
-partBytes (word n) = bytesOf 8 n
-partBytes (words ns) = wordsBytes ns
-partBytes (stream b) = padded b
-partBytes (textIndex index) = []
-partBytes (threadIndex index) = []
-partBytes (textInline b) = padded b
-partBytes (threadInline (thread p t)) = bytesOf 8 p ++ bytesOf 8 t
+abbrev pub partBytes : Format → Encoded → List ℕ
+partBytes f (word n) = wordBytes (f .order) n
+partBytes f (words ns) = wordsBytes f ns
+partBytes f (stream b) = padded b
+partBytes f (textIndex index) = []
+partBytes f (threadIndex index) = []
+partBytes f (textInline b) = padded b
+partBytes f (threadInline (thread p t)) = wordBytes (f .order) p ++ wordBytes (f .order) t
 
-abbrev pub partsBytes : List Encoded → List ℕ
-partsBytes [] = []
-partsBytes (w ∷ ws) = partBytes w ++ partsBytes ws
+abbrev pub partsBytes : Format → List Encoded → List ℕ
+partsBytes f [] = []
+partsBytes f (w ∷ ws) = partBytes f w ++ partsBytes f ws
 
 -- a record, or an argument: the header with its size, then the body
-abbrev pub recordBytes : ℕ → List Field → List ℕ → List ℕ
-recordBytes type fields body = bytesOf 8 (pack (type of 4 ∷ (1 + length body / 8) of 12 ∷ fields)) ++ body
+abbrev pub recordBytes : Format → ℕ → List Field → List ℕ → List ℕ
+recordBytes f type fields body = wordBytes (f .order) (pack (type of 4 ∷ (1 + length body / 8) of 12 ∷ fields)) ++ body
 
 -- a text or a thread, by its index or inline
 abbrev pub encodedText : (Key → ℕ) → Text → Encoded
@@ -90,19 +91,19 @@ scalarParts (KernelObject n) = word n ∷ []
 scalarParts (Boolean b) = []
 scalarParts (Unknown type) = []
 
-abbrev pub encodedArgument : ℕ → ℕ → Encoded → List Encoded → List ℕ
-encodedArgument type half name parts = recordBytes type (referenceOf name of 16 ∷ half of 32 ∷ []) (partsBytes (name ∷ parts))
+abbrev pub encodedArgument : Format → ℕ → ℕ → Encoded → List Encoded → List ℕ
+encodedArgument f type half name parts = recordBytes f type (referenceOf name of 16 ∷ half of 32 ∷ []) (partsBytes f (name ∷ parts))
 
-abbrev pub valueRecord : (Key → ℕ) → Encoded → Value → List ℕ
-valueRecord index name (scalar s) = encodedArgument (scalarType s) (scalarHalf s) name (scalarParts s)
-valueRecord index name (text t) = encodedArgument 6 (referenceOf (encodedText index t)) name (encodedText index t ∷ [])
+abbrev pub valueRecord : Format → (Key → ℕ) → Encoded → Value → List ℕ
+valueRecord f index name (scalar s) = encodedArgument f (scalarType s) (scalarHalf s) name (scalarParts s)
+valueRecord f index name (text t) = encodedArgument f 6 (referenceOf (encodedText index t)) name (encodedText index t ∷ [])
 
-abbrev pub argumentRecord : (Key → ℕ) → Argument → List ℕ
-argumentRecord index a = valueRecord index (encodedText index (a .name)) (a .value)
+abbrev pub argumentRecord : Format → (Key → ℕ) → Argument → List ℕ
+argumentRecord f index a = valueRecord f index (encodedText index (a .name)) (a .value)
 
-abbrev pub argumentsRecords : (Key → ℕ) → List Argument → List ℕ
-argumentsRecords index [] = []
-argumentsRecords index (a ∷ l) = argumentRecord index a ++ argumentsRecords index l
+abbrev pub argumentsRecords : Format → (Key → ℕ) → List Argument → List ℕ
+argumentsRecords f index [] = []
+argumentsRecords f index (a ∷ l) = argumentRecord f index a ++ argumentsRecords f index l
 
 -- a piece, by the indexes of what it refers to
 abbrev pub encodedPiece : (Key → ℕ) → Piece → Encoded
@@ -118,19 +119,19 @@ encodedPieces index (p ∷ ps) = encodedPiece index p ∷ encodedPieces index ps
 abbrev pub layoutHeader : (Key → ℕ) → ItemLayout → List Field
 layoutHeader index l = l .fields (λ p. referenceOf (encodedPiece index p))
 
-abbrev pub layoutBody : (Key → ℕ) → ItemLayout → List ℕ
-layoutBody index l = partsBytes (encodedPieces index (l .pieces)) ++ (argumentsRecords index (l .arguments) ++ wordsBytes (l .last))
+abbrev pub layoutBody : Format → (Key → ℕ) → ItemLayout → List ℕ
+layoutBody f index l = partsBytes f (encodedPieces index (l .pieces)) ++ (argumentsRecords f index (l .arguments) ++ wordsBytes f (l .last))
 
-abbrev pub layoutRecord : (Key → ℕ) → ItemLayout → List ℕ
-layoutRecord index l = recordBytes (l .type) (layoutHeader index l) (layoutBody index l)
+abbrev pub layoutRecord : Format → (Key → ℕ) → ItemLayout → List ℕ
+layoutRecord f index l = recordBytes f (l .type) (layoutHeader index l) (layoutBody f index l)
 
 -- an item's record
-abbrev pub itemRecord : (Key → ℕ) → Item → List ℕ
-itemRecord index i = layoutRecord index (layoutOfItem i)
+abbrev pub itemRecord : Format → (Key → ℕ) → Item → List ℕ
+itemRecord f index i = layoutRecord f index (layoutOfItem i)
 
 -- the registrations of a text and of a thread
-abbrev pub stringRecord : ℕ → List ℕ → List ℕ
-stringRecord index b = recordBytes 2 (index of 15 ∷ 0 of 1 ∷ length b of 15 ∷ 0 of 17 ∷ []) (padded b)
+abbrev pub stringRecord : Format → ℕ → List ℕ → List ℕ
+stringRecord f index b = recordBytes f 2 (index of 15 ∷ 0 of 1 ∷ length b of 15 ∷ 0 of 17 ∷ []) (padded b)
 
-abbrev pub threadRecord : ℕ → Thread → List ℕ
-threadRecord index t = recordBytes 3 (index of 8 ∷ 0 of 40 ∷ []) (partBytes (threadInline t))
+abbrev pub threadRecord : Format → ℕ → Thread → List ℕ
+threadRecord f index t = recordBytes f 3 (index of 8 ∷ 0 of 40 ∷ []) (partBytes f (threadInline t))

@@ -10,6 +10,7 @@ ghost use Rattle.words.specs.Word.{unsigned, bit};
 ghost use Rattle.arguments.specs.Argument.{scalarType};
 ghost use Rattle.encoding.specs.Models.Part.{plainRecord, textPart, threadPart, referentPart, FieldsFit, reportHeader, argumentStart, textArgument, scalarArgument};
 use arguments::Scalar;
+use format::Format;
 use records::Event;
 
 // The lowest 16 bits of a header: a type and a size in words.
@@ -21,97 +22,121 @@ fn header(variant: u64, words: usize) -> u64
 }
 
 // The registration of a text.
-pub fn put_string_record(out: &mut [u8], place: usize, index: usize, bytes: &[u8]) -> usize
-    requires { ⌜ (index < 2 ^ 15) × (1 + streamWords (length (now bytes)) < 2 ^ 12) × (place + length (stringRecord index (now bytes)) ≤ length (now out)) ⌝ }
-    ensures { λ _. ⌜ now (out .exit) ≡ overwritten (now (out .entry)) place (stringRecord index (now (bytes .entry))) ⌝ }
-    ensures { λ r. ⌜ r ≡ place + length (stringRecord index (now (bytes .entry))) ⌝ }
+pub fn put_string_record(
+    f: Format,
+    out: &mut [u8],
+    place: usize,
+    index: usize,
+    bytes: &[u8],
+) -> usize
+    requires { ⌜ (index < 2 ^ 15) × (1 + streamWords (length (now bytes)) < 2 ^ 12) × (place + length (stringRecord f index (now bytes)) ≤ length (now out)) ⌝ }
+    ensures { λ _. ⌜ now (out .exit) ≡ overwritten (now (out .entry)) place (stringRecord f index (now (bytes .entry))) ⌝ }
+    ensures { λ r. ⌜ r ≡ place + length (stringRecord f index (now (bytes .entry))) ⌝ }
 {
+    let order = f.order;
     let size = words::stream_words(bytes.len());
     let indexed = words::with_field(header(2, 1 + size), 16, 30, index as u64);
     let word = words::with_field(indexed, 32, 46, bytes.len() as u64);
-    words::put_word(out, place, word);
+    words::put_word(order, out, place, word);
     words::put_stream(out, place + 8, bytes);
     place + 8 + size * 8
 }
 
 // The registration of a thread.
 pub fn put_thread_record(
+    f: Format,
     out: &mut [u8],
     place: usize,
     index: usize,
     process: u64,
     thread: u64,
 ) -> usize
-    requires { ⌜ (index < 2 ^ 8) × (place + length (threadRecord index (threadOf process thread)) ≤ length (now out)) ⌝ }
-    ensures { λ _. ⌜ now (out .exit) ≡ overwritten (now (out .entry)) place (threadRecord index (threadOf process thread)) ⌝ }
-    ensures { λ r. ⌜ r ≡ place + length (threadRecord index (threadOf process thread)) ⌝ }
+    requires { ⌜ (index < 2 ^ 8) × (place + length (threadRecord f index (threadOf process thread)) ≤ length (now out)) ⌝ }
+    ensures { λ _. ⌜ now (out .exit) ≡ overwritten (now (out .entry)) place (threadRecord f index (threadOf process thread)) ⌝ }
+    ensures { λ r. ⌜ r ≡ place + length (threadRecord f index (threadOf process thread)) ⌝ }
 {
+    let order = f.order;
     words::put_word(
+        order,
         out,
         place,
         words::with_field(header(3, 3), 16, 23, index as u64),
     );
-    words::put_word(out, place + 8, process);
-    words::put_word(out, place + 16, thread);
+    words::put_word(order, out, place + 8, process);
+    words::put_word(order, out, place + 16, thread);
     place + 24
 }
 
 // The magic.
-pub fn put_magic(out: &mut [u8], place: usize) -> usize
-    requires { ⌜ place + length (plainRecord magic) ≤ length (now out) ⌝ }
-    ensures { λ _. ⌜ now (out .exit) ≡ overwritten (now (out .entry)) place (plainRecord magic) ⌝ }
-    ensures { λ r. ⌜ r ≡ place + length (plainRecord magic) ⌝ }
+pub fn put_magic(f: Format, out: &mut [u8], place: usize) -> usize
+    requires { ⌜ place + length (plainRecord f magic) ≤ length (now out) ⌝ }
+    ensures { λ _. ⌜ now (out .exit) ≡ overwritten (now (out .entry)) place (plainRecord f magic) ⌝ }
+    ensures { λ r. ⌜ r ≡ place + length (plainRecord f magic) ⌝ }
 {
     words::put_stream(out, place, b"\x10\x00\x04\x46\x78\x54\x16\x00");
     place + 8
 }
 
 // A provider's id and name.
-pub fn put_provider_info(out: &mut [u8], place: usize, id: u32, name: &[u8]) -> usize
-    requires { ⌜ (length (now name) < 2 ^ 8) × (place + length (plainRecord (providerInfo id (now name))) ≤ length (now out)) ⌝ }
-    ensures { λ _. ⌜ now (out .exit) ≡ overwritten (now (out .entry)) place (plainRecord (providerInfo id (now (name .entry)))) ⌝ }
-    ensures { λ r. ⌜ r ≡ place + length (plainRecord (providerInfo id (now (name .entry)))) ⌝ }
+pub fn put_provider_info(f: Format, out: &mut [u8], place: usize, id: u32, name: &[u8]) -> usize
+    requires { ⌜ (length (now name) < 2 ^ 8) × (place + length (plainRecord f (providerInfo id (now name))) ≤ length (now out)) ⌝ }
+    ensures { λ _. ⌜ now (out .exit) ≡ overwritten (now (out .entry)) place (plainRecord f (providerInfo id (now (name .entry)))) ⌝ }
+    ensures { λ r. ⌜ r ≡ place + length (plainRecord f (providerInfo id (now (name .entry)))) ⌝ }
 {
+    let order = f.order;
     let size = words::stream_words(name.len());
     let metadata = words::with_field(header(0, 1 + size), 16, 19, 1);
     let named = words::with_field(metadata, 20, 51, id as u64);
     let word = words::with_field(named, 52, 59, name.len() as u64);
-    words::put_word(out, place, word);
+    words::put_word(order, out, place, word);
     words::put_stream(out, place + 8, name);
     place + 8 + size * 8
 }
 
 // The start of a provider's section.
-pub fn put_section(out: &mut [u8], place: usize, id: u32) -> usize
-    requires { ⌜ place + length (plainRecord (section id)) ≤ length (now out) ⌝ }
-    ensures { λ _. ⌜ now (out .exit) ≡ overwritten (now (out .entry)) place (plainRecord (section id)) ⌝ }
-    ensures { λ r. ⌜ r ≡ place + length (plainRecord (section id)) ⌝ }
+pub fn put_section(f: Format, out: &mut [u8], place: usize, id: u32) -> usize
+    requires { ⌜ place + length (plainRecord f (section id)) ≤ length (now out) ⌝ }
+    ensures { λ _. ⌜ now (out .exit) ≡ overwritten (now (out .entry)) place (plainRecord f (section id)) ⌝ }
+    ensures { λ r. ⌜ r ≡ place + length (plainRecord f (section id)) ⌝ }
 {
+    let order = f.order;
     let metadata = words::with_field(header(0, 1), 16, 19, 2);
-    words::put_word(out, place, words::with_field(metadata, 20, 51, id as u64));
+    words::put_word(
+        order,
+        out,
+        place,
+        words::with_field(metadata, 20, 51, id as u64),
+    );
     place + 8
 }
 
 // What a provider reports of itself.
-pub fn put_provider_event(out: &mut [u8], place: usize, id: u32, event: u8) -> usize
-    requires { ⌜ (event < 2 ^ 4) × (place + length (plainRecord (providerEvent id event)) ≤ length (now out)) ⌝ }
-    ensures { λ _. ⌜ now (out .exit) ≡ overwritten (now (out .entry)) place (plainRecord (providerEvent id event)) ⌝ }
-    ensures { λ r. ⌜ r ≡ place + length (plainRecord (providerEvent id event)) ⌝ }
+pub fn put_provider_event(f: Format, out: &mut [u8], place: usize, id: u32, event: u8) -> usize
+    requires { ⌜ (event < 2 ^ 4) × (place + length (plainRecord f (providerEvent id event)) ≤ length (now out)) ⌝ }
+    ensures { λ _. ⌜ now (out .exit) ≡ overwritten (now (out .entry)) place (plainRecord f (providerEvent id event)) ⌝ }
+    ensures { λ r. ⌜ r ≡ place + length (plainRecord f (providerEvent id event)) ⌝ }
 {
+    let order = f.order;
     let metadata = words::with_field(header(0, 1), 16, 19, 3);
     let named = words::with_field(metadata, 20, 51, id as u64);
-    words::put_word(out, place, words::with_field(named, 52, 55, event as u64));
+    words::put_word(
+        order,
+        out,
+        place,
+        words::with_field(named, 52, 55, event as u64),
+    );
     place + 8
 }
 
 // The rate from here on.
-pub fn put_initialization(out: &mut [u8], place: usize, rate: u64) -> usize
-    requires { ⌜ place + length (plainRecord (initialization rate)) ≤ length (now out) ⌝ }
-    ensures { λ _. ⌜ now (out .exit) ≡ overwritten (now (out .entry)) place (plainRecord (initialization rate)) ⌝ }
-    ensures { λ r. ⌜ r ≡ place + length (plainRecord (initialization rate)) ⌝ }
+pub fn put_initialization(f: Format, out: &mut [u8], place: usize, rate: u64) -> usize
+    requires { ⌜ place + length (plainRecord f (initialization rate)) ≤ length (now out) ⌝ }
+    ensures { λ _. ⌜ now (out .exit) ≡ overwritten (now (out .entry)) place (plainRecord f (initialization rate)) ⌝ }
+    ensures { λ r. ⌜ r ≡ place + length (plainRecord f (initialization rate)) ⌝ }
 {
-    words::put_word(out, place, header(1, 2));
-    words::put_word(out, place + 8, rate);
+    let order = f.order;
+    words::put_word(order, out, place, header(1, 2));
+    words::put_word(order, out, place + 8, rate);
     place + 16
 }
 
@@ -129,8 +154,8 @@ pub fn text_reference(index: usize, bytes: &[u8]) -> u64
 }
 
 // The words that such a text takes in a body.
-pub fn text_words(index: usize, bytes: &[u8]) -> usize
-    ensures { λ r. ⌜ r * 8 ≡ length (partBytes (textPart index (now (bytes .entry)))) ⌝ }
+pub fn text_words(f: Format, index: usize, bytes: &[u8]) -> usize
+    ensures { λ r. ⌜ r * 8 ≡ length (partBytes f (textPart index (now (bytes .entry)))) ⌝ }
 {
     if index != 0 {
         return 0;
@@ -139,10 +164,10 @@ pub fn text_words(index: usize, bytes: &[u8]) -> usize
 }
 
 // Such a text, written in a body.
-pub fn put_text(out: &mut [u8], place: usize, index: usize, bytes: &[u8]) -> usize
-    requires { ⌜ place + length (partBytes (textPart index (now bytes))) ≤ length (now out) ⌝ }
-    ensures { λ _. ⌜ now (out .exit) ≡ overwritten (now (out .entry)) place (partBytes (textPart index (now (bytes .entry)))) ⌝ }
-    ensures { λ r. ⌜ r ≡ place + length (partBytes (textPart index (now (bytes .entry)))) ⌝ }
+pub fn put_text(f: Format, out: &mut [u8], place: usize, index: usize, bytes: &[u8]) -> usize
+    requires { ⌜ place + length (partBytes f (textPart index (now bytes))) ≤ length (now out) ⌝ }
+    ensures { λ _. ⌜ now (out .exit) ≡ overwritten (now (out .entry)) place (partBytes f (textPart index (now (bytes .entry)))) ⌝ }
+    ensures { λ r. ⌜ r ≡ place + length (partBytes f (textPart index (now (bytes .entry)))) ⌝ }
 {
     if index != 0 {
         return place;
@@ -152,22 +177,30 @@ pub fn put_text(out: &mut [u8], place: usize, index: usize, bytes: &[u8]) -> usi
 }
 
 // A thread that is written by its index, or inline where that is 0; its reference is the index.
-pub fn put_thread(out: &mut [u8], place: usize, index: usize, process: u64, thread: u64) -> usize
-    requires { ⌜ place + length (partBytes (threadPart index (threadOf process thread))) ≤ length (now out) ⌝ }
-    ensures { λ _. ⌜ now (out .exit) ≡ overwritten (now (out .entry)) place (partBytes (threadPart index (threadOf process thread))) ⌝ }
-    ensures { λ r. ⌜ r ≡ place + length (partBytes (threadPart index (threadOf process thread))) ⌝ }
+pub fn put_thread(
+    f: Format,
+    out: &mut [u8],
+    place: usize,
+    index: usize,
+    process: u64,
+    thread: u64,
+) -> usize
+    requires { ⌜ place + length (partBytes f (threadPart index (threadOf process thread))) ≤ length (now out) ⌝ }
+    ensures { λ _. ⌜ now (out .exit) ≡ overwritten (now (out .entry)) place (partBytes f (threadPart index (threadOf process thread))) ⌝ }
+    ensures { λ r. ⌜ r ≡ place + length (partBytes f (threadPart index (threadOf process thread))) ⌝ }
 {
+    let order = f.order;
     if index != 0 {
         return place;
     }
-    words::put_word(out, place, process);
-    words::put_word(out, place + 8, thread);
+    words::put_word(order, out, place, process);
+    words::put_word(order, out, place + 8, thread);
     place + 16
 }
 
 // The reference of a text or a thread, by its table, that is written by its index, or inline where that is 0.
-pub fn referent_reference(table: u64, index: usize, bytes: &[u8]) -> u64
-    ensures { λ r. ⌜ r ≡ referenceOf (referentPart table index (now (bytes .entry))) ⌝ }
+pub fn referent_reference(f: Format, table: u64, index: usize, bytes: &[u8]) -> u64
+    ensures { λ r. ⌜ r ≡ referenceOf (referentPart f table index (now (bytes .entry))) ⌝ }
 {
     if table == 3 {
         return index as u64;
@@ -176,25 +209,40 @@ pub fn referent_reference(table: u64, index: usize, bytes: &[u8]) -> u64
 }
 
 // Such a text or thread, written in a body.
-pub fn put_referent(out: &mut [u8], place: usize, table: u64, index: usize, bytes: &[u8]) -> usize
-    requires { ⌜ (table ≡ 3 → index ≡ 0 → 16 ≤ length (now bytes)) × (place + length (partBytes (referentPart table index (now bytes))) ≤ length (now out)) ⌝ }
-    ensures { λ _. ⌜ now (out .exit) ≡ overwritten (now (out .entry)) place (partBytes (referentPart table index (now (bytes .entry)))) ⌝ }
-    ensures { λ r. ⌜ r ≡ place + length (partBytes (referentPart table index (now (bytes .entry)))) ⌝ }
+pub fn put_referent(
+    f: Format,
+    out: &mut [u8],
+    place: usize,
+    table: u64,
+    index: usize,
+    bytes: &[u8],
+) -> usize
+    requires { ⌜ (table ≡ 3 → index ≡ 0 → 16 ≤ length (now bytes)) × (place + length (partBytes f (referentPart f table index (now bytes))) ≤ length (now out)) ⌝ }
+    ensures { λ _. ⌜ now (out .exit) ≡ overwritten (now (out .entry)) place (partBytes f (referentPart f table index (now (bytes .entry)))) ⌝ }
+    ensures { λ r. ⌜ r ≡ place + length (partBytes f (referentPart f table index (now (bytes .entry)))) ⌝ }
 {
+    let order = f.order;
     if table != 3 {
-        return put_text(out, place, index, bytes);
+        return put_text(f, out, place, index, bytes);
     }
     if index != 0 {
         return place;
     }
-    put_thread(out, place, 0, words::word(bytes, 0), words::word(bytes, 8))
+    put_thread(
+        f,
+        out,
+        place,
+        0,
+        words::word(order, bytes, 0),
+        words::word(order, bytes, 8),
+    )
 }
 
 // A stream that is no reference, written in a body.
-pub fn put_stream(out: &mut [u8], place: usize, bytes: &[u8]) -> usize
-    requires { ⌜ place + length (partBytes (streamPart (now bytes))) ≤ length (now out) ⌝ }
-    ensures { λ _. ⌜ now (out .exit) ≡ overwritten (now (out .entry)) place (partBytes (streamPart (now (bytes .entry)))) ⌝ }
-    ensures { λ r. ⌜ r ≡ place + length (partBytes (streamPart (now (bytes .entry)))) ⌝ }
+pub fn put_stream(f: Format, out: &mut [u8], place: usize, bytes: &[u8]) -> usize
+    requires { ⌜ place + length (partBytes f (streamPart (now bytes))) ≤ length (now out) ⌝ }
+    ensures { λ _. ⌜ now (out .exit) ≡ overwritten (now (out .entry)) place (partBytes f (streamPart (now (bytes .entry)))) ⌝ }
+    ensures { λ r. ⌜ r ≡ place + length (partBytes f (streamPart (now (bytes .entry)))) ⌝ }
 {
     words::put_stream(out, place, bytes);
     place + words::stream_words(bytes.len()) * 8
@@ -203,6 +251,7 @@ pub fn put_stream(out: &mut [u8], place: usize, bytes: &[u8]) -> usize
 // The header of a record that refers to texts and threads, of this size in words: from what is particular to its kind, its count of arguments, its
 // three references and the length of its stream. An event has no stream.
 pub fn put_report_header(
+    f: Format,
     out: &mut [u8],
     place: usize,
     own: Event,
@@ -214,29 +263,32 @@ pub fn put_report_header(
     long: usize,
 ) -> usize
     requires { ⌜ (size < 2 ^ 12) × FieldsFit (ownLayout own .header count first second third long) × (place + 8 ≤ length (now out)) ⌝ }
-    ensures { λ _. ⌜ now (out .exit) ≡ overwritten (now (out .entry)) place (reportHeader own size count first second third long) ⌝ }
+    ensures { λ _. ⌜ now (out .exit) ≡ overwritten (now (out .entry)) place (reportHeader f own size count first second third long) ⌝ }
     ensures { λ r. ⌜ r ≡ place + 8 ⌝ }
 {
+    let order = f.order;
     let varied = words::with_field(header(4, size), 16, 19, own.variant as u64);
     let counted = words::with_field(varied, 20, 23, count as u64);
     let threaded = words::with_field(counted, 24, 31, first);
     let sorted = words::with_field(threaded, 32, 47, second);
-    words::put_word(out, place, words::with_field(sorted, 48, 63, third));
+    words::put_word(order, out, place, words::with_field(sorted, 48, 63, third));
     place + 8
 }
 
 // The words of its own that such a record has before its references: an event has its timestamp.
-pub fn put_own_words(out: &mut [u8], place: usize, own: Event) -> usize
-    requires { ⌜ place + length (wordsBytes (ownLayout own .words)) ≤ length (now out) ⌝ }
-    ensures { λ _. ⌜ now (out .exit) ≡ overwritten (now (out .entry)) place (wordsBytes (ownLayout own .words)) ⌝ }
-    ensures { λ r. ⌜ r ≡ place + length (wordsBytes (ownLayout own .words)) ⌝ }
+pub fn put_own_words(f: Format, out: &mut [u8], place: usize, own: Event) -> usize
+    requires { ⌜ place + length (wordsBytes f (ownLayout own .words)) ≤ length (now out) ⌝ }
+    ensures { λ _. ⌜ now (out .exit) ≡ overwritten (now (out .entry)) place (wordsBytes f (ownLayout own .words)) ⌝ }
+    ensures { λ r. ⌜ r ≡ place + length (wordsBytes f (ownLayout own .words)) ⌝ }
 {
-    words::put_word(out, place, own.timestamp);
+    let order = f.order;
+    words::put_word(order, out, place, own.timestamp);
     place + 8
 }
 
 // An argument's header and name, where so many words follow them.
 fn put_argument_start(
+    f: Format,
     out: &mut [u8],
     place: usize,
     variant: u64,
@@ -246,22 +298,24 @@ fn put_argument_start(
     name: &[u8],
 ) -> usize
     requires { ⌜ (variant < 2 ^ 4) × (half < 2 ^ 32) × (index < 2 ^ 15) × (length (now name) < 2 ^ 15) ⌝ }
-    requires { ⌜ (length (argumentStart variant more half (textPart index (now name))) + more * 8 < 2 ^ 15) × (place + length (argumentStart variant more half (textPart index (now name))) ≤ length (now out)) ⌝ }
-    ensures { λ _. ⌜ now (out .exit) ≡ overwritten (now (out .entry)) place (argumentStart variant more half (textPart index (now (name .entry)))) ⌝ }
-    ensures { λ r. ⌜ r ≡ place + length (argumentStart variant more half (textPart index (now (name .entry)))) ⌝ }
+    requires { ⌜ (length (argumentStart f variant more half (textPart index (now name))) + more * 8 < 2 ^ 15) × (place + length (argumentStart f variant more half (textPart index (now name))) ≤ length (now out)) ⌝ }
+    ensures { λ _. ⌜ now (out .exit) ≡ overwritten (now (out .entry)) place (argumentStart f variant more half (textPart index (now (name .entry)))) ⌝ }
+    ensures { λ r. ⌜ r ≡ place + length (argumentStart f variant more half (textPart index (now (name .entry)))) ⌝ }
 {
+    let order = f.order;
     let named = words::with_field(
-        header(variant, 1 + text_words(index, name) + more),
+        header(variant, 1 + text_words(f, index, name) + more),
         16,
         31,
         text_reference(index, name),
     );
-    words::put_word(out, place, words::with_field(named, 32, 63, half));
-    put_text(out, place + 8, index, name)
+    words::put_word(order, out, place, words::with_field(named, 32, 63, half));
+    put_text(f, out, place + 8, index, name)
 }
 
 // An argument whose value stands in its header.
 pub fn put_short_argument(
+    f: Format,
     out: &mut [u8],
     place: usize,
     variant: u64,
@@ -270,15 +324,16 @@ pub fn put_short_argument(
     name: &[u8],
 ) -> usize
     requires { ⌜ (variant < 2 ^ 4) × (half < 2 ^ 32) × (index < 2 ^ 15) × (length (now name) < 2 ^ 15) ⌝ }
-    requires { ⌜ (length (encodedArgument variant half (textPart index (now name)) []) < 2 ^ 15) × (place + length (encodedArgument variant half (textPart index (now name)) []) ≤ length (now out)) ⌝ }
-    ensures { λ _. ⌜ now (out .exit) ≡ overwritten (now (out .entry)) place (encodedArgument variant half (textPart index (now (name .entry))) []) ⌝ }
-    ensures { λ r. ⌜ r ≡ place + length (encodedArgument variant half (textPart index (now (name .entry))) []) ⌝ }
+    requires { ⌜ (length (encodedArgument f variant half (textPart index (now name)) []) < 2 ^ 15) × (place + length (encodedArgument f variant half (textPart index (now name)) []) ≤ length (now out)) ⌝ }
+    ensures { λ _. ⌜ now (out .exit) ≡ overwritten (now (out .entry)) place (encodedArgument f variant half (textPart index (now (name .entry))) []) ⌝ }
+    ensures { λ r. ⌜ r ≡ place + length (encodedArgument f variant half (textPart index (now (name .entry))) []) ⌝ }
 {
-    put_argument_start(out, place, variant, 0, half, index, name)
+    put_argument_start(f, out, place, variant, 0, half, index, name)
 }
 
 // An argument whose value is a word behind its name.
 pub fn put_word_argument(
+    f: Format,
     out: &mut [u8],
     place: usize,
     variant: u64,
@@ -287,17 +342,19 @@ pub fn put_word_argument(
     name: &[u8],
 ) -> usize
     requires { ⌜ (variant < 2 ^ 4) × (index < 2 ^ 15) × (length (now name) < 2 ^ 15) ⌝ }
-    requires { ⌜ (length (encodedArgument variant 0 (textPart index (now name)) (wordPart word ∷ [])) < 2 ^ 15) × (place + length (encodedArgument variant 0 (textPart index (now name)) (wordPart word ∷ [])) ≤ length (now out)) ⌝ }
-    ensures { λ _. ⌜ now (out .exit) ≡ overwritten (now (out .entry)) place (encodedArgument variant 0 (textPart index (now (name .entry))) (wordPart word ∷ [])) ⌝ }
-    ensures { λ r. ⌜ r ≡ place + length (encodedArgument variant 0 (textPart index (now (name .entry))) (wordPart word ∷ [])) ⌝ }
+    requires { ⌜ (length (encodedArgument f variant 0 (textPart index (now name)) (wordPart word ∷ [])) < 2 ^ 15) × (place + length (encodedArgument f variant 0 (textPart index (now name)) (wordPart word ∷ [])) ≤ length (now out)) ⌝ }
+    ensures { λ _. ⌜ now (out .exit) ≡ overwritten (now (out .entry)) place (encodedArgument f variant 0 (textPart index (now (name .entry))) (wordPart word ∷ [])) ⌝ }
+    ensures { λ r. ⌜ r ≡ place + length (encodedArgument f variant 0 (textPart index (now (name .entry))) (wordPart word ∷ [])) ⌝ }
 {
-    let behind = put_argument_start(out, place, variant, 1, 0, index, name);
-    words::put_word(out, behind, word);
+    let order = f.order;
+    let behind = put_argument_start(f, out, place, variant, 1, 0, index, name);
+    words::put_word(order, out, behind, word);
     behind + 8
 }
 
 // An argument whose value is a text.
 pub fn put_text_argument(
+    f: Format,
     out: &mut [u8],
     place: usize,
     index: usize,
@@ -306,13 +363,22 @@ pub fn put_text_argument(
     text: &[u8],
 ) -> usize
     requires { ⌜ (index < 2 ^ 15) × (length (now name) < 2 ^ 15) × (key < 2 ^ 15) × (length (now text) < 2 ^ 15) ⌝ }
-    requires { ⌜ (length (textArgument (textPart index (now name)) (textPart key (now text))) < 2 ^ 15) × (place + length (textArgument (textPart index (now name)) (textPart key (now text))) ≤ length (now out)) ⌝ }
-    ensures { λ _. ⌜ now (out .exit) ≡ overwritten (now (out .entry)) place (textArgument (textPart index (now (name .entry))) (textPart key (now (text .entry)))) ⌝ }
-    ensures { λ r. ⌜ r ≡ place + length (textArgument (textPart index (now (name .entry))) (textPart key (now (text .entry)))) ⌝ }
+    requires { ⌜ (length (textArgument f (textPart index (now name)) (textPart key (now text))) < 2 ^ 15) × (place + length (textArgument f (textPart index (now name)) (textPart key (now text))) ≤ length (now out)) ⌝ }
+    ensures { λ _. ⌜ now (out .exit) ≡ overwritten (now (out .entry)) place (textArgument f (textPart index (now (name .entry))) (textPart key (now (text .entry)))) ⌝ }
+    ensures { λ r. ⌜ r ≡ place + length (textArgument f (textPart index (now (name .entry))) (textPart key (now (text .entry)))) ⌝ }
 {
-    let more = text_words(key, text);
-    let behind = put_argument_start(out, place, 6, more, text_reference(key, text), index, name);
-    put_text(out, behind, key, text)
+    let more = text_words(f, key, text);
+    let behind = put_argument_start(
+        f,
+        out,
+        place,
+        6,
+        more,
+        text_reference(key, text),
+        index,
+        name,
+    );
+    put_text(f, out, behind, key, text)
 }
 
 // The bits of a signed number, as the high half of a header holds them.
@@ -347,6 +413,7 @@ fn boolean_half(b: bool) -> u64
 
 // An argument whose value is no text.
 pub fn put_scalar_argument(
+    f: Format,
     out: &mut [u8],
     place: usize,
     scalar: Scalar,
@@ -354,20 +421,28 @@ pub fn put_scalar_argument(
     name: &[u8],
 ) -> usize
     requires { ⌜ (scalarType scalar < 2 ^ 4) × (index < 2 ^ 15) × (length (now name) < 2 ^ 15) ⌝ }
-    requires { ⌜ (length (scalarArgument (textPart index (now name)) scalar) < 2 ^ 15) × (place + length (scalarArgument (textPart index (now name)) scalar) ≤ length (now out)) ⌝ }
-    ensures { λ _. ⌜ now (out .exit) ≡ overwritten (now (out .entry)) place (scalarArgument (textPart index (now (name .entry))) scalar) ⌝ }
-    ensures { λ r. ⌜ r ≡ place + length (scalarArgument (textPart index (now (name .entry))) scalar) ⌝ }
+    requires { ⌜ (length (scalarArgument f (textPart index (now name)) scalar) < 2 ^ 15) × (place + length (scalarArgument f (textPart index (now name)) scalar) ≤ length (now out)) ⌝ }
+    ensures { λ _. ⌜ now (out .exit) ≡ overwritten (now (out .entry)) place (scalarArgument f (textPart index (now (name .entry))) scalar) ⌝ }
+    ensures { λ r. ⌜ r ≡ place + length (scalarArgument f (textPart index (now (name .entry))) scalar) ⌝ }
 {
     match scalar {
-        Scalar::Null => put_short_argument(out, place, 0, 0, index, name),
-        Scalar::Signed32(n) => put_short_argument(out, place, 1, unsigned_half(n), index, name),
-        Scalar::Unsigned32(n) => put_short_argument(out, place, 2, n as u64, index, name),
-        Scalar::Signed64(n) => put_word_argument(out, place, 3, unsigned_word(n), index, name),
-        Scalar::Unsigned64(n) => put_word_argument(out, place, 4, n, index, name),
-        Scalar::Double(n) => put_word_argument(out, place, 5, n, index, name),
-        Scalar::Pointer(n) => put_word_argument(out, place, 7, n, index, name),
-        Scalar::KernelObject(n) => put_word_argument(out, place, 8, n, index, name),
-        Scalar::Boolean(b) => put_short_argument(out, place, 9, boolean_half(b), index, name),
-        Scalar::Unknown(variant) => put_short_argument(out, place, variant as u64, 0, index, name),
+        Scalar::Null => put_short_argument(f, out, place, 0, 0, index, name),
+        Scalar::Signed32(n) => put_short_argument(f, out, place, 1, unsigned_half(n), index, name),
+        Scalar::Unsigned32(n) => put_short_argument(f, out, place, 2, n as u64, index, name),
+        Scalar::Signed64(n) => put_word_argument(f, out, place, 3, unsigned_word(n), index, name),
+        Scalar::Unsigned64(n) => put_word_argument(f, out, place, 4, n, index, name),
+        Scalar::Double(n) => put_word_argument(f, out, place, 5, n, index, name),
+        Scalar::Pointer(n) => put_word_argument(f, out, place, 7, n, index, name),
+        Scalar::KernelObject(n) => put_word_argument(f, out, place, 8, n, index, name),
+        Scalar::Boolean(b) => put_short_argument(f, out, place, 9, boolean_half(b), index, name),
+        Scalar::Unknown(variant) => put_short_argument(
+            f,
+            out,
+            place,
+            variant as u64,
+            0,
+            index,
+            name,
+        ),
     }
 }

@@ -99,7 +99,7 @@ counted-whole f archive e = counted-items f [] (runOf f archive) (or-else-none (
 
 -- and the slots that the pass leaves tell of them
 pub left-tally : (f : Format) (archive slots : List ℕ) → refusalOf f (runOf f archive) ≡ none → SlotsLeft f archive slots
-    → Tallies archive (tableWords f) slots (codes (lastOf f archive) (usesAll (itemsOf (runOf f archive))))
+    → Tallies archive (tableWords f) slots (codes f (lastOf f archive) (usesAll (itemsOf (runOf f archive))))
 left-tally f archive slots e left = rw (counted-whole f archive e) at (left .tally)
 
 -- ---- what holds before each record

@@ -92,7 +92,7 @@ module _ (f : Format) (archive : List ℕ) (last : State) (few : last .count ≤
         };
         empty = counts-none f archive last slots;
         used = λ key place label most k. record {
-          kept = added-kept f archive slots place label most (k .behind) (key-mark k low);
+          kept = added-kept f archive slots place label most (k .behind) (key-mark f k low);
           counted = λ uses told short. use-counted f archive last few slots uses told provider context here low key place label most k short;
           outcome = λ uses told short. outcome-use f archive last few slots uses told provider context here low key place label most k short;
         };

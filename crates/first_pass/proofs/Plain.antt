@@ -104,11 +104,11 @@ module _ (f : Format) (archive : List ℕ) (bytes : AllBytes archive) where
 
   -- so the words that counted slots measure are the least that they cost
   pub measure-least : openingNumber f archive (tableWords f) ≡ 0 → (slots : List ℕ)
-      → Tallies archive (tableWords f) slots (codes (lastOf f archive) (usesAll (itemsOf (runOf f archive))))
+      → Tallies archive (tableWords f) slots (codes f (lastOf f archive) (usesAll (itemsOf (runOf f archive))))
       → measureOf (tableWords f) slots ≡ bestWords (usesAll (itemsOf (runOf f archive)))
   unfolding lastOf
   measure-least opens slots tally =
       measure-best tally
-      ∙ best-codes (lastOf f archive)
+      ∙ best-codes f (lastOf f archive)
       (last-sound f archive (length archive / 8 + 1) opening (replicate (tableWords f) 0) (fresh-sound f archive) .1 .count)
       (usesAll (itemsOf (runOf f archive))) (run-plain opens)

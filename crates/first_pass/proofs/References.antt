@@ -73,7 +73,7 @@ no-use provider (b ∷ bs) h = absurd (omega arith)
 -- a key whose bytes stand at a place under this label of a context: it is plain, and `most` is its limit
 pub record KeyStands (f : Format) (archive : List ℕ) (context : ℕ) (key : Key) (place label most : ℕ) : Type 0 where
   pub plain : KeyPlain key
-  pub own : keyOf archive place label ≡ codeOf context key
+  pub own : keyOf archive place label ≡ codeOf f context key
   pub limited : most ≡ limitOf f key
   pub behind : 0 < place
 
@@ -91,7 +91,7 @@ pub record OfLookup (f : Format) (archive slots : List ℕ) (provider : Option �
 -- what holds of what a reference was looked up as
 abbrev Holds : Format → List ℕ → List ℕ → Option ℕ → ℕ → ℕ → Resolved → (List Use → Bool → Bool → List ℕ → Type 0) → Type 0
 Holds f archive slots provider context table r P =
-    P (referentUses provider (referentItem archive (shownReferent archive table r))) (unresolvedIn r) (countGood f archive slots context table r)
+    P (referentUses provider (referentItem archive (shownReferent f archive table r))) (unresolvedIn r) (countGood f archive slots context table r)
     (countSlots f archive slots context table r)
 
 module _ (f : Format) (archive : List ℕ) (bytes : AllBytes archive) (provider : Option ℕ) (context : ℕ) where
@@ -111,7 +111,7 @@ module _ (f : Format) (archive : List ℕ) (bytes : AllBytes archive) (provider 
       rw (e, text-use provider part (omega arith))
       (of .used (textKey part) place (labelOf context 2 long) (f .highest) (record {
         plain = omega (arith, k .short);
-        own = text-code archive place long context (k .short) whole;
+        own = text-code f archive place long context (k .short) whole;
         limited = refl;
         behind = k .behind (omega arith);
       })))
@@ -124,13 +124,13 @@ module _ (f : Format) (archive : List ℕ) (bytes : AllBytes archive) (provider 
   on-thread slots P of (Unresolved index) stands = of .missing
   on-thread slots P of (Known place long) stands =
       let k = stands place long refl in
-      let t = thread (wordAt archive place) (wordAt archive (place + 8)) in
+      let t = thread (wordAt (f .order) archive place) (wordAt (f .order) archive (place + 8)) in
       let sixteen = k .1 in
       let inside = k .0 .inside in
       rw sixteen
       (of .used (threadKey t) place (labelOf context 3 16) 255 (record {
-        plain = (wordAt-lt archive place bytes, wordAt-lt archive (place + 8) bytes);
-        own = thread-code archive place context bytes (omega arith);
+        plain = (wordAt-lt (f .order) archive place bytes, wordAt-lt (f .order) archive (place + 8) bytes);
+        own = thread-code f archive place context bytes (omega arith);
         limited = refl;
         behind = k .0 .behind (omega arith);
       }))
@@ -222,12 +222,12 @@ module _ (f : Format) (archive tables : List ℕ) (context until : ℕ) where
   referent-unresolved l = cases (eqb (l .table) 3) (λ e. rw e (of-thread (lookedUp f archive tables context until l)))
       (λ e. rw e (of-text (lookedUp f archive tables context until l)))
     where
-      of-thread : (r : Resolved) → referentUnresolved (referentItem archive (shownReferent archive 3 r)) ≡ unresolvedIn r
+      of-thread : (r : Resolved) → referentUnresolved (referentItem archive (shownReferent f archive 3 r)) ≡ unresolvedIn r
       of-thread Bad = refl
       of-thread (Known place long) = refl
       of-thread (Unresolved index) = refl
 
-      of-text : (r : Resolved) → referentUnresolved (referentItem archive (shownReferent archive 2 r)) ≡ unresolvedIn r
+      of-text : (r : Resolved) → referentUnresolved (referentItem archive (shownReferent f archive 2 r)) ≡ unresolvedIn r
       of-text Bad = refl
       of-text (Known place long) = refl
       of-text (Unresolved index) = refl

@@ -49,25 +49,25 @@ table-low (textKey bytes) = omega arith
 table-low (threadKey t) = omega arith
 
 -- the label of a key that stands in the archive has one of eighteen marks
-pub key-mark : {f : Format} {archive : List ℕ} {context : ℕ} {key : Key} {place label most : ℕ}
+pub key-mark : (f : Format) {archive : List ℕ} {context : ℕ} {key : Key} {place label most : ℕ}
     → KeyStands f archive context key place label most → context ≤ 8 → label / 65536 < 18
-key-mark {context = context} {key = key} stands low =
+key-mark f {context = context} {key = key} stands low =
     let same = ap (λ (k : List ℕ). getD k 0 0 / 65536) (stands .own) in
-    omega (arith, same, code-mark context key (stands .plain), table-low key)
+    omega (arith, same, code-mark f context key (stands .plain), table-low key)
 
 -- the mark of such a use is one of eighteen
-mark-low : (last : State) (u : Use) → KeyPlain (u .key) → contextIn last (u .provider) ≤ 8 → keyMark (codeIn last u) < 18
-mark-low last u plain known =
-    omega (arith, code-mark (contextIn last (u .provider)) (u .key) plain, table-low (u .key))
+mark-low : (f : Format) (last : State) (u : Use) → KeyPlain (u .key) → contextIn last (u .provider) ≤ 8 → keyMark (codeIn f last u) < 18
+mark-low f last u plain known =
+    omega (arith, code-mark f (contextIn last (u .provider)) (u .key) plain, table-low (u .key))
 
 -- and so is that of every key that was used
-used-marks : (last : State) (us : List Use) → UsesPlain us → UsesOpen last us → (key : List ℕ) → 0 < count sameBytes key (codes last us)
+used-marks : (f : Format) (last : State) (us : List Use) → UsesPlain us → UsesOpen last us → (key : List ℕ) → 0 < count sameBytes key (codes f last us)
     → keyMark key < 18
-used-marks last [] plain known key h = absurd (omega arith)
-used-marks last (u ∷ us) plain known key h =
-    cases (sameBytes (codeIn last u) key)
-    (λ e. rw (← same-true (codeIn last u) key e) (mark-low last u (plain .0) (known .0)))
-    (λ e. used-marks last us (plain .1) (known .1) key (omega (arith, rw e at h)))
+used-marks f last [] plain known key h = absurd (omega arith)
+used-marks f last (u ∷ us) plain known key h =
+    cases (sameBytes (codeIn f last u) key)
+    (λ e. rw (← same-true (codeIn f last u) key e) (mark-low f last u (plain .0) (known .0)))
+    (λ e. used-marks f last us (plain .1) (known .1) key (omega (arith, rw e at h)))
 
 -- ---- what slots tell
 
@@ -75,8 +75,8 @@ used-marks last (u ∷ us) plain known key h =
 pub record Told (f : Format) (archive : List ℕ) (last : State) (slots : List ℕ) (uses : List Use) : Type 0 where
   pub plain : UsesPlain uses
   pub contexts : UsesOpen last uses
-  pub tally : Tallies archive (tableWords f) slots (codes last uses)
-  pub within : (mark : ℕ) → mark < 18 → distinct mark (codes last uses) ≤ limitsOf f mark
+  pub tally : Tallies archive (tableWords f) slots (codes f last uses)
+  pub within : (mark : ℕ) → mark < 18 → distinct mark (codes f last uses) ≤ limitsOf f mark
 
 -- what comes of counting: where all went well nothing is unresolved and the slots tell of all uses; where not, and nothing is unresolved, a limit is passed
 pub record Outcome (f : Format) (archive : List ℕ) (last : State) (slots : List ℕ) (uses : List Use) (good bad : Bool) : Type 0 where
@@ -119,14 +119,14 @@ module _ (f : Format) (archive : List ℕ) (last : State) where
   module _ (few : last .count ≤ 8) where
     -- uses whose marks are within the limits pass none
     limits-within : (all us : List Use) → UsesPlain all → UsesPlain us → UsesOpen last us
-        → ((mark : ℕ) → mark < 18 → distinct mark (codes last all) ≤ limitsOf f mark) → passesLimit f all us ≡ false
+        → ((mark : ℕ) → mark < 18 → distinct mark (codes f last all) ≤ limitsOf f mark) → passesLimit f all us ≡ false
     limits-within all [] plain own known within = refl
     limits-within all (u ∷ us) plain own known within =
-        let mark = keyMark (codeIn last u) in
+        let mark = keyMark (codeIn f last u) in
         let limit : limitsOf f mark ≡ limitOf f (u .key) =
-        ap (limitsOf f) (code-mark (contextIn last (u .provider)) (u .key) (own .0)) ∙ mark-limit f (contextIn last (u .provider)) (u .key) in
+        ap (limitsOf f) (code-mark f (contextIn last (u .provider)) (u .key) (own .0)) ∙ mark-limit f (contextIn last (u .provider)) (u .key) in
         rw (le-ltb (limitOf f (u .key)) (alike u (keys sameUse [] all))
-        (omega (arith, limit, alike-distinct last few u all (own .0) plain, within mark (mark-low last u (own .0) (known .0)))))
+        (omega (arith, limit, alike-distinct f last few u all (own .0) plain, within mark (mark-low f last u (own .0) (known .0)))))
         (limits-within all us plain (own .1) (known .1) within)
 
     -- uses that the slots tell of pass no limit
@@ -151,38 +151,38 @@ module _ (f : Format) (archive : List ℕ) (last : State) where
       known = rw here low
 
       -- its code is the key of its bytes
-      own : keyOf archive place label ≡ codeIn last u
-      own = stands .own ∙ ap (λ (n : ℕ). codeOf n key) (sym here)
+      own : keyOf archive place label ≡ codeIn f last u
+      own = stands .own ∙ ap (λ (n : ℕ). codeOf f n key) (sym here)
 
       -- the mark of the label is that of the use's code
-      mark-is : label / 65536 ≡ keyMark (codeIn last u)
+      mark-is : label / 65536 ≡ keyMark (codeIn f last u)
       mark-is = ap (λ (k : List ℕ). getD k 0 0 / 65536) own
 
       -- the limit of the use's mark
       limit-is : most ≡ limitsOf f (label / 65536)
       limit-is =
           stands .limited
-          ∙ sym (ap (limitsOf f) (mark-is ∙ code-mark (contextIn last provider) key (stands .plain)) ∙ mark-limit f (contextIn last provider) key)
+          ∙ sym (ap (limitsOf f) (mark-is ∙ code-mark f (contextIn last provider) key (stands .plain)) ∙ mark-limit f (contextIn last provider) key)
 
       -- keys count alike with the use last
-      counts : (k : List ℕ) → count sameBytes k (keyOf archive place label ∷ codes last uses) ≡ count sameBytes k (codes last all)
+      counts : (k : List ℕ) → count sameBytes k (keyOf archive place label ∷ codes f last uses) ≡ count sameBytes k (codes f last all)
       counts k =
-          let first = ap (λ (c : List ℕ). count sameBytes k (c ∷ codes last uses)) own in
-          let second = ap (count sameBytes k) (codes-both last uses (u ∷ [])) in
-          omega (arith, first, second, count-append sameBytes k (codes last uses) (codeIn last u ∷ []))
+          let first = ap (λ (c : List ℕ). count sameBytes k (c ∷ codes f last uses)) own in
+          let second = ap (count sameBytes k) (codes-both f last uses (u ∷ [])) in
+          omega (arith, first, second, count-append sameBytes k (codes f last uses) (codeIn f last u ∷ []))
 
       -- where the use is counted, the slots tell of it
       use-told : isAdded stretch slots label most (findOf archive stretch slots (keyOf archive place label)) ≡ true
           → Told f archive last (added stretch slots place label most (findOf archive stretch slots (keyOf archive place label))) all
       use-told good =
-          let mark = key-mark stands low in
+          let mark = key-mark f stands low in
           record {
             plain = plain-both uses (u ∷ []) (told .plain) (stands .plain, tt);
             contexts = open-both last uses (u ∷ []) (told .contexts) (known, tt);
-            tally = tally-alike (keyOf archive place label ∷ codes last uses) (codes last all)
+            tally = tally-alike (keyOf archive place label ∷ codes f last uses) (codes f last all)
                 (add-tally (told .tally) place label most (stands .behind) mark
-                (omega (arith, short, length-append uses (u ∷ []), codes-length last uses)) good) counts;
-            within = λ m l. rw (← distinct-alike m (keyOf archive place label ∷ codes last uses) (codes last all) counts)
+                (omega (arith, short, length-append uses (u ∷ []), codes-length f last uses)) good) counts;
+            within = λ m l. rw (← distinct-alike m (keyOf archive place label ∷ codes f last uses) (codes f last all) counts)
                 (added-within (told .tally) (limitsOf f) place label (told .within) mark (rw limit-is at good) m l);
           }
 
@@ -190,11 +190,11 @@ module _ (f : Format) (archive : List ℕ) (last : State) where
       use-over : isAdded stretch slots label most (findOf archive stretch slots (keyOf archive place label)) ≡ false → passesLimit f all all ≡ true
       use-over good =
           let new = not-added (told .tally) (limitsOf f) place label (told .within) (limits-sum f)
-          (used-marks last uses (told .plain) (told .contexts)) (key-mark stands low) (rw limit-is at good) in
-          let distinct-is = distinct-alike (label / 65536) (keyOf archive place label ∷ codes last uses) (codes last all) counts in
-          let alike-is = alike-distinct last few u all (stands .plain) (plain-both uses (u ∷ []) (told .plain) (stands .plain, tt)) in
-          let same : distinct (label / 65536) (codes last all) ≡ distinct (keyMark (codeIn last u)) (codes last all) =
-          ap (λ (mark : ℕ). distinct mark (codes last all)) mark-is in
+          (used-marks f last uses (told .plain) (told .contexts)) (key-mark f stands low) (rw limit-is at good) in
+          let distinct-is = distinct-alike (label / 65536) (keyOf archive place label ∷ codes f last uses) (codes f last all) counts in
+          let alike-is = alike-distinct f last few u all (stands .plain) (plain-both uses (u ∷ []) (told .plain) (stands .plain, tt)) in
+          let same : distinct (label / 65536) (codes f last all) ≡ distinct (keyMark (codeIn f last u)) (codes f last all) =
+          ap (λ (mark : ℕ). distinct mark (codes f last all)) mark-is in
           limit-last f all uses u
           (lt-ltb (limitOf f key) (alike u (keys sameUse [] all)) (omega (arith, new, distinct-is, alike-is, same, stands .limited, limit-is)))
 

@@ -1,10 +1,11 @@
 -- Limits and refusal numbers, after "Numbers and replies" of document 01.
 use Prim.Native.Nat.{ℕ}
+use Rattle.words.specs.declared.Order.the-variants.{Little}
 use Rattle.format.specs.declared.Format.{Format}
 
--- "strings at most 256; string indexes 1 to 511"
+-- "strings at most 256; string indexes 1 to 511"; "A word is 8 bytes, little-endian"
 abbrev pub smallFormat : Format
-smallFormat = record { longest = 256; highest = 511 }
+smallFormat = record { longest = 256; highest = 511; order = Little }
 
 -- "Archive at most 16,777,216 bytes"
 abbrev pub longestArchive : ℕ

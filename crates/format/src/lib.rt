@@ -6,11 +6,14 @@ ghost use Rattle.format.specs.Limits.{smallFormat};
 ghost use Rattle.format.specs.Header.{recordWords, extentOf, archiveNumber};
 ghost use Rattle.format.specs.Part.{takeWords, takeStream, takeText, takeThread, takePart, tableOf, inlineBytes, paddingZero};
 ghost use Rattle.format.specs.Models.Bounds.{PartFits, Inside};
+use words::Order;
 
-// The limits of an archive: the longest text in bytes, and the highest index of a string record.
+// The limits of an archive, the longest text in bytes and the highest index of a string record, and the byte order of its
+// words. Its fields are small, so that it travels in one register.
 pub struct Format {
-    pub longest: usize,
-    pub highest: usize,
+    pub longest: u16,
+    pub highest: u16,
+    pub order: Order,
 }
 
 // Document 01's numbers for what a record can be refused by.
@@ -58,6 +61,7 @@ pub fn small_format() -> Format
     Format {
         longest: 256,
         highest: 511,
+        order: Order::Little,
     }
 }
 
@@ -73,13 +77,14 @@ pub fn record_words(header: u64) -> u64
 }
 
 // The extent of the record at the start of what is left of the archive.
-pub fn extent_of(rest: &[u8]) -> Extent
-    ensures { λ r. ⌜ r ≡ extentOf (now (rest .entry)) ⌝ }
+pub fn extent_of(f: Format, rest: &[u8]) -> Extent
+    ensures { λ r. ⌜ r ≡ extentOf f (now (rest .entry)) ⌝ }
 {
     if rest.len() < 8 {
         return Extent::Refused(CUT);
     }
-    let size = record_words(words::word(rest, 0)) as usize;
+    let order = f.order;
+    let size = record_words(words::word(order, rest, 0)) as usize;
     if size == 0 {
         return Extent::Refused(MALFORMED);
     }
@@ -112,7 +117,7 @@ pub fn take_stream(f: Format, n: usize, place: usize, source: &[u8], start: usiz
     requires { ⌜ (n < 2 ^ 32) × (place < 2 ^ 63) × (start + length (now source) < 2 ^ 63) ⌝ }
     ensures { λ r. ⌜ r ≡ takeStream f n place (now (source .entry)) start ⌝ }
 {
-    if f.longest < n {
+    if (f.longest as usize) < n {
         return Taken::Refused(LONG_TEXT);
     }
     let next = place + 8 * words::stream_words(n);

@@ -62,10 +62,10 @@ fn block(bytes: &[u8], hash: u64, first: usize, last: usize) -> u64
     let step = least(8, last - first);
     join(
         hash,
-        words::word(bytes, first),
-        words::word(bytes, first + step),
-        words::word(bytes, last - step),
-        words::word(bytes, last),
+        words::little_word(bytes, first),
+        words::little_word(bytes, first + step),
+        words::little_word(bytes, last - step),
+        words::little_word(bytes, last),
     )
 }
 

@@ -6,7 +6,7 @@ use mathlib.Core.Bool.{true, false}
 use lib.IntN.{pos, negsuc}
 use lib.ListN.{replicate}
 use Rattle.effects.specs.Follow.{changed, followed, followedEntered, changeOf}
-use Rattle.words.specs.Word.{wordAt, little, bytesOf}
+use Rattle.words.specs.Word.{wordAt, wordBytes, little, littleAt, bytesOf}
 use Rattle.words.specs.Stream.{magic, startsWithMagic, partOf}
 use Rattle.format.specs.Limits.{smallFormat}
 use Rattle.format.specs.Header.{recordWords, extentOf, archiveNumber}
@@ -74,7 +74,7 @@ pub record Table : Type 0 where
   pub skipped-line : skippedLine 5 3 ≡ 75 ∷ 32 ∷ 53 ∷ 32 ∷ 51 ∷ 10 ∷ []
 
 pub table : Table
-unfolding little wordAt bytesOf magic startsWithMagic recordWords extentOf takeWords takeStream takeText takeThread tableOf takePart takeParts
+unfolding little littleAt wordAt wordBytes bytesOf magic startsWithMagic recordWords extentOf takeWords takeStream takeText takeThread tableOf takePart takeParts
     headerScalar holdsWord wordScalar takeValue argumentBody argumentOf textsOf valueText argumentsOf numberedOf
     hasExtra extraWords isEvent layoutOf ownOf takeFields lastWord reportOf metadataOf stringOf contentOf recordOf
     belongsTo providerOf highestOf position registrationOf registrationAt belonging entryAt resolved

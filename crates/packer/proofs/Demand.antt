@@ -55,7 +55,7 @@ pub passed-reply : (f : Format) (archive room output : List ℕ) (reply : Packed
     → reply ≡ refusedOr (refusalOf f (runOf f archive)) (writtenReply (length output) (writtenLength f archive))
     → last ≡ cleared (roomWords f) room
     → after ≡ outputOf (refusedOr (refusalOf f (runOf f archive)) (writtenReply (length output) (writtenLength f archive))) output
-    (rule (itemsOf (runOf f archive)))
+    (rule f (itemsOf (runOf f archive)))
     → (reply ≡ packReply f archive (length room) (length output)) × (last ≡ packRoom f archive room)
     × (after ≡ packOutput f archive (length room) output)
 unfolding packReply packRoom packOutput
@@ -69,14 +69,14 @@ overwritten-first output bytes = take-append-seam bytes (drop (0 + length bytes)
 
 -- the bytes of an accepted archive, written at the start of an output that holds them, are the shortest
 written-shortest : (archive output : List ℕ) → AllBytes archive → Accepted smallFormat archive
-    → Shortest smallFormat archive (Written (writtenLength smallFormat archive)) (overwritten output 0 (rule (itemsOf (runOf smallFormat archive))))
+    → Shortest smallFormat archive (Written (writtenLength smallFormat archive)) (overwritten output 0 (rule smallFormat (itemsOf (runOf smallFormat archive))))
 written-shortest archive output bytes accepted =
     let items = itemsOf (runOf smallFormat archive) in (
-      omega (arith, length-append (rule items) (drop (0 + length (rule items)) output)),
+      omega (arith, length-append (rule smallFormat items) (drop (0 + length (rule smallFormat items)) output)),
       (items, accepted-reads smallFormat archive accepted),
       (λ l reads.
-          let same : rule items ≡ rule l = ap rule (run-items smallFormat archive l reads) in
-          let first : take (length (rule items)) (overwritten output 0 (rule items)) ≡ rule l = overwritten-first output (rule items) ∙ same in
+          let same : rule smallFormat items ≡ rule smallFormat l = ap (rule smallFormat) (run-items smallFormat archive l reads) in
+          let first : take (length (rule smallFormat items)) (overwritten output 0 (rule smallFormat items)) ≡ rule smallFormat l = overwritten-first output (rule smallFormat items) ∙ same in
           record {
             ruled = first;
             reads-back = rw first (reads-back archive l accepted bytes reads .0);
@@ -93,7 +93,7 @@ demand archive room output bytes =
     (λ e. passed (eqb-true (packingNumber smallFormat archive room) 0 e) (refusalOf smallFormat (runOf smallFormat archive)) refl) (λ e. tt)
   where
     P : Packed → Type 0
-    P reply = Shortest smallFormat archive reply (outputOf reply output (rule (itemsOf (runOf smallFormat archive))))
+    P reply = Shortest smallFormat archive reply (outputOf reply output (rule smallFormat (itemsOf (runOf smallFormat archive))))
 
     passed : packingNumber smallFormat archive room ≡ 0 → (r : Option Refusal) → refusalOf smallFormat (runOf smallFormat archive) ≡ r
         → P (refusedOr r (writtenReply (length output) (writtenLength smallFormat archive)))

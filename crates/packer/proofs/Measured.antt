@@ -49,7 +49,7 @@ accepted-plain f archive small bytes accepted =
 -- The words of the items and of their uses, as the tally measures them, are those that are written.
 pub measured : (f : Format) (archive slots : List ℕ) (fixed : ℕ) → f ≡ smallFormat → AllBytes archive → openingNumber f archive (tableWords f) ≡ 0
     → refusalOf f (runOf f archive) ≡ none
-    → Tallies archive (tableWords f) slots (codes (lastOf f archive) (usesAll (itemsOf (runOf f archive))))
+    → Tallies archive (tableWords f) slots (codes f (lastOf f archive) (usesAll (itemsOf (runOf f archive))))
     → fixed ≡ sumBy fixedWords (itemsOf (runOf f archive))
     → 8 * (fixed + measureOf (tableWords f) slots) ≡ writtenLength f archive
 unfolding lastOf
@@ -57,13 +57,13 @@ measured f archive slots fixed small bytes opens unrefused tallies counted =
     let items = itemsOf (runOf f archive) in
     let plain = accepted-plain f archive small bytes (record { opened = opens; not-refused = unrefused }) in
     let last = last-sound f archive (length archive / 8 + 1) opening (replicate (tableWords f) 0) (fresh-sound f archive) in
-    let best = measure-best tallies ∙ best-codes (lastOf f archive) (last .1 .count) (usesAll items) plain in
-    omega (arith, best, rule-length items)
+    let best = measure-best tallies ∙ best-codes f (lastOf f archive) (last .1 .count) (usesAll items) plain in
+    omega (arith, best, rule-length f items)
 
 -- so they are low: nothing overflows
 pub measured-low : (f : Format) (archive slots : List ℕ) (fixed : ℕ) → f ≡ smallFormat → AllBytes archive
     → openingNumber f archive (tableWords f) ≡ 0 → refusalOf f (runOf f archive) ≡ none
-    → Tallies archive (tableWords f) slots (codes (lastOf f archive) (usesAll (itemsOf (runOf f archive))))
+    → Tallies archive (tableWords f) slots (codes f (lastOf f archive) (usesAll (itemsOf (runOf f archive))))
     → fixed ≡ sumBy fixedWords (itemsOf (runOf f archive))
     → 8 * (fixed + measureOf (tableWords f) slots) ≤ longestArchive
 measured-low f archive slots fixed small bytes opens unrefused tallies counted =

@@ -72,7 +72,7 @@ lent-wide f archive room us stretch is tallies = rw (part-from stretch room, is)
 -- what is measured of lent slots, with the words of the items, is the written length, and low
 pub lent-measured : (f : Format) (archive room : List ℕ) (fixed keys stretch : ℕ) → f ≡ smallFormat → AllBytes archive
     → openingNumber f archive (tableWords f) ≡ 0 → refusalOf f (runOf f archive) ≡ none
-    → Tallies archive (tableWords f) (drop (tableWords f) room) (codes (lastOf f archive) (usesAll (itemsOf (runOf f archive))))
+    → Tallies archive (tableWords f) (drop (tableWords f) room) (codes f (lastOf f archive) (usesAll (itemsOf (runOf f archive))))
     → fixed ≡ sumBy fixedWords (itemsOf (runOf f archive)) → stretch ≡ tableWords f
     → keys ≡ measureOf stretch (take (length room - stretch) (drop stretch room))
     → (8 * (fixed + keys) ≡ writtenLength f archive) × (8 * (fixed + keys) ≤ longestArchive)
@@ -135,11 +135,11 @@ pub record Ready (f : Format) (archive room after : List ℕ) : Type 0 where
 
 -- a room whose slots tell of an archive's uses is ready once choices stand for them and the first words are cleared
 pub choices-ready : (f : Format) (archive room back after : List ℕ) (stretch : ℕ) → stretch ≡ tableWords f → roomWords f ≤ length room
-    → Tallies archive (tableWords f) (drop (tableWords f) room) (codes (lastOf f archive) (usesAll (itemsOf (runOf f archive))))
+    → Tallies archive (tableWords f) (drop (tableWords f) room) (codes f (lastOf f archive) (usesAll (itemsOf (runOf f archive))))
     → back ≡ chosenTo stretch stretch (take (length room - stretch) (drop stretch room))
     → after ≡ cleared stretch (handedBack stretch room back) → Ready f archive room after
 choices-ready f archive room back after stretch is long tallies chosen clear =
-    let us = codes (lastOf f archive) (usesAll (itemsOf (runOf f archive))) in
+    let us = codes f (lastOf f archive) (usesAll (itemsOf (runOf f archive))) in
     let long′ : 4 * stretch ≤ length room = omega (arith, is) in
     let tallies′ : Tallies archive stretch (drop stretch room) us = rw is tallies in
     record {

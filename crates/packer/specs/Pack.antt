@@ -53,12 +53,12 @@ outputOf (Refused number place) output bytes = output
 outputOf (Written long) output bytes = overwritten output 0 bytes
 
 unfoldable pub packOutput : Format → List ℕ → ℕ → List ℕ → List ℕ
-packOutput f archive room output = outputOf (packReply f archive room (length output)) output (rule (itemsOf (runOf f archive)))
+packOutput f archive room output = outputOf (packReply f archive room (length output)) output (rule f (itemsOf (runOf f archive)))
 
 -- "those that document 01's repacking rule gives for that list, and are themselves an archive that reads to its end as that list"; "any archive at
 -- all .. that reads to its end as the same list of items .. has at least as many bytes"
 pub record IsShortest (f : Format) (bytes : List ℕ) (l : List Item) : Type 0 where
-  pub ruled : bytes ≡ rule l
+  pub ruled : bytes ≡ rule f l
   pub reads-back : ReadsAs f bytes l
   pub least : (b : List ℕ) → ReadsAs f b l → length bytes ≤ length b
 

@@ -32,9 +32,9 @@ fn packing_number(f: Format, archive: &[u8], room: usize) -> u8
 // The bytes are written, where the output holds them.
 fn write(f: Format, archive: &[u8], room: &mut [u32], output: &mut [u8], long: usize) -> Packed
     requires { ⌜ (f ≡ smallFormat) × (openingNumber f (now archive) (tableWords f) ≡ 0) × (refusalOf f (runOf f (now archive)) ≡ none) × (long ≡ writtenLength f (now archive)) ⌝ }
-    requires { ⌜ (roomWords f ≤ length (now room)) × Tallies (now archive) (tableWords f) (drop (tableWords f) (now room)) (codes (lastOf f (now archive)) (usesAll (itemsOf (runOf f (now archive))))) ⌝ }
+    requires { ⌜ (roomWords f ≤ length (now room)) × Tallies (now archive) (tableWords f) (drop (tableWords f) (now room)) (codes f (lastOf f (now archive)) (usesAll (itemsOf (runOf f (now archive))))) ⌝ }
     ensures { λ r. ⌜ r ≡ writtenReply (length (now (output .entry))) long ⌝ }
-    ensures { λ _. ⌜ now (output .exit) ≡ outputOf (writtenReply (length (now (output .entry))) long) (now (output .entry)) (ruleOf (itemsOf (runOf f (now (archive .entry))))) ⌝ }
+    ensures { λ _. ⌜ now (output .exit) ≡ outputOf (writtenReply (length (now (output .entry))) long) (now (output .entry)) (ruleOf f (itemsOf (runOf f (now (archive .entry))))) ⌝ }
     ensures { λ _. ⌜ (length (now (room .exit)) ≡ length (now (room .entry))) × (drop (roomWords f) (now (room .exit)) ≡ drop (roomWords f) (now (room .entry))) ⌝ }
 {
     if output.len() < long {
@@ -54,7 +54,7 @@ fn write(f: Format, archive: &[u8], room: &mut [u32], output: &mut [u8], long: u
 fn pack(f: Format, archive: &[u8], room: &mut [u32], output: &mut [u8]) -> Packed
     requires { ⌜ (f ≡ smallFormat) × (openingNumber f (now archive) (tableWords f) ≡ 0) × (roomWords f ≤ length (now room)) × ((i : ℕ) → i < roomWords f → getD (now room) i 0 ≡ 0) ⌝ }
     ensures { λ r. ⌜ r ≡ passesReply f (now (archive .entry)) (length (now (output .entry))) ⌝ }
-    ensures { λ _. ⌜ now (output .exit) ≡ outputOf (passesReply f (now (archive .entry)) (length (now (output .entry)))) (now (output .entry)) (ruleOf (itemsOf (runOf f (now (archive .entry))))) ⌝ }
+    ensures { λ _. ⌜ now (output .exit) ≡ outputOf (passesReply f (now (archive .entry)) (length (now (output .entry)))) (now (output .entry)) (ruleOf f (itemsOf (runOf f (now (archive .entry))))) ⌝ }
     ensures { λ _. ⌜ (length (now (room .exit)) ≡ length (now (room .entry))) × (drop (roomWords f) (now (room .exit)) ≡ drop (roomWords f) (now (room .entry))) ⌝ }
 {
     let stretch = tables::table_words(f);

@@ -9,11 +9,11 @@ use mathlib.Core.Option.{Option, none, some}
 use native.Mathlib.Omega.{arith}
 use borrow.Author.Tests.{eq-eqb, ne-eqb, eqb-true, eqb-false, ltb-true, ltb-false, le-leb}
 use lib.Dec.{eqb, ltb}
-use lib.ListN.{length, getD, take, drop, length-drop}
-use lib.Seq.{drop-append-seam, take-add, drop-drop}
-use Rattle.words.specs.Word.{pick, little, wordAt, bytesOf}
+use lib.ListN.{length, getD, take, drop}
+use lib.Seq.{take-add, drop-drop}
+use Rattle.words.specs.Word.{pick, wordAt, wordBytes}
 use Rattle.words.specs.Stream.{sameBytes, partOf}
-use Rattle.words.proofs.Words.{length-bytesOf, little-bytes, AllBytes, bytes-left}
+use Rattle.words.proofs.Words.{length-wordBytes, AllBytes, At as Standing, at-right, word-is, word-again}
 use Rattle.words.proofs.Same.{same-true, same-refl}
 use Rattle.words.proofs.Tests.{cases}
 use Rattle.registering.specs.Counting.{sumBy, count, member, keys}
@@ -62,14 +62,14 @@ keys-plain seen (u ∷ us) h =
     cases (member sameUse u seen) (λ e. rw e (keys-plain seen us (h .1))) (λ e. rw e (h .0, keys-plain (u ∷ seen) us (h .1)))
 
 -- the codes of uses behind uses
-pub codes-both : (s : State) (us vs : List Use) → codes s (us ++ vs) ≡ codes s us ++ codes s vs
-codes-both s [] vs = refl
-codes-both s (u ∷ us) vs = ap (λ (l : List (List ℕ)). codeIn s u ∷ l) (codes-both s us vs)
+pub codes-both : (f : Format) (s : State) (us vs : List Use) → codes f s (us ++ vs) ≡ codes f s us ++ codes f s vs
+codes-both f s [] vs = refl
+codes-both f s (u ∷ us) vs = ap (λ (l : List (List ℕ)). codeIn f s u ∷ l) (codes-both f s us vs)
 
 -- there are as many
-pub codes-length : (s : State) (us : List Use) → length (codes s us) ≡ length us
-codes-length s [] = refl
-codes-length s (u ∷ us) = ap suc (codes-length s us)
+pub codes-length : (f : Format) (s : State) (us : List Use) → length (codes f s us) ≡ length us
+codes-length f s [] = refl
+codes-length f s (u ∷ us) = ap suc (codes-length f s us)
 
 -- ---- what a code tells
 
@@ -79,81 +79,73 @@ tableMark (textKey bytes) = 0
 tableMark (threadKey t) = 1
 
 -- is the mark of its code
-pub code-mark : (context : ℕ) (key : Key) → KeyPlain key → keyMark (codeOf context key) ≡ 2 * context + tableMark key
-code-mark context (textKey bytes) h = label-mark context 2 (length bytes) h
-code-mark context (threadKey (thread p t)) h = label-mark context 3 16 (omega arith)
+pub code-mark : (f : Format) (context : ℕ) (key : Key) → KeyPlain key → keyMark (codeOf f context key) ≡ 2 * context + tableMark key
+code-mark f context (textKey bytes) h = label-mark context 2 (length bytes) h
+code-mark f context (threadKey (thread p t)) h = label-mark context 3 16 (omega arith)
 
 -- a code takes the words of its key
-pub code-words : (context : ℕ) (key : Key) → KeyPlain key → keyWords (codeOf context key) ≡ inlineWordsOf key
-code-words context (textKey bytes) h = ap (λ (n : ℕ). (n + 7) / 8) (label-long context 2 (length bytes) h)
-code-words context (threadKey (thread p t)) h = ap (λ (n : ℕ). (n + 7) / 8) (label-long context 3 16 (omega arith))
+pub code-words : (f : Format) (context : ℕ) (key : Key) → KeyPlain key → keyWords (codeOf f context key) ≡ inlineWordsOf key
+code-words f context (textKey bytes) h = ap (λ (n : ℕ). (n + 7) / 8) (label-long context 2 (length bytes) h)
+code-words f context (threadKey (thread p t)) h = ap (λ (n : ℕ). (n + 7) / 8) (label-long context 3 16 (omega arith))
 
 -- two words are those that their bytes spell
-words-one : (p t q u : ℕ) → p < 2 ^ 64 → t < 2 ^ 64 → q < 2 ^ 64 → u < 2 ^ 64
-    → bytesOf 8 p ++ bytesOf 8 t ≡ bytesOf 8 q ++ bytesOf 8 u → (p ≡ q) × (t ≡ u)
-words-one p t q u hp ht hq hu e = (
-  sym (little-bytes 8 p (bytesOf 8 t) hp) ∙ (ap (little 8) e ∙ little-bytes 8 q (bytesOf 8 u) hq),
-  sym (behind p t ht) ∙ (ap (λ (l : List ℕ). little 8 (drop 8 l)) e ∙ behind q u hu),
+words-one : (f : Format) (p t q u : ℕ) → p < 2 ^ 64 → t < 2 ^ 64 → q < 2 ^ 64 → u < 2 ^ 64
+    → wordBytes (f .order) p ++ wordBytes (f .order) t ≡ wordBytes (f .order) q ++ wordBytes (f .order) u → (p ≡ q) × (t ≡ u)
+words-one f p t q u hp ht hq hu e = (
+  sym (first p t hp) ∙ (ap (λ (l : List ℕ). wordAt (f .order) l 0) e ∙ first q u hq),
+  sym (second p t ht) ∙ (ap (λ (l : List ℕ). wordAt (f .order) l 8) e ∙ second q u hu),
 )
   where
-    behind : (a b : ℕ) → b < 2 ^ 64 → little 8 (drop 8 (bytesOf 8 a ++ bytesOf 8 b)) ≡ b
-    behind a b h =
-        let cut : drop 8 (bytesOf 8 a ++ bytesOf 8 b) ≡ bytesOf 8 b = rw (length-bytesOf 8 a) at (drop-append-seam (bytesOf 8 a) (bytesOf 8 b)) in
-        ap (little 8) (cut ∙ sym (append-nil (bytesOf 8 b))) ∙ little-bytes 8 b [] h
+    both : ℕ → ℕ → List ℕ
+    both a b = wordBytes (f .order) a ++ wordBytes (f .order) b
+
+    first : (a b : ℕ) → a < 2 ^ 64 → wordAt (f .order) (both a b) 0 ≡ a
+    first a b h = word-is (f .order) (both a b) 0 a h (wordBytes (f .order) b, refl)
+
+    second : (a b : ℕ) → b < 2 ^ 64 → wordAt (f .order) (both a b) 8 ≡ b
+    second a b h =
+        let whole : Standing (both a b) 0 (both a b) = ([], sym (append-nil (both a b))) in
+        let there = rw (length-wordBytes (f .order) a) at (at-right (both a b) 0 (wordBytes (f .order) a) (wordBytes (f .order) b) whole) in
+        word-is (f .order) (both a b) 8 b h there
 
 -- codes are equal only in one context and for one key
-code-one : (context context′ : ℕ) (k l : Key) → KeyPlain k → KeyPlain l → codeOf context k ≡ codeOf context′ l → (context ≡ context′) × (k ≡ l)
-code-one context context′ (textKey a) (textKey b) h h′ e =
+code-one : (f : Format) (context context′ : ℕ) (k l : Key) → KeyPlain k → KeyPlain l → codeOf f context k ≡ codeOf f context′ l → (context ≡ context′) × (k ≡ l)
+code-one f context context′ (textKey a) (textKey b) h h′ e =
     (label-one context context′ 2 2 (length a) (length b) h h′ (omega arith) (omega arith) (ap (λ (l : List ℕ). getD l 0 0) e) .0, ap textKey (ap (drop 1) e))
-code-one context context′ (textKey a) (threadKey (thread q u)) h h′ e =
+code-one f context context′ (textKey a) (threadKey (thread q u)) h h′ e =
     absurd (omega (arith, label-one context context′ 2 3 (length a) 16 h (omega arith) (omega arith) (omega arith) (ap (λ (l : List ℕ). getD l 0 0) e) .1))
-code-one context context′ (threadKey (thread p t)) (textKey b) h h′ e =
+code-one f context context′ (threadKey (thread p t)) (textKey b) h h′ e =
     absurd (omega (arith, label-one context context′ 3 2 16 (length b) (omega arith) h′ (omega arith) (omega arith) (ap (λ (l : List ℕ). getD l 0 0) e) .1))
-code-one context context′ (threadKey (thread p t)) (threadKey (thread q u)) h h′ e =
-    let same = words-one p t q u (h .0) (h .1) (h′ .0) (h′ .1) (ap (drop 1) e) in
+code-one f context context′ (threadKey (thread p t)) (threadKey (thread q u)) h h′ e =
+    let same = words-one f p t q u (h .0) (h .1) (h′ .0) (h′ .1) (ap (drop 1) e) in
     let first = same .0 in
     let second = same .1 in
     (label-one context context′ 3 3 16 16 (omega arith) (omega arith) (omega arith) (omega arith) (ap (λ (l : List ℕ). getD l 0 0) e) .0, cc)
 
 -- ---- codes of what stands in the archive
 
--- the bytes that a number is spelled by spell it
-bytes-word : (k : ℕ) (bytes : List ℕ) → k ≤ length bytes → AllBytes bytes → bytesOf k (little k bytes) ≡ take k bytes
-unfolding bytesOf little
-bytes-word zero bytes h b = refl
-bytes-word (suc k) [] h b = absurd (omega arith)
-bytes-word (suc k) (x ∷ xs) h b =
-    let low : x < 256 = b 0 in
-    let first : (x + 256 * little k xs) % 256 ≡ x = omega arith in
-    let others : (x + 256 * little k xs) / 256 ≡ little k xs = omega arith in
-    rw (first, others, bytes-word k xs (omega arith) (λ i. b (suc i)))
-
 -- the key at a place is the code of the text there
-pub text-code : (archive : List ℕ) (place long context : ℕ) → long < 65536 → length (partOf archive place long) ≡ long
-    → keyOf archive place (labelOf context 2 long) ≡ codeOf context (textKey (partOf archive place long))
-text-code archive place long context low whole = rw (label-long context 2 long low, whole)
+pub text-code : (f : Format) (archive : List ℕ) (place long context : ℕ) → long < 65536 → length (partOf archive place long) ≡ long
+    → keyOf archive place (labelOf context 2 long) ≡ codeOf f context (textKey (partOf archive place long))
+text-code f archive place long context low whole = rw (label-long context 2 long low, whole)
 
 -- and that of the thread whose two words stand there
-pub thread-code : (archive : List ℕ) (place context : ℕ) → AllBytes archive → place + 16 ≤ length archive
-    → keyOf archive place (labelOf context 3 16) ≡ codeOf context (threadKey (thread (wordAt archive place) (wordAt archive (place + 8))))
-unfolding partOf wordAt
-thread-code archive place context bytes inside =
-    let rest = drop place archive in
-    let all = bytes-left place archive bytes in
-    let long : length rest ≡ length archive - place = length-drop place archive in
-    let first = bytes-word 8 rest (omega arith) all in
-    let second = bytes-word 8 (drop 8 rest) (omega (arith, length-drop 8 rest)) (bytes-left 8 rest all) in
+pub thread-code : (f : Format) (archive : List ℕ) (place context : ℕ) → AllBytes archive → place + 16 ≤ length archive
+    → keyOf archive place (labelOf context 3 16)
+    ≡ codeOf f context (threadKey (thread (wordAt (f .order) archive place) (wordAt (f .order) archive (place + 8))))
+unfolding partOf
+thread-code f archive place context bytes inside =
     rw (
       label-long context 3 16 (omega arith),
       le-leb place (length archive) (omega arith),
       le-leb 16 (length archive - place) (omega arith),
-      take-add 8 8 rest,
-      first,
-      ← drop-drop 8 place archive,
-      second,
+      take-add 8 8 (drop place archive),
+      drop-drop 8 place archive,
+      word-again (f .order) archive place (omega arith) bytes,
+      word-again (f .order) archive (place + 8) (omega arith) bytes,
     )
 
-module _ (s : State) (few : s .count ≤ 8) where
+module _ (f : Format) (s : State) (few : s .count ≤ 8) where
   -- providers whose contexts have one number are one
   context-provider : (p q : Option ℕ) → contextIn s p ≡ contextIn s q → p ≡ q
   unfolding contextIn
@@ -187,57 +179,57 @@ module _ (s : State) (few : s .count ≤ 8) where
       (λ z. true≢false (sym (same-provider-refl q) ∙ (ap (λ (x : Option ℕ). sameProvider x q) (sym (context-provider p q z)) ∙ e))))))
 
   -- uses with one code are one
-  use-one : (u v : Use) → KeyPlain (u .key) → KeyPlain (v .key) → codeIn s u ≡ codeIn s v → u ≡ v
+  use-one : (u v : Use) → KeyPlain (u .key) → KeyPlain (v .key) → codeIn f s u ≡ codeIn f s v → u ≡ v
   use-one u v h k e =
-      let both = code-one (contextIn s (u .provider)) (contextIn s (v .provider)) (u .key) (v .key) h k e in
+      let both = code-one f (contextIn s (u .provider)) (contextIn s (v .provider)) (u .key) (v .key) h k e in
       of-parts (u .provider) (v .provider) (u .key) (v .key) (context-provider (u .provider) (v .provider) (both .0)) (both .1)
     where
       of-parts : (p q : Option ℕ) (k l : Key) → p ≡ q → k ≡ l
           → _≡_ {A = Use} (record { provider = p; key = k }) (record { provider = q; key = l })
-      of-parts p q k l e f = cc
+      of-parts p q k l e e′ = cc
 
   -- two plain uses are the same exactly if their codes are
-  pub same-codes : (u v : Use) → KeyPlain (u .key) → KeyPlain (v .key) → sameUse u v ≡ sameBytes (codeIn s u) (codeIn s v)
+  pub same-codes : (u v : Use) → KeyPlain (u .key) → KeyPlain (v .key) → sameUse u v ≡ sameBytes (codeIn f s u) (codeIn f s v)
   same-codes u v h k =
       cases (sameUse u v)
-      (λ e. e ∙ sym (ap (λ (x : Use). sameBytes (codeIn s x) (codeIn s v)) (same-use-eq u v e) ∙ same-refl (codeIn s v)))
-      (λ e. cases (sameBytes (codeIn s u) (codeIn s v))
-      (λ q. let one = use-one u v h k (same-true (codeIn s u) (codeIn s v) q) in
+      (λ e. e ∙ sym (ap (λ (x : Use). sameBytes (codeIn f s x) (codeIn f s v)) (same-use-eq u v e) ∙ same-refl (codeIn f s v)))
+      (λ e. cases (sameBytes (codeIn f s u) (codeIn f s v))
+      (λ q. let one = use-one u v h k (same-true (codeIn f s u) (codeIn f s v) q) in
       absurd (true≢false (sym (same-use-refl v) ∙ (ap (λ (x : Use). sameUse x v) (sym one) ∙ e))))
       (λ q. e ∙ sym q))
 
   -- a plain use is counted as often as its code
-  pub count-codes : (u : Use) (us : List Use) → KeyPlain (u .key) → UsesPlain us → count sameBytes (codeIn s u) (codes s us) ≡ count sameUse u us
+  pub count-codes : (u : Use) (us : List Use) → KeyPlain (u .key) → UsesPlain us → count sameBytes (codeIn f s u) (codes f s us) ≡ count sameUse u us
   count-codes u [] h k = refl
   count-codes u (v ∷ us) h k = rw (same-codes v u (k .0) h, count-codes u us h (k .1))
 
   -- it is a member where its code is
-  member-codes : (u : Use) (us : List Use) → KeyPlain (u .key) → UsesPlain us → member sameBytes (codeIn s u) (codes s us) ≡ member sameUse u us
+  member-codes : (u : Use) (us : List Use) → KeyPlain (u .key) → UsesPlain us → member sameBytes (codeIn f s u) (codes f s us) ≡ member sameUse u us
   member-codes u [] h k = refl
   member-codes u (v ∷ us) h k = rw (same-codes u v h (k .0), member-codes u us h (k .1))
 
   -- the distinct codes of plain uses are the codes of the distinct ones
-  pub keys-codes : (seen us : List Use) → UsesPlain seen → UsesPlain us → keys sameBytes (codes s seen) (codes s us) ≡ codes s (keys sameUse seen us)
+  pub keys-codes : (seen us : List Use) → UsesPlain seen → UsesPlain us → keys sameBytes (codes f s seen) (codes f s us) ≡ codes f s (keys sameUse seen us)
   keys-codes seen [] h k = refl
   keys-codes seen (u ∷ us) h k =
       cases (member sameUse u seen)
       (λ e. rw (member-codes u seen (k .0) h, e) (keys-codes seen us h (k .1)))
       (λ e. rw (member-codes u seen (k .0) h, e)
-      (ap (λ (l : List (List ℕ)). codeIn s u ∷ l) (keys-codes (u ∷ seen) us (k .0, h) (k .1))))
+      (ap (λ (l : List (List ℕ)). codeIn f s u ∷ l) (keys-codes (u ∷ seen) us (k .0, h) (k .1))))
 
   -- a sum over codes is a sum over uses
-  sum-codes : (f : List ℕ → ℕ) (g : Use → ℕ) (us : List Use) → UsesPlain us → ((u : Use) → KeyPlain (u .key) → f (codeIn s u) ≡ g u)
-      → sumBy f (codes s us) ≡ sumBy g us
-  sum-codes f g [] h k = refl
-  sum-codes f g (u ∷ us) h k = omega (arith, k u (h .0), sum-codes f g us (h .1) k)
+  sum-codes : (weight : List ℕ → ℕ) (g : Use → ℕ) (us : List Use) → UsesPlain us → ((u : Use) → KeyPlain (u .key) → weight (codeIn f s u) ≡ g u)
+      → sumBy weight (codes f s us) ≡ sumBy g us
+  sum-codes weight g [] h k = refl
+  sum-codes weight g (u ∷ us) h k = omega (arith, k u (h .0), sum-codes weight g us (h .1) k)
 
   -- uses are of one context and table exactly if the marks of their codes are equal
   same-mark : (u v : Use) → KeyPlain (u .key) → KeyPlain (v .key)
-      → (sameProvider (u .provider) (v .provider) && sameTable (u .key) (v .key)) ≡ eqb (keyMark (codeIn s v)) (keyMark (codeIn s u))
+      → (sameProvider (u .provider) (v .provider) && sameTable (u .key) (v .key)) ≡ eqb (keyMark (codeIn f s v)) (keyMark (codeIn f s u))
   same-mark u v h k =
       rw (
-        code-mark (contextIn s (v .provider)) (v .key) k,
-        code-mark (contextIn s (u .provider)) (u .key) h,
+        code-mark f (contextIn s (v .provider)) (v .key) k,
+        code-mark f (contextIn s (u .provider)) (u .key) h,
         same-context (u .provider) (v .provider),
       ) (of-tables (contextIn s (u .provider)) (contextIn s (v .provider)) (u .key) (v .key))
     where
@@ -257,21 +249,21 @@ module _ (s : State) (few : s .count ≤ 8) where
 
   -- the uses of a use's context and table are the codes of its mark
   alike-marks : (u : Use) (vs : List Use) → KeyPlain (u .key) → UsesPlain vs
-      → alike u vs ≡ sumBy (λ key. cond (eqb (keyMark key) (keyMark (codeIn s u))) 1 0) (codes s vs)
+      → alike u vs ≡ sumBy (λ key. cond (eqb (keyMark key) (keyMark (codeIn f s u))) 1 0) (codes f s vs)
   alike-marks u [] h k = refl
   alike-marks u (v ∷ vs) h k = rw (same-mark u v h (k .0), alike-marks u vs h (k .1))
 
   -- the distinct uses of a use's context and table are as many as the distinct codes of its mark
   pub alike-distinct : (u : Use) (us : List Use) → KeyPlain (u .key) → UsesPlain us
-      → alike u (keys sameUse [] us) ≡ distinct (keyMark (codeIn s u)) (codes s us)
+      → alike u (keys sameUse [] us) ≡ distinct (keyMark (codeIn f s u)) (codes f s us)
   alike-distinct u us h k =
       alike-marks u (keys sameUse [] us) h (keys-plain [] us k)
-      ∙ ap (sumBy (λ key. cond (eqb (keyMark key) (keyMark (codeIn s u))) 1 0)) (sym (keys-codes [] us tt k))
+      ∙ ap (sumBy (λ key. cond (eqb (keyMark key) (keyMark (codeIn f s u))) 1 0)) (sym (keys-codes [] us tt k))
 
   -- the least words of plain uses are those of their codes, each registered where that is shorter
   pub best-codes : (us : List Use) → UsesPlain us
-      → sumBy (λ key. pick (registers (keyWords key) (count sameBytes key (codes s us))) (1 + keyWords key) (count sameBytes key (codes s us) * keyWords key))
-      (keys sameBytes [] (codes s us))
+      → sumBy (λ key. pick (registers (keyWords key) (count sameBytes key (codes f s us))) (1 + keyWords key) (count sameBytes key (codes f s us) * keyWords key))
+      (keys sameBytes [] (codes f s us))
       ≡ bestWords us
   unfolding registers
   best-codes us k =
@@ -279,15 +271,15 @@ module _ (s : State) (few : s .count ≤ 8) where
       ∙ sum-codes words (price sameUse inlineWords registerWords us) (keys sameUse [] us) (keys-plain [] us k) point
     where
       words : List ℕ → ℕ
-      words key = pick (registers (keyWords key) (count sameBytes key (codes s us))) (1 + keyWords key) (count sameBytes key (codes s us) * keyWords key)
+      words key = pick (registers (keyWords key) (count sameBytes key (codes f s us))) (1 + keyWords key) (count sameBytes key (codes f s us) * keyWords key)
 
       least : (w n : ℕ) → pick (ltb (1 + w) (n * w)) (1 + w) (n * w) ≡ min (n * w) (1 + w)
       least w n =
           cases (ltb (1 + w) (n * w)) (λ e. rw e (omega (arith, ltb-true (1 + w) (n * w) e))) (λ e. rw e (omega (arith, ltb-false (1 + w) (n * w) e)))
 
-      point : (u : Use) → KeyPlain (u .key) → words (codeIn s u) ≡ price sameUse inlineWords registerWords us u
+      point : (u : Use) → KeyPlain (u .key) → words (codeIn f s u) ≡ price sameUse inlineWords registerWords us u
       point u h =
-          rw (code-words (contextIn s (u .provider)) (u .key) h, count-codes u us h k) (least (inlineWordsOf (u .key)) (count sameUse u us))
+          rw (code-words f (contextIn s (u .provider)) (u .key) h, count-codes u us h k) (least (inlineWordsOf (u .key)) (count sameUse u us))
 
 -- ---- the current context
 

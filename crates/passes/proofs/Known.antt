@@ -158,7 +158,7 @@ texts-short f rest place =
     (low-short (field 16 31 hd) (takeText f (field 16 31 hd) (place + 8) own place) (omega arith) (text-low f (field 16 31 hd) (place + 8) own place))))))
   where
     hd : ℕ
-    hd = wordAt rest 0
+    hd = wordAt (f .order) rest 0
 
     size : ℕ
     size = argumentSize hd

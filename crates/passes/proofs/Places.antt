@@ -232,7 +232,7 @@ unfolding startsWithMagic
 first-magic f archive e =
     ap (λ r. r .content)
     (item-stands f (λ key. 0) archive 0 magic (record { suits = tt; layout = record { pieces = tt; arguments = tt; last = tt; size = omega arith } })
-    (drop 8 archive, sym (take-append-drop 8 archive) ∙ rw (same-true (take 8 archive) magicBytes e, magic-record (λ key. 0))))
+    (drop 8 archive, sym (take-append-drop 8 archive) ∙ rw (same-true (take 8 archive) magicBytes e, magic-record f (λ key. 0))))
     ∙ magic-read f (λ key. 0) 0
 
 -- so no record that refers to anything stands there

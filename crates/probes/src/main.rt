@@ -16,7 +16,7 @@ use reader::Answer;
 fn word(header: &[u8; 96], n: usize) -> u64
     requires { ⌜ n < 12 ⌝ }
 {
-    words::word(header, 8 * n)
+    words::little_word(header, 8 * n)
 }
 
 fn low_half(word: u64) -> u32 {
@@ -151,7 +151,7 @@ fn read_entry(fd: i32, tables: &mut [u32]) -> bool {
     let Outcome::All = outcome else {
         return false;
     };
-    let entry = words::word(&bytes, 0);
+    let entry = words::little_word(&bytes, 0);
     let position = low_half(entry) as usize;
     if position < tables.len() {
         tables[position] = high_half(entry);

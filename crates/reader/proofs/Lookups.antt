@@ -78,7 +78,7 @@ is-fits f source place _ (isInitialization t room) = tt
 is-fits f source place _ (isString t some low short room) = (some, low)
 is-fits f source place _ (isThread t some room) = (some, omega arith)
 is-fits f source place _ (isReport a b c s first at last list is) =
-    let l = layoutOf (wordAt source 0) in
+    let l = layoutOf (wordAt (f .order) source 0) in
     record {
       first = record { table = is-table (l .first); thread = is .shapes .0 };
       second = record { table = is-table (l .second); thread = is .shapes .1 };
@@ -98,15 +98,15 @@ abbrev ExtentPasses : Extent → Type 0
 ExtentPasses (ExtentRefused number) = RecordNumber number
 ExtentPasses (Bytes size) = Unit {0}
 
-extent-passes : (rest : List ℕ) → ExtentPasses (extentOf rest)
+extent-passes : (f : Format) (rest : List ℕ) → ExtentPasses (extentOf f rest)
 unfolding extentOf
-extent-passes rest =
+extent-passes f rest =
     on-pick ExtentPasses (ltb (length rest) 8) _ _ (λ e. number-cut)
     (λ e. on-pick ExtentPasses (eqb n 0) _ _ (λ e. number-malformed)
     (λ e. on-pick ExtentPasses (ltb (length rest) (8 * n)) _ _ (λ e. number-cut) (λ e. tt)))
   where
     n : ℕ
-    n = recordWords (wordAt rest 0)
+    n = recordWords (wordAt (f .order) rest 0)
 
 -- a record: it ends a whole number of words behind its place and inside the archive, is refused there or has one word at least,
 -- shows places of its own alone, and holds what any record holds
@@ -121,7 +121,7 @@ pub record RecordFits (f : Format) (archive : List ℕ) (place : ℕ) (r : Recor
 stands-fit : (f : Format) (archive : List ℕ) (place size : ℕ) (r : Record) → RecordStands f archive place size r
     → RecordFits f archive place r
 stands-fit f archive place size r s =
-    let long = length-take-le size (drop place archive) (extent-read (drop place archive) size (s .extent) .inside) in
+    let long = length-take-le size (drop place archive) (extent-read f (drop place archive) size (s .extent) .inside) in
     record {
       behind = omega (arith, s .next);
       whole = omega (arith, s .next, s .whole);
@@ -134,9 +134,9 @@ stands-fit f archive place size r s =
 -- every record is so
 pub record-whole : (f : Format) (archive : List ℕ) (place : ℕ) → RecordFits f archive place (recordAt f archive place)
 unfolding recordOf
-record-whole f archive place = go (extentOf (drop place archive)) refl (extent-passes (drop place archive))
+record-whole f archive place = go (extentOf f (drop place archive)) refl (extent-passes f (drop place archive))
   where
-    go : (x : Extent) → extentOf (drop place archive) ≡ x → ExtentPasses x → RecordFits f archive place (recordAt f archive place)
+    go : (x : Extent) → extentOf f (drop place archive) ≡ x → ExtentPasses x → RecordFits f archive place (recordAt f archive place)
     go (ExtentRefused number) e h = rw e (record {
       behind = omega arith;
       whole = omega arith;

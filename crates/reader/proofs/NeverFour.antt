@@ -139,7 +139,7 @@ report-arguments f archive place e k =
 -- the event that a step from a sound state shows
 abbrev shownAt : Format → List ℕ → List ℕ → State → Report → ShownReport
 shownAt f archive tables s e =
-    shownReport archive s e (resolved f archive tables (s .current) (e .first .table) (s .place) (e .first .reference))
+    shownReport f archive s e (resolved f archive tables (s .current) (e .first .table) (s .place) (e .first .reference))
     (resolved f archive tables (s .current) (e .second .table) (s .place) (e .second .reference))
     (resolved f archive tables (s .current) (e .third .table) (s .place) (e .third .reference))
 

@@ -40,14 +40,14 @@ shownText (Known place length) = At place length
 shownText (Unresolved index) = TextUnresolved index
 
 -- how a thread is shown: its process word and its thread word
-unfoldable pub shownThread : List ℕ → Resolved → ShownThread
-shownThread archive Bad = ThreadUnresolved 0
-shownThread archive (Known place length) = Words (wordAt archive place) (wordAt archive (place + 8))
-shownThread archive (Unresolved index) = ThreadUnresolved index
+unfoldable pub shownThread : Format → List ℕ → Resolved → ShownThread
+shownThread f archive Bad = ThreadUnresolved 0
+shownThread f archive (Known place length) = Words (wordAt (f .order) archive place) (wordAt (f .order) archive (place + 8))
+shownThread f archive (Unresolved index) = ThreadUnresolved index
 
 -- what a record refers to, by its table
-unfoldable pub shownReferent : List ℕ → ℕ → Resolved → ShownReferent
-shownReferent archive table r = pick (eqb table 3) (ThreadShown (shownThread archive r)) (TextReferentShown (shownText r))
+unfoldable pub shownReferent : Format → List ℕ → ℕ → Resolved → ShownReferent
+shownReferent f archive table r = pick (eqb table 3) (ThreadShown (shownThread f archive r)) (TextReferentShown (shownText r))
 
 -- a stream that is no reference
 unfoldable pub shownStream : Reference → ShownStream
@@ -56,16 +56,16 @@ shownStream (Index index) = record { place = 0; length = 0 }
 
 -- "An event item holds its provider id or none, type, timestamp, the rate in force, process and thread (or unresolved), category, name,
 -- arguments, and extra word."
-unfoldable pub shownReport : List ℕ → State → Report → Resolved → Resolved → Resolved → ShownReport
-shownReport archive s r a b c =
+unfoldable pub shownReport : Format → List ℕ → State → Report → Resolved → Resolved → Resolved → ShownReport
+shownReport f archive s r a b c =
     record {
       place = s .place;
       provider = providerOf s;
       rate = s .rate;
       own = r .own;
-      first = shownReferent archive (r .first .table) a;
-      second = shownReferent archive (r .second .table) b;
-      third = shownReferent archive (r .third .table) c;
+      first = shownReferent f archive (r .first .table) a;
+      second = shownReferent f archive (r .second .table) b;
+      third = shownReferent f archive (r .third .table) c;
       stream = shownStream (r .stream);
       count = r .count;
       last = r .last;

@@ -36,7 +36,7 @@ stopping s number place = record { answer = End number place; state = s; change 
 unfoldable pub reportAnswer : Format → List ℕ → List ℕ → State → Report → Answer
 reportAnswer f archive tables s r =
     let found = lookedUp f archive tables (s .current) (s .place) in
-    ReportShown (shownReport archive s r (found (r .first)) (found (r .second)) (found (r .third)))
+    ReportShown (shownReport f archive s r (found (r .first)) (found (r .second)) (found (r .third)))
 
 -- what any other record is shown as: string and thread records are not, and one that is refused never comes to this
 unfoldable pub plainAnswer : Content → Answer

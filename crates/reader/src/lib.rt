@@ -160,15 +160,16 @@ fn shown_text(r: Resolved) -> ShownText
     }
 }
 
-fn shown_thread(archive: &[u8], r: Resolved) -> ShownThread
+fn shown_thread(f: Format, archive: &[u8], r: Resolved) -> ShownThread
     requires { ⌜ ThreadInside (length (now archive)) r ⌝ }
-    ensures { λ t. ⌜ t ≡ shownThread (now (archive .entry)) r ⌝ }
+    ensures { λ t. ⌜ t ≡ shownThread f (now (archive .entry)) r ⌝ }
 {
+    let order = f.order;
     match r {
         Resolved::Bad => ShownThread::Unresolved { index: 0 },
         Resolved::Known { place, length: _ } => ShownThread::Words {
-            process: words::word(archive, place),
-            thread: words::word(archive, place + 8),
+            process: words::word(order, archive, place),
+            thread: words::word(order, archive, place + 8),
         },
         Resolved::Unresolved { index } => ShownThread::Unresolved { index },
     }
@@ -225,12 +226,12 @@ fn stop(s: State, number: u8, place: usize) -> Decision
 }
 
 // What a record refers to, as it is shown, by its table.
-fn shown_referent(archive: &[u8], table: u64, r: Resolved) -> ShownReferent
+fn shown_referent(f: Format, archive: &[u8], table: u64, r: Resolved) -> ShownReferent
     requires { ⌜ ReferentInside (length (now archive)) table r ⌝ }
-    ensures { λ t. ⌜ t ≡ shownReferent (now (archive .entry)) table r ⌝ }
+    ensures { λ t. ⌜ t ≡ shownReferent f (now (archive .entry)) table r ⌝ }
 {
     if table == 3 {
-        return ShownReferent::Thread(shown_thread(archive, r));
+        return ShownReferent::Thread(shown_thread(f, archive, r));
     }
     ShownReferent::Text(shown_text(r))
 }
@@ -250,6 +251,7 @@ fn shown_stream(stream: Reference) -> ShownStream
 
 // A record that refers to texts and threads, as it is shown.
 fn shown_report(
+    f: Format,
     archive: &[u8],
     s: State,
     report: Report,
@@ -258,7 +260,7 @@ fn shown_report(
     c: Resolved,
 ) -> ShownReport
     requires { ⌜ (s .current ≤ 8) × ReferentInside (length (now archive)) (report .first .table) a × ReferentInside (length (now archive)) (report .second .table) b × ReferentInside (length (now archive)) (report .third .table) c ⌝ }
-    ensures { λ r. ⌜ r ≡ shownReport (now (archive .entry)) s report a b c ⌝ }
+    ensures { λ r. ⌜ r ≡ shownReport f (now (archive .entry)) s report a b c ⌝ }
 {
     let own = report.own;
     let first = report.first;
@@ -270,9 +272,9 @@ fn shown_report(
         provider: contexts::provider_of(s),
         rate: s.rate,
         own,
-        first: shown_referent(archive, first.table, a),
-        second: shown_referent(archive, second.table, b),
-        third: shown_referent(archive, third.table, c),
+        first: shown_referent(f, archive, first.table, a),
+        second: shown_referent(f, archive, second.table, b),
+        third: shown_referent(f, archive, third.table, c),
         stream: shown_stream(stream),
         count: report.count,
         last: report.last,
@@ -324,7 +326,7 @@ fn decide_report(
         count,
     ) {
         return Decision {
-            answer: Answer::Report(shown_report(archive, s, report, a, b, c)),
+            answer: Answer::Report(shown_report(f, archive, s, report, a, b, c)),
             state: contexts::move_to(s, next),
             change: Change::Keep,
         };

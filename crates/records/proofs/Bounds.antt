@@ -140,12 +140,12 @@ abbrev LastBound : ℕ → Last → Type 0
 LastBound behind (LastRefused number) = Unit {0}
 LastBound behind (Word last) = (last < 2 ^ 64) × (behind ≡ 0 → last ≡ 0)
 
-last-bound : (source : List ℕ) (place at behind : ℕ) → AllBytes source → LastBound behind (lastWord source place at behind)
+last-bound : (f : Format) (source : List ℕ) (place at behind : ℕ) → AllBytes source → LastBound behind (lastWord f source place at behind)
 unfolding lastWord
-last-bound source place at behind bytes =
+last-bound f source place at behind bytes =
     on-pick (LastBound behind) (ltb (place + length source) (at + 8 * behind)) _ _ (λ e. tt)
     (λ e. on-pick (LastBound behind) (eqb behind 0) _ _ (λ q. (omega arith, λ z. refl))
-    (λ q. (wordAt-lt source (at - place) bytes, λ z. absurd (eqb-false behind 0 q z))))
+    (λ q. (wordAt-lt (f .order) source (at - place) bytes, λ z. absurd (eqb-false behind 0 q z))))
 
 -- what is asked of a kind, whatever the indexes are: of its own values, the tables of its three referents, the length of its stream and its number of
 -- arguments. An event has a type up to 10, a thread and two texts, no stream, at most 15 arguments.
@@ -167,7 +167,7 @@ StreamLong (thread r) long = ⊥
 
 -- what a kind has to show of a record that is read: it suits, with a stream of the length that its layout says, and its own words, and those behind
 -- its arguments, are as many as its layout says
-pub record OwnRead (source : List ℕ) (l : Layout) (own : Event) : Type 0 where
+pub record OwnRead (f : Format) (source : List ℕ) (l : Layout) (own : Event) : Type 0 where
   pub suits : AllBytes source → (long : ℕ) → StreamLong (l .stream) long
       → OwnSuits own (tableOf (l .first)) (tableOf (l .second)) (tableOf (l .third)) long (l .count)
   pub words : length (ownLayout own .words) ≡ l .words
@@ -178,13 +178,13 @@ low-type : (header : ℕ) → isEvent header ≡ true → field 16 19 header ≤
 unfolding isEvent
 low-type header e = cases (eqb (field 0 3 header) 4) (λ q. leb-true (field 16 19 header) 10 (rw q at e)) (λ q. absurd (true≢false (sym (rw q at e))))
 
-own-read : (source : List ℕ) → layoutOf (wordAt source 0) .read ≡ true → OwnRead source (layoutOf (wordAt source 0)) (ownOf source)
+own-read : (f : Format) (source : List ℕ) → layoutOf (wordAt (f .order) source 0) .read ≡ true → OwnRead f source (layoutOf (wordAt (f .order) source 0)) (ownOf f source)
 unfolding layoutOf ownOf tableOf
-own-read source e =
+own-read f source e =
     record {
       suits = λ bytes long is. record {
-        type = low-type (wordAt source 0) e;
-        timestamp = wordAt-lt source 8 bytes;
+        type = low-type (wordAt (f .order) source 0) e;
+        timestamp = wordAt-lt (f .order) source 8 bytes;
         first = refl;
         second = refl;
         third = refl;
@@ -259,8 +259,8 @@ is-short f source place _ (isInitialization t room) = tt
 is-short f source place _ (isString t one low short room) = omega arith
 is-short f source place _ (isThread t one room) = tt
 is-short f source place _ (isReportRead a b c s first at last list is) =
-    let l = layoutOf (wordAt source 0) in
-    let fits = layout-fits (wordAt source 0) in
+    let l = layoutOf (wordAt (f .order) source 0) in
+    let fits = layout-fits (wordAt (f .order) source 0) in
     let k = subst (FieldsBound f l) (is .fields) (fields-bound f l source place) in
     record {
       first = short-reference f (l .first) a (fits .first) (k .0);
@@ -274,16 +274,16 @@ is-short f source place _ (isSkipped type small) = tt
 -- so is the record at every place of an archive
 pub record-short : (f : Format) (archive : List ℕ) (place : ℕ) → ContentShort (recordAt f archive place .content)
 unfolding recordOf
-record-short f archive place = go (extentOf (drop place archive)) refl
+record-short f archive place = go (extentOf f (drop place archive)) refl
   where
-    go : (x : Extent) → extentOf (drop place archive) ≡ x
+    go : (x : Extent) → extentOf f (drop place archive) ≡ x
         → ContentShort
         (onExtent x (λ number. record { content = Refused number; next = place })
         (λ size. record { content = contentOf f (take size (drop place archive)) place; next = place + size }) .content)
     go (ExtentRefused number) e = tt
     go (Bytes size) e =
         let source = take size (drop place archive) in
-        let w = extent-read (drop place archive) size e in
+        let w = extent-read f (drop place archive) size e in
         is-short f source place (contentOf f source place)
         (content-is f source place (omega (arith, w .some, length-take-le size (drop place archive) (w .inside))))
 
@@ -303,14 +303,14 @@ stream-read f (text r) x h k = absurd h
 stream-read f (thread r) x h k = absurd h
 
 report-bound : (f : Format) (source : List ℕ) (place : ℕ) → AllBytes source → (a b c s : Reference) (first at last : ℕ) (list : List Argument)
-    → ReportIs f source place a b c s first at last list → ReportBound f (reportRead (layoutOf (wordAt source 0)) source a b c s first last)
+    → ReportIs f source place a b c s first at last list → ReportBound f (reportRead f (layoutOf (wordAt (f .order) source 0)) source a b c s first last)
 report-bound f source place bytes a b c s first at last list is =
-    let l = layoutOf (wordAt source 0) in
-    let fits = layout-fits (wordAt source 0) in
-    let own = own-read source (is .is-report) in
+    let l = layoutOf (wordAt (f .order) source 0) in
+    let fits = layout-fits (wordAt (f .order) source 0) in
+    let own = own-read f source (is .is-report) in
     let k = subst (FieldsBound f l) (is .fields) (fields-bound f l source place) in
     let read = stream-read f (l .stream) s (fits .stream) (k .3) in
-    let z = subst (LastBound (l .behind)) (is .last-is) (last-bound source place at (l .behind) bytes) in
+    let z = subst (LastBound (l .behind)) (is .last-is) (last-bound f source place at (l .behind) bytes) in
     record {
       suits = own .suits bytes (lengthOf s) (read .0);
       first = text-reference f (l .first) a (fits .first) (k .0);
@@ -328,7 +328,7 @@ is-bound f source place bytes _ (isMagic e) = tt
 is-bound f source place bytes _ (isProviderInfo t k short room) = (omega arith, omega arith, short)
 is-bound f source place bytes _ (isSection t k) = omega arith
 is-bound f source place bytes _ (isProviderEvent t k) = (omega arith, omega arith)
-is-bound f source place bytes _ (isInitialization t room) = wordAt-lt source 8 bytes
+is-bound f source place bytes _ (isInitialization t room) = wordAt-lt (f .order) source 8 bytes
 is-bound f source place bytes _ (isString t one low short room) = short
 is-bound f source place bytes _ (isThread t one room) = tt
 is-bound f source place bytes _ (isReportRead a b c s first at last list is) = report-bound f source place bytes a b c s first at last list is
@@ -341,36 +341,36 @@ content-bound f source place bytes h = is-bound f source place bytes (contentOf 
 -- and so is the record at every place of an archive of bytes
 pub record-bound : (f : Format) (archive : List ℕ) (place : ℕ) → AllBytes archive → ContentBound f (recordAt f archive place .content)
 unfolding recordOf
-record-bound f archive place bytes = go (extentOf (drop place archive)) refl
+record-bound f archive place bytes = go (extentOf f (drop place archive)) refl
   where
-    go : (x : Extent) → extentOf (drop place archive) ≡ x
+    go : (x : Extent) → extentOf f (drop place archive) ≡ x
         → ContentBound f
         (onExtent x (λ number. record { content = Refused number; next = place })
         (λ size. record { content = contentOf f (take size (drop place archive)) place; next = place + size }) .content)
     go (ExtentRefused number) e = tt
     go (Bytes size) e =
-        let w = extent-read (drop place archive) size e in
+        let w = extent-read f (drop place archive) size e in
         content-bound f (take size (drop place archive)) place (bytes-before size (drop place archive) (bytes-left place archive bytes))
         (omega (arith, w .some, length-take-le size (drop place archive) (w .inside)))
 
 -- ---- a skipped record has the size that is shown of it
 
 -- where a content is a skipped record's, its size is that of its header; the words of a kind are those of its layout
-abbrev pub SizeShown : List ℕ → Content → Type 0
-SizeShown source (Refused number) = Unit {0}
-SizeShown source Magic = Unit {0}
-SizeShown source (ProviderInfo id at long) = Unit {0}
-SizeShown source (Section id) = Unit {0}
-SizeShown source (ProviderEvent id event) = Unit {0}
-SizeShown source (Initialization rate) = Unit {0}
-SizeShown source (String index at long) = Unit {0}
-SizeShown source (Thread index at) = Unit {0}
-SizeShown source (ReportRead r) =
-    (length (ownLayout (r .own) .words) ≡ layoutOf (wordAt source 0) .words) × (ownLayout (r .own) .behind ≡ layoutOf (wordAt source 0) .behind)
-SizeShown source Ignored = Unit {0}
-SizeShown source (Skipped type size) = size ≡ recordWords (wordAt source 0)
+abbrev pub SizeShown : Format → List ℕ → Content → Type 0
+SizeShown f source (Refused number) = Unit {0}
+SizeShown f source Magic = Unit {0}
+SizeShown f source (ProviderInfo id at long) = Unit {0}
+SizeShown f source (Section id) = Unit {0}
+SizeShown f source (ProviderEvent id event) = Unit {0}
+SizeShown f source (Initialization rate) = Unit {0}
+SizeShown f source (String index at long) = Unit {0}
+SizeShown f source (Thread index at) = Unit {0}
+SizeShown f source (ReportRead r) =
+    (length (ownLayout (r .own) .words) ≡ layoutOf (wordAt (f .order) source 0) .words) × (ownLayout (r .own) .behind ≡ layoutOf (wordAt (f .order) source 0) .behind)
+SizeShown f source Ignored = Unit {0}
+SizeShown f source (Skipped type size) = size ≡ recordWords (wordAt (f .order) source 0)
 
-is-size : (f : Format) (source : List ℕ) (place : ℕ) (c : Content) → ContentIs f source place c → SizeShown source c
+is-size : (f : Format) (source : List ℕ) (place : ℕ) (c : Content) → ContentIs f source place c → SizeShown f source c
 is-size f source place _ (isRefused number n) = tt
 is-size f source place _ (isMagic e) = tt
 is-size f source place _ (isProviderInfo t k short room) = tt
@@ -380,10 +380,10 @@ is-size f source place _ (isInitialization t room) = tt
 is-size f source place _ (isString t one low short room) = tt
 is-size f source place _ (isThread t one room) = tt
 is-size f source place _ (isReportRead a b c s first at last list is) =
-    let own = own-read source (is .is-report) in (own .words, own .behind)
+    let own = own-read f source (is .is-report) in (own .words, own .behind)
 is-size f source place _ isIgnored = tt
 is-size f source place _ (isSkipped type small) = refl
 
 -- every content of a record is so
-pub size-shown : (f : Format) (source : List ℕ) (place : ℕ) → 8 ≤ length source → SizeShown source (contentOf f source place)
+pub size-shown : (f : Format) (source : List ℕ) (place : ℕ) → 8 ≤ length source → SizeShown f source (contentOf f source place)
 size-shown f source place h = is-size f source place (contentOf f source place) (content-is f source place h)

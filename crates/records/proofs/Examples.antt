@@ -4,7 +4,7 @@ use mathlib.Core.Path.{_≡_, refl}
 use mathlib.Core.List.{[], List, _∷_, _++_}
 use mathlib.Core.Bool.{true}
 use lib.ListN.{drop}
-use Rattle.words.specs.Word.{wordAt, little, bytesOf}
+use Rattle.words.specs.Word.{wordAt, little, littleAt, bytesOf}
 use Rattle.words.specs.Stream.{magic, startsWithMagic}
 use Rattle.format.specs.declared.Reference.the-variants.{Inline, Index}
 use Rattle.format.specs.Limits.{smallFormat}
@@ -52,7 +52,7 @@ pub record Table : Type 0 where
   pub nine-keeps : recordKeeps smallFormat (drop 24 nine) 24 (ReportRead nineEvent) ≡ true
 
 pub table : Table
-unfolding little wordAt bytesOf magic startsWithMagic recordWords extentOf takeWords takeStream takeText takeThread takePart takeParts paddingZero
+unfolding little littleAt wordAt bytesOf magic startsWithMagic recordWords extentOf takeWords takeStream takeText takeThread takePart takeParts paddingZero
     headerScalar holdsWord wordScalar argumentBody argumentOf argumentsOf valueBytes reservedBits valuePaddingZero argumentKeeps argumentsKeep
     hasExtra extraWords isEvent layoutOf ownOf tableOf takeFields lastWord reportOf providerInfoOf metadataOf initializationOf stringOf threadOf
     contentOf recordOf wordsKeep streamKeeps reportKeeps recordKeeps

@@ -209,8 +209,8 @@ pair-moves f one two place source start a b next h =
 
 -- a record of which fields, arguments and last word are read
 pub report-is : (f : Format) (source : List ℕ) (place : ℕ) (l : Layout) {a b c s : Reference} {first at last : ℕ}
-    → layoutOf (wordAt source 0) ≡ l → takeFields f l source place ≡ FieldsRead a b c s first
-    → walked (argumentsOf f (l .count) (drop (first - place) source) first) ≡ End at → lastWord source place at (l .behind) ≡ Word last
-    → reportOf f source place ≡ ReportRead (reportRead l source a b c s first last)
+    → layoutOf (wordAt (f .order) source 0) ≡ l → takeFields f l source place ≡ FieldsRead a b c s first
+    → walked (argumentsOf f (l .count) (drop (first - place) source) first) ≡ End at → lastWord f source place at (l .behind) ≡ Word last
+    → reportOf f source place ≡ ReportRead (reportRead f l source a b c s first last)
 unfolding reportOf
 report-is f source place l e₀ e₁ e₂ e₃ = rw (e₀, e₁, e₂, e₃)

@@ -107,14 +107,14 @@ argument-passes : (f : Format) (rest : List ℕ) (place : ℕ) → ArgumentPasse
 unfolding argumentOf argumentBody
 argument-passes f rest place =
     on-pick ArgumentPasses (ltb (length rest) 8) _ _ (λ e. number-malformed)
-    (λ e. on-pick ArgumentPasses (eqb (argumentSize (wordAt rest 0)) 0) _ _ (λ e. number-malformed)
-    (λ e. on-pick ArgumentPasses (ltb (length rest) (argumentSize (wordAt rest 0))) _ _ (λ e. number-malformed)
+    (λ e. on-pick ArgumentPasses (eqb (argumentSize (wordAt (f .order) rest 0)) 0) _ _ (λ e. number-malformed)
+    (λ e. on-pick ArgumentPasses (ltb (length rest) (argumentSize (wordAt (f .order) rest 0))) _ _ (λ e. number-malformed)
     (λ e. on-parts ArgumentPasses f (text (field 16 31 hd) ∷ valueParts hd) (place + 8) own place ArgumentRefused
-    (λ rs next. ArgumentRead (record { name = part 0 rs; value = valueOf hd own place (part 1 rs) }) (argumentSize hd)) (λ number h. h)
+    (λ rs next. ArgumentRead (record { name = part 0 rs; value = valueOf f hd own place (part 1 rs) }) (argumentSize hd)) (λ number h. h)
     (λ rs next. tt))))
   where
     hd : ℕ
-    hd = wordAt rest 0
+    hd = wordAt (f .order) rest 0
 
     own : List ℕ
     own = take (argumentSize hd) rest

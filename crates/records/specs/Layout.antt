@@ -57,8 +57,8 @@ layoutOf header =
     }
 
 -- what is particular to the kind of a record that is read
-unfoldable pub ownOf : List ℕ → Event
-ownOf source = record { variant = field 16 19 (wordAt source 0); timestamp = wordAt source 8 }
+unfoldable pub ownOf : Format → List ℕ → Event
+ownOf f source = record { variant = field 16 19 (wordAt (f .order) source 0); timestamp = wordAt (f .order) source 8 }
 
 -- ---- any kind
 
@@ -74,10 +74,10 @@ unfoldable pub takeFields : Format → Layout → List ℕ → ℕ → Fields
 takeFields f l source place = fieldsOf (takeParts f (layoutParts l) (place + 8) source place)
 
 -- the word behind the arguments, which end at `at`
-unfoldable pub lastWord : List ℕ → ℕ → ℕ → ℕ → Last
-lastWord source place at behind =
+unfoldable pub lastWord : Format → List ℕ → ℕ → ℕ → ℕ → Last
+lastWord f source place at behind =
     pick (ltb (place + length source) (at + 8 * behind)) (LastRefused malformed)
-    (pick (eqb behind 0) (Word 0) (Word (wordAt source (at - place))))
+    (pick (eqb behind 0) (Word 0) (Word (wordAt (f .order) source (at - place))))
 
 abbrev pub onFields : {A : Type 0} → Fields → (ℕ → A) → (Reference → Reference → Reference → Reference → ℕ → A) → A
 onFields (FieldsRefused number) refuse then = refuse number
@@ -95,10 +95,10 @@ onLast (Word last) refuse then = then last
 abbrev pub lookupOf : Part → Reference → Lookup
 lookupOf p reference = record { table = tableOf p; reference = reference }
 
-abbrev pub reportRead : Layout → List ℕ → Reference → Reference → Reference → Reference → ℕ → ℕ → Report
-reportRead l source a b c s first last =
+abbrev pub reportRead : Format → Layout → List ℕ → Reference → Reference → Reference → Reference → ℕ → ℕ → Report
+reportRead f l source a b c s first last =
     record {
-      own = ownOf source;
+      own = ownOf f source;
       first = lookupOf (l .first) a;
       second = lookupOf (l .second) b;
       third = lookupOf (l .third) c;
@@ -111,10 +111,10 @@ reportRead l source a b c s first last =
 -- a record of one of the kinds
 unfoldable pub reportOf : Format → List ℕ → ℕ → Content
 reportOf f source place =
-    let l = layoutOf (wordAt source 0) in
+    let l = layoutOf (wordAt (f .order) source 0) in
     onFields (takeFields f l source place) Refused
     (λ a b c s first.
     onWalked (walked (argumentsOf f (l .count) (drop (first - place) source) first)) Refused
     (λ at.
-    onLast (lastWord source place at (l .behind)) Refused
-    (λ last. ReportRead (reportRead l source a b c s first last))))
+    onLast (lastWord f source place at (l .behind)) Refused
+    (λ last. ReportRead (reportRead f l source a b c s first last))))

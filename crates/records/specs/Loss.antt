@@ -28,7 +28,7 @@ streamKeeps source place at long reserved =
 -- a record that refers to texts and threads, by its layout
 unfoldable pub reportKeeps : Format → List ℕ → ℕ → Report → Bool
 reportKeeps f source place r =
-    let l = layoutOf (wordAt source 0) in
+    let l = layoutOf (wordAt (f .order) source 0) in
     eqb (l .reserved) 0
     && (paddingZero source place (r .first .reference)
     && (paddingZero source place (r .second .reference)
@@ -40,13 +40,13 @@ reportKeeps f source place r =
 unfoldable pub recordKeeps : Format → List ℕ → ℕ → Content → Bool
 recordKeeps f source place (Refused number) = false
 recordKeeps f source place Magic = true
-recordKeeps f source place (ProviderInfo id at long) = streamKeeps source place at long (field 60 63 (wordAt source 0))
-recordKeeps f source place (Section id) = wordsKeep source 1 (field 52 63 (wordAt source 0))
-recordKeeps f source place (ProviderEvent id event) = wordsKeep source 1 (field 56 63 (wordAt source 0))
-recordKeeps f source place (Initialization rate) = wordsKeep source 2 (field 16 63 (wordAt source 0))
+recordKeeps f source place (ProviderInfo id at long) = streamKeeps source place at long (field 60 63 (wordAt (f .order) source 0))
+recordKeeps f source place (Section id) = wordsKeep source 1 (field 52 63 (wordAt (f .order) source 0))
+recordKeeps f source place (ProviderEvent id event) = wordsKeep source 1 (field 56 63 (wordAt (f .order) source 0))
+recordKeeps f source place (Initialization rate) = wordsKeep source 2 (field 16 63 (wordAt (f .order) source 0))
 recordKeeps f source place (String index at long) =
-    streamKeeps source place at long (field 31 31 (wordAt source 0) + field 47 63 (wordAt source 0))
-recordKeeps f source place (Thread index at) = wordsKeep source 3 (field 24 63 (wordAt source 0))
+    streamKeeps source place at long (field 31 31 (wordAt (f .order) source 0) + field 47 63 (wordAt (f .order) source 0))
+recordKeeps f source place (Thread index at) = wordsKeep source 3 (field 24 63 (wordAt (f .order) source 0))
 recordKeeps f source place (ReportRead r) = reportKeeps f source place r
 recordKeeps f source place Ignored = true
 recordKeeps f source place (Skipped type size) = false

@@ -198,13 +198,14 @@ pub fn layout_of(header: u64) -> Layout
 }
 
 // What is particular to the kind of such a record.
-fn own_of(source: &[u8]) -> Event
-    requires { ⌜ 8 + 8 * (layoutOf (wordAt (now source) 0) .words) ≤ length (now source) ⌝ }
-    ensures { λ r. ⌜ r ≡ ownOf (now (source .entry)) ⌝ }
+fn own_of(f: Format, source: &[u8]) -> Event
+    requires { ⌜ 8 + 8 * (layoutOf (wordAt (f .order) (now source) 0) .words) ≤ length (now source) ⌝ }
+    ensures { λ r. ⌜ r ≡ ownOf f (now (source .entry)) ⌝ }
 {
+    let order = f.order;
     Event {
-        variant: words::field(words::word(source, 0), 16, 19) as u8,
-        timestamp: words::word(source, 8),
+        variant: words::field(words::word(order, source, 0), 16, 19) as u8,
+        timestamp: words::word(order, source, 8),
     }
 }
 
@@ -282,10 +283,11 @@ fn take_fields(f: Format, layout: Layout, source: &[u8], place: usize) -> Fields
 }
 
 // The last word of a record whose arguments end at `at`, where it has any behind them.
-fn last_word(source: &[u8], place: usize, at: usize, behind: usize) -> Last
+fn last_word(f: Format, source: &[u8], place: usize, at: usize, behind: usize) -> Last
     requires { ⌜ (place ≤ at) × (at ≤ place + length (now source)) × (place + length (now source) < 2 ^ 63) × (behind ≤ 1) ⌝ }
-    ensures { λ r. ⌜ r ≡ lastWord (now (source .entry)) place at behind ⌝ }
+    ensures { λ r. ⌜ r ≡ lastWord f (now (source .entry)) place at behind ⌝ }
 {
+    let order = f.order;
     let end = place + source.len();
     if end < at + 8 * behind {
         return Last::Refused(MALFORMED);
@@ -293,7 +295,7 @@ fn last_word(source: &[u8], place: usize, at: usize, behind: usize) -> Last
     if behind == 0 {
         return Last::Word(0);
     }
-    Last::Word(words::word(source, at - place))
+    Last::Word(words::word(order, source, at - place))
 }
 
 // A record that refers to texts and threads.
@@ -301,7 +303,8 @@ fn report_of(f: Format, source: &[u8], place: usize) -> Content
     requires { ⌜ (8 ≤ length (now source)) × (place + length (now source) < 2 ^ 63) ⌝ }
     ensures { λ r. ⌜ r ≡ reportOf f (now (source .entry)) place ⌝ }
 {
-    let layout = layout_of(words::word(source, 0));
+    let order = f.order;
+    let layout = layout_of(words::word(order, source, 0));
     let fields = take_fields(f, layout, source, place);
     match fields {
         Fields::Refused(number) => Content::Refused(number),
@@ -318,7 +321,7 @@ fn report_of(f: Format, source: &[u8], place: usize) -> Content
             match walk {
                 Walked::Refused(number) => Content::Refused(number),
                 Walked::End(at) => {
-                    let more = last_word(source, place, at, layout.behind);
+                    let more = last_word(f, source, place, at, layout.behind);
                     match more {
                         Last::Refused(number) => Content::Refused(number),
                         Last::Word(last) => {
@@ -326,7 +329,7 @@ fn report_of(f: Format, source: &[u8], place: usize) -> Content
                             let two = layout.second;
                             let three = layout.third;
                             Content::Report(Report {
-                                own: own_of(source),
+                                own: own_of(f, source),
                                 first: Lookup {
                                     table: format::table_of(one),
                                     reference: first,
@@ -357,7 +360,8 @@ fn provider_info_of(f: Format, source: &[u8], place: usize) -> Content
     requires { ⌜ (8 ≤ length (now source)) × (place + length (now source) < 2 ^ 62) ⌝ }
     ensures { λ r. ⌜ r ≡ providerInfoOf f (now (source .entry)) place ⌝ }
 {
-    let header = words::word(source, 0);
+    let order = f.order;
+    let header = words::word(order, source, 0);
     let length = words::field(header, 52, 59) as usize;
     let stream = format::take_stream(f, length, place + 8, source, place);
     match stream {
@@ -378,7 +382,8 @@ fn metadata_of(f: Format, source: &[u8], place: usize) -> Content
     requires { ⌜ (8 ≤ length (now source)) × (place + length (now source) < 2 ^ 62) ⌝ }
     ensures { λ r. ⌜ r ≡ metadataOf f (now (source .entry)) place ⌝ }
 {
-    let header = words::word(source, 0);
+    let order = f.order;
+    let header = words::word(order, source, 0);
     let metadata_type = words::field(header, 16, 19);
     if metadata_type == 1 {
         return provider_info_of(f, source, place);
@@ -411,12 +416,13 @@ fn initialization_of(f: Format, source: &[u8], place: usize) -> Content
     requires { ⌜ place + length (now source) < 2 ^ 62 ⌝ }
     ensures { λ r. ⌜ r ≡ initializationOf f (now (source .entry)) place ⌝ }
 {
+    let order = f.order;
     let end = place + source.len();
     if end < place + 8 + 8 {
         return Content::Refused(MALFORMED);
     }
     Content::Initialization {
-        rate: words::word(source, 8),
+        rate: words::word(order, source, 8),
     }
 }
 
@@ -425,13 +431,14 @@ pub fn string_of(f: Format, source: &[u8], place: usize) -> Content
     requires { ⌜ (8 ≤ length (now source)) × (place + length (now source) < 2 ^ 62) ⌝ }
     ensures { λ r. ⌜ r ≡ stringOf f (now (source .entry)) place ⌝ }
 {
-    let header = words::word(source, 0);
+    let order = f.order;
+    let header = words::word(order, source, 0);
     let index = words::field(header, 16, 30) as usize;
     let length = words::field(header, 32, 46) as usize;
     if index == 0 {
         return Content::Ignored;
     }
-    if f.highest < index {
+    if (f.highest as usize) < index {
         return Content::Refused(HIGH_INDEX);
     }
     let stream = format::take_stream(f, length, place + 8, source, place);
@@ -453,7 +460,8 @@ pub fn thread_of(f: Format, source: &[u8], place: usize) -> Content
     requires { ⌜ (8 ≤ length (now source)) × (place + length (now source) < 2 ^ 62) ⌝ }
     ensures { λ r. ⌜ r ≡ threadOf f (now (source .entry)) place ⌝ }
 {
-    let header = words::word(source, 0);
+    let order = f.order;
+    let header = words::word(order, source, 0);
     let index = words::field(header, 16, 23) as usize;
     if index == 0 {
         return Content::Ignored;
@@ -476,7 +484,8 @@ pub fn content_of(f: Format, source: &[u8], place: usize) -> Content
     requires { ⌜ (8 ≤ length (now source)) × (place + length (now source) < 2 ^ 62) ⌝ }
     ensures { λ r. ⌜ r ≡ contentOf f (now (source .entry)) place ⌝ }
 {
-    let header = words::word(source, 0);
+    let order = f.order;
+    let header = words::word(order, source, 0);
     let record_type = words::field(header, 0, 3);
     let layout = layout_of(header);
     if layout.read {
@@ -566,7 +575,7 @@ pub fn record_at(f: Format, archive: &[u8], place: usize) -> Record
         };
     }
     let rest = &archive[place..];
-    let extent = format::extent_of(rest);
+    let extent = format::extent_of(f, rest);
     match extent {
         Extent::Refused(number) => Record {
             content: Content::Refused(number),
@@ -613,7 +622,8 @@ fn report_keeps(f: Format, source: &[u8], place: usize, report: Report) -> bool
     requires { ⌜ (8 ≤ length (now source)) × (place + length (now source) < 2 ^ 63) × ReportInside place (place + length (now source)) report ⌝ }
     ensures { λ r. ⌜ r ≡ reportKeeps f (now (source .entry)) place report ⌝ }
 {
-    let layout = layout_of(words::word(source, 0));
+    let order = f.order;
+    let layout = layout_of(words::word(order, source, 0));
     if layout.reserved != 0 {
         return false;
     }
@@ -647,7 +657,8 @@ pub fn record_keeps(f: Format, source: &[u8], place: usize, content: Content) ->
     requires { ⌜ (8 ≤ length (now source)) × (place + length (now source) < 2 ^ 62) × ContentInside place (place + length (now source)) content ⌝ }
     ensures { λ r. ⌜ r ≡ recordKeeps f (now (source .entry)) place content ⌝ }
 {
-    let header = words::word(source, 0);
+    let order = f.order;
+    let header = words::word(order, source, 0);
     match content {
         Content::Refused(_) => false,
         Content::Magic => true,

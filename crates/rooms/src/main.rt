@@ -270,7 +270,7 @@ fn next_archive(fd: i32) -> bool {
     let mut header = [0u8; 8];
     let outcome = lines::input::read_bytes(fd, &mut header, 4);
     match outcome {
-        Outcome::All => show_archive(fd, words::word(&header, 0) as usize),
+        Outcome::All => show_archive(fd, words::little_word(&header, 0) as usize),
         Outcome::End => false,
         Outcome::Failed => fail(b"rooms: rooms.bin could not be read to the end of an archive\n"),
     }

@@ -161,7 +161,7 @@ begins f archive (shows s tables i items e r) next shown =
 
 -- the list that an accepted archive of bytes reads as can be written, if the rule's bytes are no more than the archive's
 pub accepted-writable : (archive : List ℕ) (items : List Item) → Accepted smallFormat archive → AllBytes archive
-    → ReadsAs smallFormat archive items → length (rule items) ≤ length archive → Writable smallFormat items
+    → ReadsAs smallFormat archive items → length (rule smallFormat items) ≤ length archive → Writable smallFormat items
 unfolding runOf
 accepted-writable archive items accepted bytes reads short =
     let f = smallFormat in
@@ -172,8 +172,8 @@ accepted-writable archive items accepted bytes reads short =
     let passes = not-refused-passes f run (accepted .not-refused) in
     let good = run-good f archive bytes (reads .1) (length archive / 8 + 1) opens sound (omega arith) (passes .loss) (passes .whole) in
     let index = indexIn [] none in
-    let begins-so : At archive 0 (itemRecord index magic) =
-    rw (magic-record index) (magic-at archive (opening-magic f archive (tableWords f) (accepted .opened))) in
+    let begins-so : At archive 0 (itemRecord smallFormat index magic) =
+    rw (magic-record smallFormat index) (magic-at archive (opening-magic f archive (tableWords f) (accepted .opened))) in
     let shown = item-shown f archive tables opening [] opens sound tt magic tt (magic-fits f index) begins-so in
     let limits = limits-of f [] run refl (passes .limits) in
     let limited = limits-kept f (chosenIn (usesAll items)) (usesAll items) (usesAll items) (rw (reads-items f archive items reads) at limits) in

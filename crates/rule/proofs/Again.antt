@@ -80,22 +80,22 @@ same-limits f a b same e = of-within f [] b refl (subst (AllWithin f []) same (w
 
 -- what is written for the list of an accepted archive of bytes is accepted
 pub accepted-again : (a : List ℕ) (l : List Item) → Accepted smallFormat a → AllBytes a → ReadsAs smallFormat a l
-    → Accepted smallFormat (rule l)
+    → Accepted smallFormat (rule smallFormat l)
 unfolding refusalOf
 accepted-again a l h bytes r =
     let f = smallFormat in
     let paid = any-run-pays f a l r in
-    let short : length (rule l) ≤ length a = omega (arith, paid .1, rule-least-bytes l (paid .0)) in
+    let short : length (rule smallFormat l) ≤ length a = omega (arith, paid .1, rule-least-bytes f l (paid .0)) in
     let writable = accepted-writable a l h bytes r short in
     let back = rule-reads f l writable in
     let before = not-refused-passes f (runOf f a) (h .not-refused) in
-    let same : itemsOf (runOf f a) ≡ itemsOf (runOf f (rule l)) = reads-items f a l r ∙ sym (reads-items f (rule l) l back) in
+    let same : itemsOf (runOf f a) ≡ itemsOf (runOf f (rule smallFormat l)) = reads-items f a l r ∙ sym (reads-items f (rule smallFormat l) l back) in
     record {
       opened = back .0;
       not-refused = rw (
-        ends-unrefused (length (rule l)) (runOf f (rule l)) (reads-ends f (rule l) l back),
+        ends-unrefused (length (rule smallFormat l)) (runOf f (rule smallFormat l)) (reads-ends f (rule smallFormat l) l back),
         rule-keeps f l writable,
-        same-unresolved (runOf f a) (runOf f (rule l)) same (before .whole),
-        same-limits f (runOf f a) (runOf f (rule l)) same (before .limits),
+        same-unresolved (runOf f a) (runOf f (rule smallFormat l)) same (before .whole),
+        same-limits f (runOf f a) (runOf f (rule smallFormat l)) same (before .limits),
       );
     }

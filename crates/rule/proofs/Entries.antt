@@ -105,19 +105,19 @@ key-index f index (textKey bytes) fit = (fit .some, fit .low)
 key-index f index (threadKey (thread p t)) fit = (fit .0, omega (arith, fit .1))
 
 -- its record has a word at least
-pub key-long : (index : ℕ) (key : Key) → 8 ≤ length (keyRecord index key)
-key-long index (textKey bytes) =
-    omega (arith, length-record 2 (index of 15 ∷ 0 of 1 ∷ length bytes of 15 ∷ 0 of 17 ∷ []) (padded bytes))
-key-long index (threadKey t) = omega (arith, length-record 3 (index of 8 ∷ 0 of 40 ∷ []) (partBytes (threadInline t)))
+pub key-long : (f : Format) (index : ℕ) (key : Key) → 8 ≤ length (keyRecord f index key)
+key-long f index (textKey bytes) =
+    omega (arith, length-record f 2 (index of 15 ∷ 0 of 1 ∷ length bytes of 15 ∷ 0 of 17 ∷ []) (padded bytes))
+key-long f index (threadKey t) = omega (arith, length-record f 3 (index of 8 ∷ 0 of 40 ∷ []) (partBytes f (threadInline t)))
 
 -- where its record stands, it is read
 pub key-stands : (f : Format) (archive : List ℕ) (place index : ℕ) (key : Key) → KeyFits f index key
-    → At archive place (keyRecord index key)
-    → recordAt f archive place ≡ record { content = keyContent index place key; next = place + length (keyRecord index key) }
+    → At archive place (keyRecord f index key)
+    → recordAt f archive place ≡ record { content = keyContent index place key; next = place + length (keyRecord f index key) }
 key-stands f archive place index (textKey bytes) fit at =
-    record-at (string-fits f index bytes fit) (omega arith) f archive place at ∙ rw (string-read f index bytes place fit)
+    record-at f (string-fits f index bytes fit) (omega arith) archive place at ∙ rw (string-read f index bytes place fit)
 key-stands f archive place index (threadKey (thread p t)) fit at =
-    record-at (thread-fits index (thread p t) (fit .1)) (omega arith) f archive place at
+    record-at f (thread-fits f index (thread p t) (fit .1)) (omega arith) archive place at
     ∙ rw (thread-read f index (thread p t) place (fit .0) (fit .1))
 
 key-registers : (index place : ℕ) (key : Key) → registrationOf (keyContent index place key) ≡ Registered (keyTable key) index (place + 8) (keyLength key)
@@ -140,8 +140,8 @@ pub record Standing (f : Format) (archive : List ℕ) (s : State) (tables : List
   pub is-set : getD tables (position f context (keyTable key) index) 0 ≡ place
   pub some : 0 < place
   pub whole : place % 8 ≡ 0
-  pub there : At archive place (keyRecord index key)
-  pub ends : place + length (keyRecord index key) ≤ s .place
+  pub there : At archive place (keyRecord f index key)
+  pub ends : place + length (keyRecord f index key) ≤ s .place
 
 -- so it is for a later state with the same tables
 pub stand-later : (f : Format) (archive : List ℕ) (s s′ : State) (tables : List ℕ) → Grown s s′ → (entries : List Entry)
@@ -214,7 +214,7 @@ stand-known f archive s tables provider key index context until h own l k =
       ne-eqb (k .place) 0 (λ z. omega (arith, k .some, z)),
       eq-eqb (k .place % 8) 0 (k .whole),
       key-stands f archive (k .place) index key (k .fits) (k .there),
-      le-ltb until (k .place + length (keyRecord index key)) (omega (arith, k .ends)),
+      le-ltb until (k .place + length (keyRecord f index key)) (omega (arith, k .ends)),
       key-registers index (k .place) key,
       eq-eqb (keyTable key) (keyTable key) refl,
       eq-eqb index index refl,

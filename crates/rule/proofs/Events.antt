@@ -53,24 +53,24 @@ asked-is f archive tables s place number e sound opens whole is l =
 
 -- arguments that stand one behind the other are read by their numbers
 next-number : (f : Format) (index : Key → ℕ) (a : Argument) (l : List Argument) (more : List ℕ) (k at : ℕ)
-    → numberedOf f zero (argumentsRecords index (a ∷ l) ++ more) at ≡ Read (argumentAt index a at) (length (argumentRecord index a))
-    → numberedOf f (suc k) (argumentsRecords index (a ∷ l) ++ more) at
-    ≡ numberedOf f k (argumentsRecords index l ++ more) (at + length (argumentRecord index a))
+    → numberedOf f zero (argumentsRecords f index (a ∷ l) ++ more) at ≡ Read (argumentAt f index a at) (length (argumentRecord f index a))
+    → numberedOf f (suc k) (argumentsRecords f index (a ∷ l) ++ more) at
+    ≡ numberedOf f k (argumentsRecords f index l ++ more) (at + length (argumentRecord f index a))
 unfolding numberedOf
 next-number f index a l more k at is =
     rw (
       is,
-      append-assoc (argumentRecord index a) (argumentsRecords index l) more,
-      drop-append-seam (argumentRecord index a) (argumentsRecords index l ++ more),
+      append-assoc (argumentRecord f index a) (argumentsRecords f index l) more,
+      drop-append-seam (argumentRecord f index a) (argumentsRecords f index l ++ more),
     )
 
 first-number : (f : Format) (index : Key → ℕ) (a : Argument) (l : List Argument) (more : List ℕ) (at : ℕ) → AllFit f index (a ∷ l)
     → AllSized index (a ∷ l)
-    → numberedOf f zero (argumentsRecords index (a ∷ l) ++ more) at ≡ Read (argumentAt index a at) (length (argumentRecord index a))
+    → numberedOf f zero (argumentsRecords f index (a ∷ l) ++ more) at ≡ Read (argumentAt f index a at) (length (argumentRecord f index a))
 unfolding numberedOf
 first-number f index a l more at fit sized =
-    rw (append-assoc (argumentRecord index a) (argumentsRecords index l) more)
-    (argument-read f index a (argumentsRecords index l ++ more) at (fit .0) (sized .0))
+    rw (append-assoc (argumentRecord f index a) (argumentsRecords f index l) more)
+    (argument-read f index a (argumentsRecords f index l ++ more) at (fit .0) (sized .0))
 
 module _ (f : Format) (archive tables : List ℕ) (s : State) (entries : List Entry) (provider : Option ℕ)
     (sound : Sound f archive s tables) (own : ContextIs s provider (s .current)) (stands : Every (Standing f archive s tables) entries)
@@ -80,25 +80,25 @@ module _ (f : Format) (archive tables : List ℕ) (s : State) (entries : List En
     ≡ onArgued (numberedOf f n part first) (λ refused. Refused 4 (s .place)) (λ a size. shownArgument f archive tables s a)) where
   -- arguments that were written, from a number on, are the items asked for
   pub arguments-shown : (l : List Argument) (number at : ℕ) → AllFit f (indexIn entries provider) l → AllSized (indexIn entries provider) l
-      → SpellsArguments archive (indexIn entries provider) (argumentsAt (indexIn entries provider) l at) l → number + length l ≤ count
-      → ((k : ℕ) → numberedOf f (number + k) part first ≡ numberedOf f k (argumentsRecords (indexIn entries provider) l ++ more) at)
+      → SpellsArguments f archive (indexIn entries provider) (argumentsAt f (indexIn entries provider) l at) l → number + length l ≤ count
+      → ((k : ℕ) → numberedOf f (number + k) part first ≡ numberedOf f k (argumentsRecords f (indexIn entries provider) l ++ more) at)
       → argumentItems f archive tables s place number (length l) ≡ some l
   unfolding argumentItems shownArgument
   arguments-shown [] number at fit sized spelled low h = refl
   arguments-shown (a ∷ l) number at fit sized spelled low h =
       let index = indexIn entries provider in
       let is = first-number f index a l more at fit sized in
-      let size = length (argumentRecord index a) in
-      let here : numberedOf f number part first ≡ Read (argumentAt index a at) size = rw (add-zero number) at (h zero) ∙ is in
-      let next : (k : ℕ) → numberedOf f (suc number + k) part first ≡ numberedOf f k (argumentsRecords index l ++ more) (at + size) =
+      let size = length (argumentRecord f index a) in
+      let here : numberedOf f number part first ≡ Read (argumentAt f index a at) size = rw (add-zero number) at (h zero) ∙ is in
+      let next : (k : ℕ) → numberedOf f (suc number + k) part first ≡ numberedOf f k (argumentsRecords f index l ++ more) (at + size) =
       λ k. ap (λ n. numberedOf f n part first) (omega arith) ∙ (h (suc k) ∙ next-number f index a l more k at is) in
       rw (
         asks number (omega arith),
         here,
-        none-bad f archive tables s (argumentLookups (argumentAt index a at ∷ [])) sound (argument-tables (argumentAt index a at ∷ [])),
+        none-bad f archive tables s (argumentLookups (argumentAt f index a at ∷ [])) sound (argument-tables (argumentAt f index a at ∷ [])),
         arguments-shown l (suc number) (at + size) (fit .1) (sized .1) (spelled .1) (omega arith) next,
-        text-shown f archive tables s entries provider (s .current) (s .place) sound own (omega arith) stands (a .name) (argumentAt index a at .name) (fit .0 .name)
+        text-shown f archive tables s entries provider (s .current) (s .place) sound own (omega arith) stands (a .name) (argumentAt f index a at .name) (fit .0 .name)
             (spelled .0 .name),
-        value-shown f archive tables s entries provider (s .current) (s .place) sound own (omega arith) stands (a .value) (argumentAt index a at .value)
+        value-shown f archive tables s entries provider (s .current) (s .place) sound own (omega arith) stands (a .value) (argumentAt f index a at .value)
             (fit .0 .value) (spelled .0 .value),
       )

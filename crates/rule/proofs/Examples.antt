@@ -8,7 +8,7 @@ use mathlib.Core.Option.{none, some}
 use lib.IntN.{negsuc}
 use lib.ListN.{length, replicate}
 use Rattle.effects.specs.Follow.{changed, followed, followedEntered, changeOf}
-use Rattle.words.specs.Word.{wordAt, little, bytesOf}
+use Rattle.words.specs.Word.{wordAt, wordBytes, little, littleAt, bytesOf}
 use Rattle.words.specs.Stream.{magic as magicBytes, startsWithMagic, partOf}
 use Rattle.registering.specs.Registers.{registers}
 use Rattle.format.specs.declared.Reference.the-variants.{Inline}
@@ -39,11 +39,11 @@ use Rattle.rule.specs.Refusal.{ended, passed, runFrom, runOf, refusalOf,
 -- the words of an archive, one after another
 abbrev archiveOf : List ℕ → List ℕ
 archiveOf [] = []
-archiveOf (w ∷ ws) = bytesOf 8 w ++ archiveOf ws
+archiveOf (w ∷ ws) = wordBytes (smallFormat .order) w ++ archiveOf ws
 
 -- a string record with this header, and so many bytes of stream
 abbrev stringOfLength : ℕ → ℕ → List ℕ
-stringOfLength header n = bytesOf 8 header ++ replicate n 0x41
+stringOfLength header n = wordBytes (smallFormat .order) header ++ replicate n 0x41
 
 -- document 01's nine words: "charge" and "sun" are spelled as numbers, the first letter lowest
 abbrev nine : List ℕ
@@ -139,15 +139,15 @@ pub record Table : Type 0 where
   -- K5: magic, then a zero word: 6 at 8
   pub k5 : runOf smallFormat (magicBytes ++ replicate 8 0) ≡ passed 0 true (some magic) (ended 6 8)
   -- K6: string index 511 taken
-  pub k6-taken : recordAt smallFormat (bytesOf 8 0x0000000001FF0012) 0 ≡ record { content = String 511 8 0; next = 8 }
+  pub k6-taken : recordAt smallFormat (wordBytes (smallFormat .order) 0x0000000001FF0012) 0 ≡ record { content = String 511 8 0; next = 8 }
   -- 512: 8
-  pub k6-refused : recordAt smallFormat (bytesOf 8 0x0000000002000012) 0 ≡ record { content = Refused 8; next = 8 }
+  pub k6-refused : recordAt smallFormat (wordBytes (smallFormat .order) 0x0000000002000012) 0 ≡ record { content = Refused 8; next = 8 }
   -- K7: length 256 taken
   pub k7-taken : recordAt smallFormat (stringOfLength 0x0000010000010212 256) 0 ≡ record { content = String 1 8 256; next = 264 }
   -- 257: 7
   pub k7-refused : recordAt smallFormat (stringOfLength 0x0000010100010222 264) 0 ≡ record { content = Refused 7; next = 272 }
   -- K8: header 000000000001003F: type 15, 4,099 words, not 3
-  pub k8 : recordAt smallFormat (bytesOf 8 0x000000000001003F ++ replicate (8 * 4098) 0) 0 ≡ record { content = Skipped 15 4099; next = 8 * 4099 }
+  pub k8 : recordAt smallFormat (wordBytes (smallFormat .order) 0x000000000001003F ++ replicate (8 * 4098) 0) 0 ≡ record { content = Skipped 15 4099; next = 8 * 4099 }
   -- K9: w 1, k 2: inline (2 against 2)
   pub k9 : registers 1 2 ≡ false
   -- K10: w 2, k 2: registered (3 against 4)
@@ -155,7 +155,7 @@ pub record Table : Type 0 where
   -- K11: w 1, k 3: registered
   pub k11 : registers 1 3 ≡ true
   -- in an archive: eight words, with the registration right before the event
-  pub k11-repacked : rule (magic ∷ elevenEvent ∷ []) ≡ eleven
+  pub k11-repacked : rule smallFormat (magic ∷ elevenEvent ∷ []) ≡ eleven
   -- that read as the same items
   pub k11-run : runOf smallFormat eleven ≡ passed 0 true (some magic) (passed 8 true none (passed 24 true (some elevenEvent) (ended 0 64)))
   -- spelled inline it is nine words
@@ -165,7 +165,7 @@ pub record Table : Type 0 where
   -- repacking takes it
   pub k11-inline-accepted : Accepted smallFormat elevenInline
   -- and writes the eight words, not a copy of its input
-  pub k11-inline-repacked : rule (itemsOf (runOf smallFormat elevenInline)) ≡ eleven
+  pub k11-inline-repacked : rule smallFormat (itemsOf (runOf smallFormat elevenInline)) ≡ eleven
   -- the written length in the reply is theirs
   pub k11-inline-written : writtenLength smallFormat elevenInline ≡ 64
   -- K12: thread used once inline
@@ -173,7 +173,7 @@ pub record Table : Type 0 where
   -- twice registered
   pub k12-twice : (t : Thread) → registers (keyWords (threadKey t)) 2 ≡ true
   -- K13: signed argument with high half FFFFFFFE reads as -2
-  pub k13 : argumentOf smallFormat (bytesOf 8 0xFFFFFFFE00000011) 0 ≡ ArgumentRead (record { name = Inline 8 0; value = Scalar (Signed32 (negsuc 1)) }) 8
+  pub k13 : argumentOf smallFormat (wordBytes (smallFormat .order) 0xFFFFFFFE00000011) 0 ≡ ArgumentRead (record { name = Inline 8 0; value = Scalar (Signed32 (negsuc 1)) }) 8
   -- the nine words: each record with its place, whether it loses nothing, and its item; 0 at 72
   pub nine-run : runOf smallFormat nine ≡ passed 0 true (some magic) (passed 8 true none (passed 24 true (some nineEvent) (ended 0 72)))
   -- the items of the listing
@@ -181,7 +181,7 @@ pub record Table : Type 0 where
   -- repacking takes them
   pub nine-accepted : refusalOf smallFormat (runOf smallFormat nine) ≡ none
   -- repacked it is nine words too, with both uses of "charge" inline
-  pub nine-repacked : rule (itemsOf (runOf smallFormat nine)) ≡ repacked
+  pub nine-repacked : rule smallFormat (itemsOf (runOf smallFormat nine)) ≡ repacked
   -- these are nine words
   pub nine-length : length repacked ≡ 72
   -- that read as the same items
@@ -189,7 +189,7 @@ pub record Table : Type 0 where
 
 -- each by computation
 pub table : Table
-unfolding little wordAt bytesOf magicBytes startsWithMagic recordWords extentOf takeWords takeStream takeText takeThread takePart takeParts
+unfolding little littleAt wordAt wordBytes bytesOf magicBytes startsWithMagic recordWords extentOf takeWords takeStream takeText takeThread takePart takeParts
     paddingZero headerScalar holdsWord argumentBody argumentOf argumentsOf numberedOf valueBytes reservedBits valuePaddingZero argumentKeeps
     argumentsKeep hasExtra extraWords isEvent layoutOf ownOf takeFields lastWord reportOf tableOf metadataOf stringOf contentOf recordOf wordsKeep
     streamKeeps reportKeeps recordKeeps belongsTo providerOf highestOf position registrationOf entryAt resolved isBad shownText shownThread

@@ -118,23 +118,23 @@ text-plain f archive Bad h e = true≢false e
 text-plain f archive (Known place long) h e = omega (arith, part-length archive place long)
 text-plain f archive (Unresolved index) h e = true≢false e
 
-thread-plain : (archive : List ℕ) (r : Resolved) → AllBytes archive → isUnresolved (threadItem (shownThread archive r)) ≡ false
-    → ThreadPlain (threadItem (shownThread archive r))
+thread-plain : (f : Format) (archive : List ℕ) (r : Resolved) → AllBytes archive → isUnresolved (threadItem (shownThread f archive r)) ≡ false
+    → ThreadPlain (threadItem (shownThread f archive r))
 unfolding shownThread
-thread-plain archive Bad bytes e = true≢false e
-thread-plain archive (Known place long) bytes e = (wordAt-lt archive place bytes, wordAt-lt archive (place + 8) bytes)
-thread-plain archive (Unresolved index) bytes e = true≢false e
+thread-plain f archive Bad bytes e = true≢false e
+thread-plain f archive (Known place long) bytes e = (wordAt-lt (f .order) archive place bytes, wordAt-lt (f .order) archive (place + 8) bytes)
+thread-plain f archive (Unresolved index) bytes e = true≢false e
 
 -- and so is what a record refers to
 referent-plain : (f : Format) (archive tables : List ℕ) (context until table : ℕ) (r : Reference) → AllBytes archive → (table ≡ 2) ⊎ (table ≡ 3)
-    → (table ≡ 2 → TextShort f r) → referentUnresolved (referentItem archive (shownReferent archive table (resolved f archive tables context table until r))) ≡ false
-    → ReferentPlain f (referentItem archive (shownReferent archive table (resolved f archive tables context table until r)))
-    × (referentTable (referentItem archive (shownReferent archive table (resolved f archive tables context table until r))) ≡ table)
+    → (table ≡ 2 → TextShort f r) → referentUnresolved (referentItem archive (shownReferent f archive table (resolved f archive tables context table until r))) ≡ false
+    → ReferentPlain f (referentItem archive (shownReferent f archive table (resolved f archive tables context table until r)))
+    × (referentTable (referentItem archive (shownReferent f archive table (resolved f archive tables context table until r))) ≡ table)
 unfolding shownReferent
 referent-plain f archive tables context until table r bytes (inl e) short =
     rw e (λ u. (text-plain f archive (resolved f archive tables context 2 until r) (resolved-short f archive tables context until r bytes (short e)) u, refl))
 referent-plain f archive tables context until table r bytes (inr e) short =
-    rw e (λ u. (thread-plain archive (resolved f archive tables context 3 until r) bytes u, refl))
+    rw e (λ u. (thread-plain f archive (resolved f archive tables context 3 until r) bytes u, refl))
 
 -- a stream that stands in the archive is as long as it says
 stream-long : (archive : List ℕ) (from to : ℕ) (x : Reference) → Inside from to x → to ≤ length archive
@@ -239,7 +239,7 @@ module _ (f : Format) (archive tables : List ℕ) (s : State) (opens : openingNu
   fits = report-fits f archive (s .place) q (ap (λ x. x .content) is)
 
   abbrev behind : ℕ
-  behind = 8 * layoutOf (wordAt (take (next - s .place) (drop (s .place) archive)) 0) .behind
+  behind = 8 * layoutOf (wordAt (f .order) (take (next - s .place) (drop (s .place) archive)) 0) .behind
 
   kept : argumentsKeep f (q .count) part (q .arguments) behind ≡ true
   unfolding reportKeeps
@@ -250,14 +250,14 @@ module _ (f : Format) (archive tables : List ℕ) (s : State) (opens : openingNu
       let two = paddingZero source (s .place) (q .second .reference) in
       let three = paddingZero source (s .place) (q .third .reference) in
       let stream = paddingZero source (s .place) (q .stream) in
-      let k0 = both-true (eqb (layoutOf (wordAt source 0) .reserved) 0) (one && (two && (three && (stream && tail)))) keeps in
+      let k0 = both-true (eqb (layoutOf (wordAt (f .order) source 0) .reserved) 0) (one && (two && (three && (stream && tail)))) keeps in
       let k1 = both-true one (two && (three && (stream && tail))) (k0 .1) in
       let k2 = both-true two (three && (stream && tail)) (k1 .1) in
       let k3 = both-true three (stream && tail) (k2 .1) in
       rw (part-behind archive (s .place) (q .arguments) next (inside .behind)) at (both-true stream tail (k3 .1) .1)
 
   abbrev shownIn : Lookup → Referent
-  shownIn x = referentItem archive (shownReferent archive (x .table) (resolved f archive tables (s .current) (x .table) (s .place) (x .reference)))
+  shownIn x = referentItem archive (shownReferent f archive (x .table) (resolved f archive tables (s .current) (x .table) (s .place) (x .reference)))
 
   report-good : GoodItem f (contextsOf s) (itemOf f archive tables (moved s next) (ReportShown (shownAt f archive tables s q)))
   unfolding itemOf shownReport

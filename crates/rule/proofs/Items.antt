@@ -128,11 +128,11 @@ module _ (f : Format) (archive tables : List ℕ) (s : State) (sound : Sound f a
       })
 
   provider-info-shown : (index : Key → ℕ) (id : ℕ) (name : List ℕ) → PiecesFit f index (layoutOfItem (providerInfo id name) .pieces) → entering (contextsOf s) id 0 .ninth ≡ false
-      → At archive (s .place) (itemRecord index (providerInfo id name)) → (next : ℕ)
+      → At archive (s .place) (itemRecord f index (providerInfo id name)) → (next : ℕ)
       → ShownAs f archive tables (providerInfo id name) next (contentDecision f archive tables s (ProviderInfo id (s .place + 8) (length name)) next)
   unfolding contentDecision noneBad plainAnswer effectOf itemOf
   provider-info-shown index id name fit no-ninth at next =
-      let spelled = pieces-spelled index (layoutOfItem (providerInfo id name)) f archive (s .place) fit at in
+      let spelled = pieces-spelled f index (layoutOfItem (providerInfo id name)) archive (s .place) fit at in
       let is = part-is archive (s .place + 8) (length name) name refl (spelled .0 .1) in
       let shown = ProviderInfoShown id (s .place + 8) (length name) in
       rw (entering-decided f s id next shown) (entering-shown id next shown (providerInfo id name) no-ninth (λ t. rw is))
@@ -164,7 +164,7 @@ provider-moved s = refl
 -- the event that a step shows
 abbrev pub shownAt : Format → List ℕ → List ℕ → State → ReadReport → ShownReport
 shownAt f archive tables s q =
-    shownReport archive s q (resolved f archive tables (s .current) (q .first .table) (s .place) (q .first .reference))
+    shownReport f archive s q (resolved f archive tables (s .current) (q .first .table) (s .place) (q .first .reference))
     (resolved f archive tables (s .current) (q .second .table) (s .place) (q .second .reference))
     (resolved f archive tables (s .current) (q .third .table) (s .place) (q .third .reference))
 
@@ -179,28 +179,28 @@ report-decided f archive tables s q next sound k is =
     (fits .first .table, (fits .second .table, (fits .third .table, argument-tables (argumentsTo f archive q next)))))
 
 -- what is left of a record behind its pieces
-layout-part : (index : Key → ℕ) (l : ItemLayout) (archive : List ℕ) (place : ℕ) → At archive place (layoutRecord index l)
-    → take (place + length (layoutRecord index l) - (place + 8 + length (partsBytes (encodedPieces index (l .pieces)))))
-    (drop (place + 8 + length (partsBytes (encodedPieces index (l .pieces)))) archive)
-    ≡ behindPieces index l
-layout-part index l archive place at =
-    let first = place + 8 + length (partsBytes (encodedPieces index (l .pieces))) in
-    let there = behind-at index l archive place at in
-    let left : place + length (layoutRecord index l) - first ≡ length (behindPieces index l) = omega (arith, length-all index l) in
-    rw (left, there .1, take-append-seam (behindPieces index l) (there .0))
+layout-part : (f : Format) (index : Key → ℕ) (l : ItemLayout) (archive : List ℕ) (place : ℕ) → At archive place (layoutRecord f index l)
+    → take (place + length (layoutRecord f index l) - (place + 8 + length (partsBytes f (encodedPieces index (l .pieces)))))
+    (drop (place + 8 + length (partsBytes f (encodedPieces index (l .pieces)))) archive)
+    ≡ behindPieces f index l
+layout-part f index l archive place at =
+    let first = place + 8 + length (partsBytes f (encodedPieces index (l .pieces))) in
+    let there = behind-at f index l archive place at in
+    let left : place + length (layoutRecord f index l) - first ≡ length (behindPieces f index l) = omega (arith, length-all f index l) in
+    rw (left, there .1, take-append-seam (behindPieces f index l) (there .0))
 
 module _ (f : Format) (archive tables : List ℕ) (s : State) (entries : List Entry) (e : Report)
     (opens : openingNumber f archive (length tables) ≡ 0) (sound : Sound f archive s tables) (stands : Every (Standing f archive s tables) entries)
     (suits : ItemSuits (contextsOf s) (report e)) (fit : ItemFits f (indexIn entries (e .provider)) (report e))
-    (at : At archive (s .place) (reportRecord (indexIn entries (e .provider)) e)) where
+    (at : At archive (s .place) (reportRecord f (indexIn entries (e .provider)) e)) where
   abbrev index : Key → ℕ
   index = indexIn entries (e .provider)
 
   abbrev next : ℕ
-  next = s .place + length (reportRecord index e)
+  next = s .place + length (reportRecord f index e)
 
   abbrev read : ReadReport
-  read = reportAt index e (s .place)
+  read = reportAt f index e (s .place)
 
   own : ContextIs s (e .provider) (s .current)
   own = suits-context s (e .provider) (sound .current) (suits .0)
@@ -213,7 +213,7 @@ module _ (f : Format) (archive tables : List ℕ) (s : State) (entries : List En
   decided =
       report-decided f archive tables s read next sound (ap (λ x. x .content) is)
       (decision-is f archive tables s (ReportRead read) next opens sound
-      (not-end archive (s .place) (reportRecord index e) at (item-long index (report e))) is)
+      (not-end archive (s .place) (reportRecord f index e) at (item-long f index (report e))) is)
 
   later : Sound f archive (moved s next) tables
   unfolding changed
@@ -222,13 +222,13 @@ module _ (f : Format) (archive tables : List ℕ) (s : State) (entries : List En
   grown : Grown s (moved s next)
   grown = rw decided at (step-grows f archive tables s)
 
-  behind : At archive (read .arguments) (behindPieces index (reportLayout e))
-  behind = behind-at index (reportLayout e) archive (s .place) at
+  behind : At archive (read .arguments) (behindPieces f index (reportLayout e))
+  behind = behind-at f index (reportLayout e) archive (s .place) at
 
   arguments : argumentItems f archive tables (moved s next) (s .place) 0 (length (e .arguments)) ≡ some (e .arguments)
   arguments =
-      let l = argumentsRecords index (e .arguments) in
-      let x = wordsBytes (lastWords (ownLayout (e .own) .behind) (e .last)) in
+      let l = argumentsRecords f index (e .arguments) in
+      let x = wordsBytes f (lastWords (ownLayout (e .own) .behind) (e .last)) in
       let first = read .arguments in
       arguments-shown f archive tables (moved s next) entries (e .provider) later (context-later s (moved s next) grown (e .provider) (s .current) own)
       (stand-later f archive s (moved s next) tables grown entries stands) (s .place) (length (e .arguments)) first
@@ -236,7 +236,7 @@ module _ (f : Format) (archive tables : List ℕ) (s : State) (entries : List En
       (λ n low. asked-is f archive tables (moved s next) (s .place) n read later opens (sound .whole) is low)
       (e .arguments) 0 first (fit .layout .arguments) (all-sized index (e .arguments) (omega (arith, fit .layout .size)))
       (arguments-spelled f index archive first (e .arguments) (fit .layout .arguments) (at-left archive first l x behind)) (omega arith)
-      (λ k. rw (zero-add k, layout-part index (reportLayout e) archive (s .place) at))
+      (λ k. rw (zero-add k, layout-part f index (reportLayout e) archive (s .place) at))
 
   report-shown : ShownAs f archive tables (report e) next (decisionOf f archive tables s)
   unfolding changed itemOf shownReport
@@ -256,7 +256,7 @@ module _ (f : Format) (archive tables : List ℕ) (s : State) (entries : List En
               (fit .layout .pieces .1 .1 .0) (spelled .tables .1) (spelled .second),
           referent-shown f archive tables s entries (e .provider) (s .current) (s .place) sound own (omega arith) stands (e .third) (read .third .table) (read .third .reference)
               (fit .layout .pieces .1 .1 .1 .0) (spelled .tables .2) (spelled .third),
-          stream-shown archive (e .stream) (read .stream) (spelled .stream),
+          stream-shown f archive (e .stream) (read .stream) (spelled .stream),
         );
       })
 
@@ -264,20 +264,20 @@ module _ (f : Format) (archive tables : List ℕ) (s : State) (entries : List En
 
 module _ (f : Format) (archive tables : List ℕ) (s : State) (entries : List Entry) (opens : openingNumber f archive (length tables) ≡ 0)
     (sound : Sound f archive s tables) (stands : Every (Standing f archive s tables) entries) where
-  by-record : (index : Key → ℕ) (i : Item) (c : Content) → ItemFits f index i → At archive (s .place) (itemRecord index i)
-      → contentOf f (itemRecord index i) (s .place) ≡ c
+  by-record : (index : Key → ℕ) (i : Item) (c : Content) → ItemFits f index i → At archive (s .place) (itemRecord f index i)
+      → contentOf f (itemRecord f index i) (s .place) ≡ c
       → ((next : ℕ) → ShownAs f archive tables i next (contentDecision f archive tables s c next))
-      → ShownAs f archive tables i (s .place + length (itemRecord index i)) (decisionOf f archive tables s)
+      → ShownAs f archive tables i (s .place + length (itemRecord f index i)) (decisionOf f archive tables s)
   by-record index i c fit at is shown =
-      let next = s .place + length (itemRecord index i) in
-      let more = not-end archive (s .place) (itemRecord index i) at (item-long index i) in
+      let next = s .place + length (itemRecord f index i) in
+      let more = not-end archive (s .place) (itemRecord f index i) at (item-long f index i) in
       let there : recordAt f archive (s .place) ≡ record { content = c; next = next } = rw is at (item-stands f index archive (s .place) i fit at) in
       rw (decision-is f archive tables s c next opens sound more there) (shown next)
 
   -- a step over an item's record shows it
   pub item-shown : (i : Item) → ItemSuits (contextsOf s) i → ItemFits f (indexIn entries (itemProvider i)) i
-      → At archive (s .place) (itemRecord (indexIn entries (itemProvider i)) i)
-      → ShownAs f archive tables i (s .place + length (itemRecord (indexIn entries (itemProvider i)) i)) (decisionOf f archive tables s)
+      → At archive (s .place) (itemRecord f (indexIn entries (itemProvider i)) i)
+      → ShownAs f archive tables i (s .place + length (itemRecord f (indexIn entries (itemProvider i)) i)) (decisionOf f archive tables s)
   item-shown magic suits fit at =
       let index = indexIn entries none in
       by-record index magic Magic fit at (magic-read f index (s .place)) (λ next. plain-shown f archive tables s sound next .0)

@@ -9,6 +9,7 @@ use native.Mathlib.Omega.{arith}
 use lib.Dec.{eqb}
 use lib.ListN.{length, length-append}
 use borrow.Author.Tests.{ne-eqb}
+use Rattle.format.specs.declared.Format.{Format}
 use Rattle.registering.proofs.Best.{best, costInOrder, useCost, cost-append, lower, attained}
 use Rattle.registering.proofs.Counting.{fresh, seenAfter, sum-scale, sum-append, member-after, seen-again, sum-members}
 use Rattle.registering.specs.Registers.{registers}
@@ -49,11 +50,11 @@ spelledWords index u = cond (eqb (index (u .provider) (u .key)) 0) (keyWords (u 
 -- ---- one record
 
 -- the record that registers a key has a word more than the key takes inline
-pub length-key-record : (index : ℕ) (k : Key) → length (keyRecord index k) ≡ 8 * (1 + keyWords k)
-length-key-record index (textKey b) =
-    omega (arith, length-record 2 (index of 15 ∷ 0 of 1 ∷ length b of 15 ∷ 0 of 17 ∷ []) (padded b), length-padded b)
-length-key-record index (threadKey t) =
-    omega (arith, length-record 3 (index of 8 ∷ 0 of 40 ∷ []) (partBytes (threadInline t)), length-part (threadInline t))
+pub length-key-record : (f : Format) (index : ℕ) (k : Key) → length (keyRecord f index k) ≡ 8 * (1 + keyWords k)
+length-key-record f index (textKey b) =
+    omega (arith, length-record f 2 (index of 15 ∷ 0 of 1 ∷ length b of 15 ∷ 0 of 17 ∷ []) (padded b), length-padded b)
+length-key-record f index (threadKey t) =
+    omega (arith, length-record f 3 (index of 8 ∷ 0 of 40 ∷ []) (partBytes f (threadInline t)), length-part f (threadInline t))
 
 module _ (index : Option ℕ → Key → ℕ) where
   text-words : (provider : Option ℕ) (t : Text)
@@ -123,8 +124,8 @@ module _ (index : Option ℕ → Key → ℕ) where
       )
 
   -- and so an item's
-  pub length-item : (i : Item) → length (itemRecord (index (itemProvider i)) i) ≡ 8 * (fixedWords i + sumBy (spelledWords index) (usesOf i))
-  length-item i = omega (arith, length-layout (index (itemProvider i)) (layoutOfItem i), layout-words (layoutOfItem i))
+  pub length-item : (f : Format) (i : Item) → length (itemRecord f (index (itemProvider i)) i) ≡ 8 * (fixedWords i + sumBy (spelledWords index) (usesOf i))
+  length-item f i = omega (arith, length-layout f (index (itemProvider i)) (layoutOfItem i), layout-words (layoutOfItem i))
 
 -- ---- the table of registrations
 
@@ -180,28 +181,28 @@ module _ (chosen : Use → Bool) where
   leftInline u = cond (chosen u) 0 (inlineWords u)
 
   -- one use costs its registration, where it is new, and what it takes inline
-  use-length : (entries : List Entry) (seen : List Use) (u : Use) → Registered entries seen
-      → length (useBytes chosen entries u) + 8 * leftInline u ≡ 8 * useCost sameUse inlineWords registerWords chosen seen u
-  use-length entries seen u r =
+  use-length : (f : Format) (entries : List Entry) (seen : List Use) (u : Use) → Registered entries seen
+      → length (useBytes f chosen entries u) + 8 * leftInline u ≡ 8 * useCost sameUse inlineWords registerWords chosen seen u
+  use-length f entries seen u r =
       rw (is-new entries seen u r)
       (cases (chosen u)
       (λ c. rw c
       (cases (member sameUse u seen)
       (λ m. rw m)
-      (λ m. rw m (omega (arith, length-key-record (nextIndex entries u) (u .key))))))
+      (λ m. rw m (omega (arith, length-key-record f (nextIndex entries u) (u .key))))))
       (λ c. rw c (omega arith)))
 
   -- registrations and what is inline behind them cost the uses in order
-  pub length-registrations : (entries : List Entry) (seen us : List Use) → Registered entries seen
-      → length (registrations chosen entries us) + 8 * sumBy leftInline us
+  pub length-registrations : (f : Format) (entries : List Entry) (seen us : List Use) → Registered entries seen
+      → length (registrations f chosen entries us) + 8 * sumBy leftInline us
       ≡ 8 * costInOrder sameUse inlineWords registerWords chosen seen us
-  length-registrations entries seen [] r = refl
-  length-registrations entries seen (u ∷ us) r =
+  length-registrations f entries seen [] r = refl
+  length-registrations f entries seen (u ∷ us) r =
       omega (
         arith,
-        length-append (useBytes chosen entries u) (registrations chosen (withUse chosen entries u) us),
-        use-length entries seen u r,
-        length-registrations (withUse chosen entries u) (u ∷ seen) us (use-registered entries seen u r),
+        length-append (useBytes f chosen entries u) (registrations f chosen (withUse chosen entries u) us),
+        use-length f entries seen u r,
+        length-registrations f (withUse chosen entries u) (u ∷ seen) us (use-registered entries seen u r),
       )
 
   -- behind their registrations exactly the uses of other keys are inline
@@ -215,59 +216,59 @@ module _ (chosen : Use → Bool) where
   -- ---- all items
 
   -- items and the registrations before them take the items' fixed words, and the cost of their uses in order
-  pub length-records : (entries : List Entry) (seen : List Use) (items : List Item) → Registered entries seen
-      → length (recordsFrom chosen entries items)
+  pub length-records : (f : Format) (entries : List Entry) (seen : List Use) (items : List Item) → Registered entries seen
+      → length (recordsFrom f chosen entries items)
       ≡ 8 * (sumBy fixedWords items + costInOrder sameUse inlineWords registerWords chosen seen (usesAll items))
-  length-records entries seen [] r = refl
-  length-records entries seen (i ∷ items) r =
+  length-records f entries seen [] r = refl
+  length-records f entries seen (i ∷ items) r =
       let us = usesOf i in
       let after = entriesAfter chosen entries us in
-      let first = registrations chosen entries us in
-      let own = itemRecord (indexIn after (itemProvider i)) i in
-      let others = recordsFrom chosen after items in
+      let first = registrations f chosen entries us in
+      let own = itemRecord f (indexIn after (itemProvider i)) i in
+      let others = recordsFrom f chosen after items in
       omega (
         arith,
         length-append first (own ++ others),
         length-append own others,
-        length-registrations entries seen us r,
+        length-registrations f entries seen us r,
         inline-after entries seen us r,
-        length-item (indexIn after) i,
-        length-records after (seenAfter seen us) items (uses-registered entries seen us r),
+        length-item (indexIn after) f i,
+        length-records f after (seenAfter seen us) items (uses-registered entries seen us r),
         cost-append sameUse inlineWords registerWords chosen seen us (usesAll items),
       )
 
 -- the bytes that the rule gives for any items are their fixed words and the least cost of their uses
-pub rule-length : (items : List Item) → length (rule items) ≡ 8 * (sumBy fixedWords items + bestWords (usesAll items))
+pub rule-length : (f : Format) (items : List Item) → length (rule f items) ≡ 8 * (sumBy fixedWords items + bestWords (usesAll items))
 unfolding rule registers
-rule-length items =
+rule-length f items =
     let uses = usesAll items in
     let chosen = chosenIn uses in
     omega (
       arith,
-      length-records chosen [] [] items (none-registered chosen),
+      length-records chosen f [] [] items (none-registered chosen),
       attained sameUse same-use-eq same-use-refl inlineWords registerWords uses,
     )
 
 -- and whatever an archive registers, with those registrations and all other uses inline it is no shorter
-pub rule-least : (items : List Item) (registered : List Use)
-    → length (rule items)
+pub rule-least : (f : Format) (items : List Item) (registered : List Use)
+    → length (rule f items)
     ≤ 8 * (sumBy fixedWords items + (sumBy registerWords registered + sumBy (fresh sameUse inlineWords registered) (usesAll items)))
-rule-least items registered =
+rule-least f items registered =
     omega (
       arith,
-      rule-length items,
+      rule-length f items,
       lower sameUse same-use-eq same-use-refl inlineWords registerWords registered (usesAll items),
     )
 
 -- the same in bytes, as any archive's length is counted
-pub rule-least-bytes : (items : List Item) (registered : List Use)
-    → length (rule items)
+pub rule-least-bytes : (f : Format) (items : List Item) (registered : List Use)
+    → length (rule f items)
     ≤ 8 * sumBy fixedWords items + sumBy (λ (u : Use). 8 * (1 + keyWords (u .key))) registered
     + sumBy (λ (u : Use). cond (member sameUse u registered) 0 (8 * keyWords (u .key))) (usesAll items)
-rule-least-bytes items registered =
+rule-least-bytes f items registered =
     omega (
       arith,
-      rule-least items registered,
+      rule-least f items registered,
       sum-scale 8 registerWords (λ (u : Use). 8 * (1 + keyWords (u .key))) registered (λ u. refl),
       sum-scale 8 (fresh sameUse inlineWords registered)
           (λ (u : Use). cond (member sameUse u registered) 0 (8 * keyWords (u .key))) (usesAll items)

@@ -92,10 +92,10 @@ module _ (f : Format) (b : List ℕ) where
       → Holds f b (s .ids) (s .count) tables cost → recordAt f b (s .place) .content ≡ ReportRead e → s .place ≤ e .arguments
       → ReportFits f (take size (drop (s .place) b)) (s .place) e
       → contentBytes f (take size (drop (s .place) b)) (s .place) (ReportRead e) ≤ size
-      → SizeShown (take size (drop (s .place) b)) (ReportRead e)
+      → SizeShown f (take size (drop (s .place) b)) (ReportRead e)
       → ItemPays cost size
       (reportItem b
-      (shownReport b s e (resolved f b tables (s .current) (e .first .table) (s .place) (e .first .reference))
+      (shownReport f b s e (resolved f b tables (s .current) (e .first .table) (s .place) (e .first .reference))
       (resolved f b tables (s .current) (e .second .table) (s .place) (e .second .reference))
       (resolved f b tables (s .current) (e .third .table) (s .place) (e .third .reference)))
       (argumentItems f b tables (moved s (s .place + size)) (s .place) 0 (e .count)))
@@ -118,12 +118,12 @@ module _ (f : Format) (b : List ℕ) where
           (argumentsPart b (s .place + size) e) (e .arguments) (λ k. rw (zero-add k)))
 
       of-arguments : (q : Arguments) → AllRead q
-          → 8 + 8 * layoutOf (wordAt (take size (drop (s .place) b)) 0) .words + inlineBytes (e .first .reference) + inlineBytes (e .second .reference)
+          → 8 + 8 * layoutOf (wordAt (f .order) (take size (drop (s .place) b)) 0) .words + inlineBytes (e .first .reference) + inlineBytes (e .second .reference)
           + inlineBytes (e .third .reference) + inlineBytes (e .stream) + argumentsBytes (listed q)
-          + 8 * layoutOf (wordAt (take size (drop (s .place) b)) 0) .behind ≤ size
+          + 8 * layoutOf (wordAt (f .order) (take size (drop (s .place) b)) 0) .behind ≤ size
           → (o : Option (List ArgumentItem)) → ItemsPay cost (providerIn (s .ids) context) q o
           → ItemPays cost size (reportItem b
-          (shownReport b s e (resolved f b tables (s .current) (e .first .table) (s .place) (e .first .reference))
+          (shownReport f b s e (resolved f b tables (s .current) (e .first .table) (s .place) (e .first .reference))
           (resolved f b tables (s .current) (e .second .table) (s .place) (e .second .reference))
           (resolved f b tables (s .current) (e .third .table) (s .place) (e .third .reference))) o)
       of-arguments q a h none k = tt
@@ -150,7 +150,7 @@ module _ (f : Format) (b : List ℕ) where
           stream-pays (Index i) = omega (arith, part-length b 0 0)
 
           shown : Lookup → List Use
-          shown x = referentUses (providerIn (s .ids) context) (referentItem b (shownReferent b (x .table) (resolved f b tables context (x .table) (s .place) (x .reference))))
+          shown x = referentUses (providerIn (s .ids) context) (referentItem b (shownReferent f b (x .table) (resolved f b tables context (x .table) (s .place) (x .reference))))
 
           one : List Use
           one = shown (e .first)
@@ -195,7 +195,7 @@ module _ (f : Format) (b : List ℕ) where
 
   -- a step that registers a key
   registers-key : (s : State) (tables : List ℕ) (size table index at long : ℕ) → Sound f b s tables → IsTable table → index ≤ highestOf f table
-      → registrationOf (recordAt f b (s .place) .content) ≡ Entry table index at long → 8 * (1 + keyWords (keyAt b table at long)) ≤ size
+      → registrationOf (recordAt f b (s .place) .content) ≡ Entry table index at long → 8 * (1 + keyWords (keyAt f b table at long)) ≤ size
       → Stepped s tables (registering f s table index (s .place + size))
   unfolding Stepped Paid registering itemOf changed
   registers-key s tables size table index at long h k i r c end l p = (
@@ -209,7 +209,7 @@ module _ (f : Format) (b : List ℕ) where
   )
     where
       u : Use
-      u = record { provider = providerIn (s .ids) (s .current); key = keyAt b table at long }
+      u = record { provider = providerIn (s .ids) (s .current); key = keyAt f b table at long }
 
   module _ (s : State) (tables : List ℕ) (sound : Sound f b s tables) (size : ℕ)
       (r : RecordStands f b (s .place) size (recordAt f b (s .place))) where
@@ -230,11 +230,11 @@ module _ (f : Format) (b : List ℕ) where
 
     -- a record that is shown
     report-shows : (e : ReadReport) → recordAt f b (s .place) .content ≡ ReportRead e → contentBytes f source (s .place) (ReportRead e) ≤ size
-        → ReportFits f source (s .place) e → s .place ≤ e .arguments → SizeShown source (ReportRead e)
+        → ReportFits f source (s .place) e → s .place ≤ e .arguments → SizeShown f source (ReportRead e)
         → Stepped s tables
         (showing s
         (ReportShown
-        (shownReport b s e (resolved f b tables (s .current) (e .first .table) (s .place) (e .first .reference))
+        (shownReport f b s e (resolved f b tables (s .current) (e .first .table) (s .place) (e .first .reference))
         (resolved f b tables (s .current) (e .second .table) (s .place) (e .second .reference))
         (resolved f b tables (s .current) (e .third .table) (s .place) (e .third .reference))))
         (s .place + size))
@@ -242,7 +242,7 @@ module _ (f : Format) (b : List ℕ) where
     report-shows e is pays fits behind own =
         moves s (moved s (s .place + size)) tables size
         (reportItem b
-        (shownReport b s e (resolved f b tables (s .current) (e .first .table) (s .place) (e .first .reference))
+        (shownReport f b s e (resolved f b tables (s .current) (e .first .table) (s .place) (e .first .reference))
         (resolved f b tables (s .current) (e .second .table) (s .place) (e .second .reference))
         (resolved f b tables (s .current) (e .third .table) (s .place) (e .third .reference)))
         (argumentItems f b tables (moved s (s .place + size)) (s .place) 0 (e .count)))
@@ -250,7 +250,7 @@ module _ (f : Format) (b : List ℕ) where
 
     -- an event
     report-steps : (e : ReadReport) → recordAt f b (s .place) .content ≡ ReportRead e → contentBytes f source (s .place) (ReportRead e) ≤ size
-        → ReportFits f source (s .place) e → s .place ≤ e .arguments → SizeShown source (ReportRead e)
+        → ReportFits f source (s .place) e → s .place ≤ e .arguments → SizeShown f source (ReportRead e)
         → Stepped s tables (contentDecision f b tables s (ReportRead e) (s .place + size))
     unfolding contentDecision effectDecision reportAnswer followed changeOf effectOf source
     report-steps e is pays fits behind own =
@@ -259,7 +259,7 @@ module _ (f : Format) (b : List ℕ) where
 
     -- a step by what stands in its record
     content-steps : (c : Content) → recordAt f b (s .place) .content ≡ c → contentBytes f source (s .place) c ≤ size
-        → ContentFits f source (s .place) c → ContentInside (s .place) (s .place + size) c → SizeShown source c
+        → ContentFits f source (s .place) c → ContentInside (s .place) (s .place + size) c → SizeShown f source c
         → Stepped s tables (contentDecision f b tables s c (s .place + size))
     unfolding contentDecision effectDecision plainAnswer noneBad followed changeOf effectOf registering Stepped itemOf changed registrationOf source
     content-steps (Refused number) e p h i n =
@@ -284,10 +284,10 @@ module _ (f : Format) (b : List ℕ) where
     content-steps Ignored e p h i n = moves s (moved s (s .place + size)) tables size none refl (λ cost held. held) (λ cost le held. tt)
     content-steps (Skipped type long) e p h i n =
         moves s (moved s (s .place + size)) tables size (some (skipped type long)) refl (λ cost held. held)
-        (λ cost le held. omega (arith, n, w .is, w .some, length-replicate {A = ℕ} (long - 1) 0, ap recordWords (wordAt-take (drop (s .place) b) 0 size (w .some))))
+        (λ cost le held. omega (arith, n, w .is, w .some, length-replicate {A = ℕ} (long - 1) 0, ap recordWords (wordAt-take (f .order) (drop (s .place) b) 0 size (w .some))))
       where
-        w : Whole (drop (s .place) b) size
-        w = extent-read (drop (s .place) b) size (r .extent)
+        w : Whole f (drop (s .place) b) size
+        w = extent-read f (drop (s .place) b) size (r .extent)
 
   -- every step from a sound state
   step-pays : (s : State) (tables : List ℕ) → Sound f b s tables → Stepped s tables (decisionOf f b tables s)
@@ -310,7 +310,7 @@ module _ (f : Format) (b : List ℕ) where
           let fits : RecordNumber number = rw e at whole in
           rw (e, stop-decided f s number (s .place) Nothing (fits .stops)) (stays s tables number (s .place))
       of-record (inr (size, r)) =
-          let long = length-take-le size (drop (s .place) b) (extent-read (drop (s .place) b) size (r .extent) .inside) in
+          let long = length-take-le size (drop (s .place) b) (extent-read f (drop (s .place) b) size (r .extent) .inside) in
           let word : 8 ≤ length (take size (drop (s .place) b)) = omega (arith, long, r .some) in
           rw (r .next)
           (content-steps s tables sound size r (recordAt f b (s .place) .content) refl (r .pays)

@@ -127,9 +127,9 @@ provider-kept ids count id context h =
     (λ e. let z = eqb-false context 0 e in rw (e, getD-set-other ids count (context - 1) id 0 (λ q. omega arith)))
 
 -- the key that a registration in a table has at a place
-abbrev pub keyAt : List ℕ → ℕ → ℕ → ℕ → Key
-keyAt b table place long =
-    pick (eqb table 3) (threadKey (thread (wordAt b place) (wordAt b (place + 8)))) (textKey (partOf b place long))
+abbrev pub keyAt : Format → List ℕ → ℕ → ℕ → ℕ → Key
+keyAt f b table place long =
+    pick (eqb table 3) (threadKey (thread (wordAt (f .order) b place) (wordAt (f .order) b (place + 8)))) (textKey (partOf b place long))
 
 module _ (f : Format) (b : List ℕ) where
   -- the use of every key that an entry has, in its context, costs nothing
@@ -138,7 +138,7 @@ module _ (f : Format) (b : List ℕ) where
       (context table index at long : ℕ) → context ≤ count → IsTable table → index ≤ highestOf f table
       → (getD tables (position f context table index) 0 ≡ 0 → ⊥)
       → registrationOf (recordAt f b (getD tables (position f context table index) 0) .content) ≡ Entry table index at long
-      → cost (record { provider = providerIn ids context; key = keyAt b table at long }) ≡ 0
+      → cost (record { provider = providerIn ids context; key = keyAt f b table at long }) ≡ 0
 
   -- they still cost nothing where an id is new, whose context has no entry yet
   pub holds-new : (s : State) (tables : List ℕ) (id : ℕ) (cost : Use → ℕ) → Sound f b s tables → (s .count ≡ 8 → ⊥)
@@ -156,7 +156,7 @@ module _ (f : Format) (b : List ℕ) where
   -- and where an entry is set, whose use costs nothing
   pub holds-set : (s : State) (tables : List ℕ) (table index at long : ℕ) (cost : Use → ℕ) → Sound f b s tables → IsTable table
       → index ≤ highestOf f table → registrationOf (recordAt f b (s .place) .content) ≡ Entry table index at long
-      → cost (record { provider = providerIn (s .ids) (s .current); key = keyAt b table at long }) ≡ 0
+      → cost (record { provider = providerIn (s .ids) (s .current); key = keyAt f b table at long }) ≡ 0
       → Holds (s .ids) (s .count) tables cost
       → Holds (s .ids) (s .count) (set tables (position f (s .current) table index) (s .place)) cost
   holds-set s tables table index at long cost h k i r m held context table′ index′ at′ long′ c k′ i′ n r′ =
@@ -173,7 +173,7 @@ module _ (f : Format) (b : List ℕ) where
       inside : here < length tables
       inside = omega (arith, h .room, position-lt f (s .current) table index (omega (arith, h .current, h .count)) i)
 
-      same : p ≡ here → cost (record { provider = providerIn (s .ids) context; key = keyAt b table′ at′ long′ }) ≡ 0
+      same : p ≡ here → cost (record { provider = providerIn (s .ids) context; key = keyAt f b table′ at′ long′ }) ≡ 0
       same e =
           let a = position-apart f context table′ index′ (s .current) table index k′ k i′ i e in
           let q : registrationOf (recordAt f b (s .place) .content) ≡ Entry table′ index′ at′ long′ =
@@ -212,36 +212,36 @@ module _ (f : Format) (b : List ℕ) where
 
     -- a thread that is found by its index costs nothing
     thread-found : (until index : ℕ)
-        → sumBy cost (threadUses (providerIn ids context) (threadItem (shownThread b (resolved f b tables context 3 until (Index index))))) ≡ 0
+        → sumBy cost (threadUses (providerIn ids context) (threadItem (shownThread f b (resolved f b tables context 3 until (Index index))))) ≡ 0
     unfolding shownThread
     thread-found until index = go (resolved f b tables context 3 until (Index index)) refl
       where
         go : (x : Resolved) → resolved f b tables context 3 until (Index index) ≡ x
-            → sumBy cost (threadUses (providerIn ids context) (threadItem (shownThread b x))) ≡ 0
+            → sumBy cost (threadUses (providerIn ids context) (threadItem (shownThread f b x))) ≡ 0
         go Bad e = refl
         go (Known place long) e =
             let r = resolved-known f b tables context 3 index until place long e in
-            thread-registered cost (providerIn ids context) (thread (wordAt b place) (wordAt b (place + 8)))
+            thread-registered cost (providerIn ids context) (thread (wordAt (f .order) b place) (wordAt (f .order) b (place + 8)))
             (held context 3 index place long low (inr refl) (r .low) (r .is-set) (r .known .registers))
         go (Unresolved number) e = refl
 
     -- a thread costs no more than it has inline
     pub thread-pays : (until : ℕ) (r : Reference) → ThreadReference r
-        → sumBy cost (threadUses (providerIn ids context) (threadItem (shownThread b (resolved f b tables context 3 until r)))) ≤ inlineBytes r
+        → sumBy cost (threadUses (providerIn ids context) (threadItem (shownThread f b (resolved f b tables context 3 until r)))) ≤ inlineBytes r
     unfolding resolved shownThread
     thread-pays until (Inline place long) e =
-        rw e (thread-inline cost le (providerIn ids context) (thread (wordAt b place) (wordAt b (place + 8))))
+        rw e (thread-inline cost le (providerIn ids context) (thread (wordAt (f .order) b place) (wordAt (f .order) b (place + 8))))
     thread-pays until (Index index) e = omega (arith, thread-found until index)
 
     -- what a record refers to costs no more than it has inline
     pub referent-pays : (until : ℕ) (s : Lookup) → LookupFits s
-        → sumBy cost (referentUses (providerIn ids context) (referentItem b (shownReferent b (s .table) (resolved f b tables context (s .table) until (s .reference)))))
+        → sumBy cost (referentUses (providerIn ids context) (referentItem b (shownReferent f b (s .table) (resolved f b tables context (s .table) until (s .reference)))))
         ≤ inlineBytes (s .reference)
     unfolding shownReferent
     referent-pays until s fit = go (fit .table)
       where
         go : (s .table ≡ 2) ⊎ (s .table ≡ 3)
-            → sumBy cost (referentUses (providerIn ids context) (referentItem b (shownReferent b (s .table) (resolved f b tables context (s .table) until (s .reference)))))
+            → sumBy cost (referentUses (providerIn ids context) (referentItem b (shownReferent f b (s .table) (resolved f b tables context (s .table) until (s .reference)))))
             ≤ inlineBytes (s .reference)
         go (inl e) = rw e (text-pays until (s .reference))
         go (inr e) = rw e (thread-pays until (s .reference) (fit .thread e))

@@ -13,7 +13,6 @@ use lib.Seq.{drop-drop, drop-append-seam, take-append-seam, getD-set-same}
 use Rattle.effects.specs.Follow.{changed, followed, changeOf}
 use Rattle.reader.proofs.Changes.{registering}
 use Rattle.words.proofs.Tests.{cases}
-use Rattle.words.specs.Word.{bytesOf}
 use Rattle.words.specs.Stream.{magic as magicBytes, startsWithMagic}
 use Rattle.words.proofs.Words.{At}
 use Rattle.format.specs.declared.Format.{Format}
@@ -42,7 +41,7 @@ use Rattle.rule.proofs.WholeRuns.{run-ends, run-passes, run-shows}
 use Rattle.rule.proofs.Tables.{keyTable, Made, Every}
 use Rattle.rule.proofs.Entries.{ContextIs, suits-context, context-later, KeyFits, keyContent, key-index, key-long, key-stands, Standing, stand-later, stand-set}
 use Rattle.encoding.proofs.EncodedLayouts.{ItemFits}
-use Rattle.encoding.proofs.EncodedItems.{item-long, item-stands}
+use Rattle.encoding.proofs.EncodedItems.{magic-record, item-long, item-stands}
 use Rattle.encoding.proofs.EncodedKeeps.{string-keeps, thread-keeps, item-keeps}
 use Rattle.rule.proofs.Items.{ItemSuits, decision-is, end-is, not-end, item-shown}
 
@@ -77,7 +76,7 @@ pub record Writable (f : Format) (items : List Item) : Type 0 where
   pub starts : Starts items
   pub suits : AllSuit opening items
   pub fits : AllFit f (chosenIn (usesAll items)) [] items
-  pub short : length (rule items) ≤ longestArchive
+  pub short : length (rule f items) ≤ longestArchive
 
 -- ---- the providers of an item's uses
 
@@ -206,19 +205,19 @@ key-decides f archive tables s index next (threadKey t) = refl
 
 -- and that it loses nothing
 key-loses-nothing : (f : Format) (index place : ℕ) (key : Key) → KeyFits f index key
-    → recordKeeps f (keyRecord index key) place (keyContent index place key) ≡ true
+    → recordKeeps f (keyRecord f index key) place (keyContent index place key) ≡ true
 key-loses-nothing f index place (textKey bytes) fit = string-keeps f index bytes place fit
 key-loses-nothing f index place (threadKey (thread p t)) fit = thread-keeps f index (thread p t) place (fit .1)
 
 -- one registration: a step that shows nothing, and sets the entry of the use's context, table and index
 module _ (f : Format) (archive : List ℕ) (s : State) (tables : List ℕ) (entries : List Entry) (u : Use) (sync : Synced f archive s tables entries)
     (some-place : 0 < s .place) (current : ContextIs s (u .provider) (s .current)) (fit : KeyFits f (nextIndex entries u) (u .key))
-    (there : At archive (s .place) (keyRecord (nextIndex entries u) (u .key))) where
+    (there : At archive (s .place) (keyRecord f (nextIndex entries u) (u .key))) where
   abbrev n : ℕ
   n = nextIndex entries u
 
   abbrev next : ℕ
-  next = s .place + length (keyRecord n (u .key))
+  next = s .place + length (keyRecord f n (u .key))
 
   abbrev here : ℕ
   here = position f (s .current) (keyTable (u .key)) n
@@ -227,7 +226,7 @@ module _ (f : Format) (archive : List ℕ) (s : State) (tables : List ℕ) (entr
   decided : decisionOf f archive tables s ≡ registering f s (keyTable (u .key)) n next
   decided =
       decision-is f archive tables s (keyContent n (s .place) (u .key)) next (sync .opens) (sync .sound)
-      (not-end archive (s .place) (keyRecord n (u .key)) there (key-long n (u .key)))
+      (not-end archive (s .place) (keyRecord f n (u .key)) there (key-long f n (u .key)))
       (key-stands f archive (s .place) n (u .key) fit there)
       ∙ key-decides f archive tables s n next (u .key)
 
@@ -277,7 +276,7 @@ module _ (f : Format) (archive : List ℕ) (s : State) (tables : List ℕ) (entr
   unfolding registering changed
   registration-back items r =
       let answer = ap (λ d. d .answer) decided in
-      let keeps = kept-there f archive (s .place) (keyRecord n (u .key)) (keyContent n (s .place) (u .key)) there
+      let keeps = kept-there f archive (s .place) (keyRecord f n (u .key)) (keyContent n (s .place) (u .key)) there
       (key-stands f archive (s .place) n (u .key) fit there) (key-loses-nothing f n (s .place) (u .key) fit) in
       record {
         reads = passes s tables items answer (rw decided (r .reads));
@@ -287,7 +286,7 @@ module _ (f : Format) (archive : List ℕ) (s : State) (tables : List ℕ) (entr
 -- the registrations of some uses, one behind the other, and what comes of reading on behind them
 registrations-back : (f : Format) (archive : List ℕ) (chosen : Use → Bool) (us : List Use) (s : State) (tables : List ℕ) (entries : List Entry)
     (rest : List ℕ) (items : List Item) → Synced f archive s tables entries → 0 < s .place → Own (providerItem (providerOf (contextsOf s))) us
-    → UsesFit f chosen entries us → drop (s .place) archive ≡ registrations chosen entries us ++ rest
+    → UsesFit f chosen entries us → drop (s .place) archive ≡ registrations f chosen entries us ++ rest
     → ((s′ : State) (tables′ : List ℕ) → Synced f archive s′ tables′ (entriesAfter chosen entries us) → contextsOf s′ ≡ contextsOf s
     → 0 < s′ .place → drop (s′ .place) archive ≡ rest → Back f archive s′ tables′ items)
     → Back f archive s tables items
@@ -296,10 +295,10 @@ registrations-back f archive chosen (u ∷ us) s tables entries rest items sync 
     cases (isNew chosen entries u)
     (λ e.
     let n = nextIndex entries u in
-    let first = keyRecord n (u .key) in
+    let first = keyRecord f n (u .key) in
     let entries′ : List Entry = record { use-of = u; index = n } ∷ entries in
-    let more = registrations chosen entries′ us ++ rest in
-    let is′ : drop (s .place) archive ≡ first ++ more = rw e at is ∙ append-assoc first (registrations chosen entries′ us) rest in
+    let more = registrations f chosen entries′ us ++ rest in
+    let is′ : drop (s .place) archive ≡ first ++ more = rw e at is ∙ append-assoc first (registrations f chosen entries′ us) rest in
     let there : At archive (s .place) first = (more, is′) in
     let fit′ = fit .0 e in
     let current = suits-context s (u .provider) (sync .sound .current) (sym (own .0)) in
@@ -313,13 +312,13 @@ registrations-back f archive chosen (u ∷ us) s tables entries rest items sync 
 -- one item: a step that shows it, and what comes of reading on
 item-back : (f : Format) (archive : List ℕ) (i : Item) (items : List Item) (s : State) (tables : List ℕ) (entries : List Entry) (rest : List ℕ)
     → Synced f archive s tables entries → ItemSuits (contextsOf s) i → ItemFits f (indexIn entries (itemProvider i)) i
-    → drop (s .place) archive ≡ itemRecord (indexIn entries (itemProvider i)) i ++ rest
+    → drop (s .place) archive ≡ itemRecord f (indexIn entries (itemProvider i)) i ++ rest
     → ((s′ : State) (tables′ : List ℕ) → Synced f archive s′ tables′ entries → contextsOf s′ ≡ after (contextsOf s) i → 0 < s′ .place
     → drop (s′ .place) archive ≡ rest → Back f archive s′ tables′ items)
     → Back f archive s tables (i ∷ items)
 item-back f archive i items s tables entries rest sync suits fit is k =
     let index = indexIn entries (itemProvider i) in
-    let bytes = itemRecord index i in
+    let bytes = itemRecord f index i in
     let shown = item-shown f archive tables s entries (sync .opens) (sync .sound) (sync .stands) i suits fit (rest, is) in
     let s′ = stepReply f archive tables s .state in
     let tables′ = stepTables f archive tables s in
@@ -332,7 +331,7 @@ item-back f archive i items s tables entries rest sync suits fit is k =
       stands = rw (shown .keeps) (stand-later f archive s s′ tables (step-grows f archive tables s) entries (sync .stands));
     } in
     let next = k s′ tables′ sync′ (contexts-by-items f archive tables s ∙ ap (afterShown (contextsOf s)) item)
-    (omega (arith, shown .place, item-long index i)) (rw (shown .place) (behind archive (s .place) bytes rest is)) in
+    (omega (arith, shown .place, item-long f index i)) (rw (shown .place) (behind archive (s .place) bytes rest is)) in
     let keeps = kept-there f archive (s .place) bytes (contentOf f bytes (s .place)) (rest, is)
     (item-stands f index archive (s .place) i fit (rest, is)) (item-keeps f index (s .place) i fit) in
     record { reads = shows s tables i items item (next .reads); kept = shows-kept f archive s tables i item keeps (next .kept) }
@@ -340,62 +339,62 @@ item-back f archive i items s tables entries rest sync suits fit is k =
 -- from a state behind the magic, with its tables in step with the writer's, what the rule writes for items reads as those items, and loses nothing
 items-back : (f : Format) (archive : List ℕ) (chosen : Use → Bool) (items : List Item) (s : State) (tables : List ℕ) (entries : List Entry)
     → Synced f archive s tables entries → 0 < s .place → AllSuit (contextsOf s) items → AllFit f chosen entries items
-    → drop (s .place) archive ≡ recordsFrom chosen entries items → Back f archive s tables items
+    → drop (s .place) archive ≡ recordsFrom f chosen entries items → Back f archive s tables items
 items-back f archive chosen [] s tables entries sync low suits fit is = end-back f archive s tables entries sync is
 items-back f archive chosen (i ∷ items) s tables entries sync low suits fit is =
     let entries′ = entriesAfter chosen entries (usesOf i) in
-    let bytes = itemRecord (indexIn entries′ (itemProvider i)) i in
-    registrations-back f archive chosen (usesOf i) s tables entries (bytes ++ recordsFrom chosen entries′ items) (i ∷ items) sync low
+    let bytes = itemRecord f (indexIn entries′ (itemProvider i)) i in
+    registrations-back f archive chosen (usesOf i) s tables entries (bytes ++ recordsFrom f chosen entries′ items) (i ∷ items) sync low
     (own-item (contextsOf s) i (suits .0)) (fit .0) is
     (λ s′ tables′ sync′ same low′ is′.
-    item-back f archive i items s′ tables′ entries′ (recordsFrom chosen entries′ items) sync′ (rw same (suits .0)) (fit .1) is′
+    item-back f archive i items s′ tables′ entries′ (recordsFrom f chosen entries′ items) sync′ (rw same (suits .0)) (fit .1) is′
     (λ s″ tables″ sync″ same′ low″ is″.
     items-back f archive chosen items s″ tables″ entries′ sync″ low″ (rw (same′, same) (suits .1)) (fit .2) is″))
 
 -- ---- the whole
 
-rule-begins : (items : List Item) → startsWithMagic (rule (magic ∷ items)) ≡ true
-unfolding rule startsWithMagic magicBytes bytesOf
-rule-begins items = refl
+rule-begins : (f : Format) (items : List Item) → startsWithMagic (rule f (magic ∷ items)) ≡ true
+unfolding rule startsWithMagic magicBytes
+rule-begins f items = rw (magic-record f (indexIn [] none))
 
 -- what the rule writes for a list that begins with the magic is let in
-rule-opens : (f : Format) (items : List Item) → length (rule (magic ∷ items)) ≤ longestArchive → openingNumber f (rule (magic ∷ items)) (tableWords f) ≡ 0
+rule-opens : (f : Format) (items : List Item) → length (rule f (magic ∷ items)) ≤ longestArchive → openingNumber f (rule f (magic ∷ items)) (tableWords f) ≡ 0
 unfolding openingNumber archiveNumber
 rule-opens f items short =
     rw (
-      le-ltb longestArchive (length (rule (magic ∷ items))) short,
-      rule-begins items,
+      le-ltb longestArchive (length (rule f (magic ∷ items))) short,
+      rule-begins f items,
       le-ltb (tableWords f) (tableWords f) (omega arith),
     )
 
 -- reader and writer together at the start
-opened : (f : Format) (items : List Item) → openingNumber f (rule items) (tableWords f) ≡ 0 → Synced f (rule items) opening (replicate (tableWords f) 0) []
+opened : (f : Format) (items : List Item) → openingNumber f (rule f items) (tableWords f) ≡ 0 → Synced f (rule f items) opening (replicate (tableWords f) 0) []
 opened f items opens =
-    record { opens = rw (length-replicate {A = ℕ} (tableWords f) 0) opens; sound = fresh-sound f (rule items); made = tt; stands = tt }
+    record { opens = rw (length-replicate {A = ℕ} (tableWords f) 0) opens; sound = fresh-sound f (rule f items); made = tt; stands = tt }
 
-magic-back : (f : Format) (items : List Item) → openingNumber f (rule (magic ∷ items)) (tableWords f) ≡ 0 → AllSuit opening (magic ∷ items)
+magic-back : (f : Format) (items : List Item) → openingNumber f (rule f (magic ∷ items)) (tableWords f) ≡ 0 → AllSuit opening (magic ∷ items)
     → AllFit f (chosenIn (usesAll (magic ∷ items))) [] (magic ∷ items)
-    → Back f (rule (magic ∷ items)) opening (replicate (tableWords f) 0) (magic ∷ items)
+    → Back f (rule f (magic ∷ items)) opening (replicate (tableWords f) 0) (magic ∷ items)
 unfolding rule
 magic-back f items opens suits fit =
     let chosen = chosenIn (usesAll (magic ∷ items)) in
-    let archive = rule (magic ∷ items) in
-    item-back f archive magic items opening (replicate (tableWords f) 0) [] (recordsFrom chosen [] items) (opened f (magic ∷ items) opens) (suits .0) (fit .1) refl
+    let archive = rule f (magic ∷ items) in
+    item-back f archive magic items opening (replicate (tableWords f) 0) [] (recordsFrom f chosen [] items) (opened f (magic ∷ items) opens) (suits .0) (fit .1) refl
     (λ s′ tables′ sync′ same low is. items-back f archive chosen items s′ tables′ [] sync′ low (rw same (suits .1)) (fit .2) is)
 
 module _ (f : Format) (items : List Item) (w : Writable f items) where
   -- what the rule writes for a list that it can write is let in
-  opens : openingNumber f (rule items) (tableWords f) ≡ 0
+  opens : openingNumber f (rule f items) (tableWords f) ≡ 0
   opens = let e = w .starts .1 in rw e (rule-opens f (w .starts .0) (rw e at (w .short)))
 
-  back : Back f (rule items) opening (replicate (tableWords f) 0) items
+  back : Back f (rule f items) opening (replicate (tableWords f) 0) items
   back = let e = w .starts .1 in rw e (magic-back f (w .starts .0) (rw e at opens) (rw e at (w .suits)) (rw e at (w .fits)))
 
   -- it reads as that list
-  pub rule-reads : ReadsAs f (rule items) items
+  pub rule-reads : ReadsAs f (rule f items) items
   rule-reads = (opens, back .reads)
 
   -- and its run is not refused for a loss
-  pub rule-keeps : lossRefusal (runOf f (rule items)) ≡ none
+  pub rule-keeps : lossRefusal (runOf f (rule f items)) ≡ none
   unfolding runOf
-  rule-keeps = back .kept (length (rule items) / 8 + 1)
+  rule-keeps = back .kept (length (rule f items) / 8 + 1)

@@ -53,14 +53,14 @@ part-is bytes place n b long is =
 module _ (f : Format) (archive tables : List ℕ) (s : State) (entries : List Entry) (provider : Option ℕ) (context until : ℕ)
     (sound : Sound f archive s tables) (own : ContextIs s provider context) (late : s .place ≤ until)
     (stands : Every (Standing f archive s tables) entries) where
-  inline-text : (b : List ℕ) (r : Reference) → Spells archive r (textInline b)
+  inline-text : (b : List ℕ) (r : Reference) → Spells f archive r (textInline b)
       → textItem archive (shownText (resolved f archive tables context 2 until r)) ≡ known b
   unfolding resolved shownText
   inline-text b (Inline place n) h = ap known (part-is archive place n b (h .0) (h .1))
   inline-text b (Index i) h = absurd h
 
   index-text : (b : List ℕ) (r : Reference) → (indexIn entries provider (textKey b) ≡ 0 → ⊥)
-      → Spells archive r (textIndex (indexIn entries provider (textKey b)))
+      → Spells f archive r (textIndex (indexIn entries provider (textKey b)))
       → textItem archive (shownText (resolved f archive tables context 2 until r)) ≡ known b
   unfolding shownText
   index-text b (Inline place n) given h = absurd h
@@ -69,45 +69,45 @@ module _ (f : Format) (archive tables : List ℕ) (s : State) (entries : List En
       let k = index-holds (Standing f archive s tables) entries provider (textKey b) stands given in
       rw (h, stand-known f archive s tables provider (textKey b) index context until sound own late k)
       (ap known (part-is archive (k .place + 8) (length b) b refl
-      (body-text 2 (index of 15 ∷ 0 of 1 ∷ length b of 15 ∷ 0 of 17 ∷ []) b archive (k .place) (k .there))))
+      (body-text f 2 (index of 15 ∷ 0 of 1 ∷ length b of 15 ∷ 0 of 17 ∷ []) b archive (k .place) (k .there))))
 
   -- a text that was written is shown
-  pub text-shown : (t : Text) (r : Reference) → TextFits f (indexIn entries provider) t → Spells archive r (encodedText (indexIn entries provider) t)
+  pub text-shown : (t : Text) (r : Reference) → TextFits f (indexIn entries provider) t → Spells f archive r (encodedText (indexIn entries provider) t)
       → textItem archive (shownText (resolved f archive tables context 2 until r)) ≡ t
   text-shown (known b) r fit h =
       let i = indexIn entries provider (textKey b) in
       cases (eqb i 0) (λ e. inline-text b r (rw e at h)) (λ e. index-text b r (eqb-false i 0 e) (rw e at h))
   text-shown (unresolved i) r fit h = absurd fit
 
-  inline-thread : (t : Thread) (r : Reference) → Spells archive r (threadInline t)
-      → threadItem (shownThread archive (resolved f archive tables context 3 until r)) ≡ known t
+  inline-thread : (t : Thread) (r : Reference) → Spells f archive r (threadInline t)
+      → threadItem (shownThread f archive (resolved f archive tables context 3 until r)) ≡ known t
   unfolding resolved shownThread
   inline-thread (thread p t) (Inline place n) h = rw (h .0, h .1)
   inline-thread t (Index i) h = absurd h
 
   index-thread : (p t : ℕ) (r : Reference) → (indexIn entries provider (threadKey (thread p t)) ≡ 0 → ⊥)
-      → Spells archive r (threadIndex (indexIn entries provider (threadKey (thread p t))))
-      → threadItem (shownThread archive (resolved f archive tables context 3 until r)) ≡ known (thread p t)
+      → Spells f archive r (threadIndex (indexIn entries provider (threadKey (thread p t))))
+      → threadItem (shownThread f archive (resolved f archive tables context 3 until r)) ≡ known (thread p t)
   unfolding shownThread
   index-thread p t (Inline place n) given h = absurd h
   index-thread p t (Index i) given h =
       let key = threadKey (thread p t) in
       let index = indexIn entries provider key in
       let k = index-holds (Standing f archive s tables) entries provider key stands given in
-      let w = body-thread 3 (index of 8 ∷ 0 of 40 ∷ []) p t archive (k .place) (k .fits .2) (k .fits .3) (k .there) in
+      let w = body-thread f 3 (index of 8 ∷ 0 of 40 ∷ []) p t archive (k .place) (k .fits .2) (k .fits .3) (k .there) in
       rw (h, stand-known f archive s tables provider key index context until sound own late k, w .0, w .1)
 
   -- a thread that was written is shown
   pub thread-shown : (t : Shown Thread) (r : Reference) → ThreadFits (indexIn entries provider) t
-      → Spells archive r (encodedThread (indexIn entries provider) t)
-      → threadItem (shownThread archive (resolved f archive tables context 3 until r)) ≡ t
+      → Spells f archive r (encodedThread (indexIn entries provider) t)
+      → threadItem (shownThread f archive (resolved f archive tables context 3 until r)) ≡ t
   thread-shown (known (thread p t)) r fit h =
       let i = indexIn entries provider (threadKey (thread p t)) in
       cases (eqb i 0) (λ e. inline-thread (thread p t) r (rw e at h)) (λ e. index-thread p t r (eqb-false i 0 e) (rw e at h))
   thread-shown (unresolved i) r fit h = absurd fit
 
   -- a value that was written is shown
-  pub value-shown : (v : Value) (q : ReadValue) → ValueFits f (indexIn entries provider) v → SpellsValue archive (indexIn entries provider) q v
+  pub value-shown : (v : Value) (q : ReadValue) → ValueFits f (indexIn entries provider) v → SpellsValue f archive (indexIn entries provider) q v
       → valueItem archive (shownValue f archive tables context until q) ≡ v
   unfolding shownValue
   value-shown (scalar a) (ScalarValue b) fit h = ap scalar h
@@ -117,14 +117,14 @@ module _ (f : Format) (archive tables : List ℕ) (s : State) (entries : List En
 
   -- what a record refers to is shown
   pub referent-shown : (x : Referent) (table : ℕ) (r : Reference) → ReferentFits f (indexIn entries provider) x → table ≡ referentTable x
-      → Spells archive r (encodedReferent (indexIn entries provider) x)
-      → referentItem archive (shownReferent archive table (resolved f archive tables context table until r)) ≡ x
+      → Spells f archive r (encodedReferent (indexIn entries provider) x)
+      → referentItem archive (shownReferent f archive table (resolved f archive tables context table until r)) ≡ x
   unfolding shownReferent
   referent-shown (textReferent t) table r fit e h = rw e (ap textReferent (text-shown t r fit h))
   referent-shown (threadReferent t) table r fit e h = rw e (ap threadReferent (thread-shown t r fit h))
 
 -- a stream that was written is shown
-pub stream-shown : (archive b : List ℕ) (r : Reference) → Spells archive r (stream b) → streamItem archive (shownStream r) ≡ b
+pub stream-shown : (f : Format) (archive b : List ℕ) (r : Reference) → Spells f archive r (stream b) → streamItem archive (shownStream r) ≡ b
 unfolding shownStream
-stream-shown archive b (Inline place n) h = part-is archive place n b (h .0) (h .1)
-stream-shown archive b (Index i) h = absurd h
+stream-shown f archive b (Inline place n) h = part-is archive place n b (h .0) (h .1)
+stream-shown f archive b (Index i) h = absurd h

@@ -32,23 +32,23 @@ accepted-reads f a h = not-refused-reads f a h
 pub shortest : (f : Format) (a b : List ℕ) (l : List Item) → Accepted f a → ReadsAs f a l → ReadsAs f b l → writtenLength f a ≤ length b
 shortest f a b l h r s =
     let paid = any-run-pays f b l s in
-    rw (run-items f a l r) (omega (arith, paid .1, rule-least-bytes l (paid .0)))
+    rw (run-items f a l r) (omega (arith, paid .1, rule-least-bytes f l (paid .0)))
 
 -- "Two accepted archives with the same list become the same bytes", those that the rule gives for the list.
 pub same-list-same-bytes : (f : Format) (a b : List ℕ) (l : List Item) → Accepted f a → Accepted f b → ReadsAs f a l → ReadsAs f b l
-    → rule (itemsOf (runOf f a)) ≡ rule (itemsOf (runOf f b))
-same-list-same-bytes f a b l h k r s = ap rule (run-items f a l r ∙ sym (run-items f b l s))
+    → rule f (itemsOf (runOf f a)) ≡ rule f (itemsOf (runOf f b))
+same-list-same-bytes f a b l h k r s = ap (rule f) (run-items f a l r ∙ sym (run-items f b l s))
 
 -- "What the repacker writes reads back as the same list of items": the bytes that the rule gives for the list of an accepted archive, exactly as many
 -- as the written length says, are themselves an archive that reads to its end as that list.
 pub reads-back : (a : List ℕ) (l : List Item) → Accepted smallFormat a → AllBytes a → ReadsAs smallFormat a l
-    → ReadsAs smallFormat (rule l) l × (length (rule l) ≡ writtenLength smallFormat a)
+    → ReadsAs smallFormat (rule smallFormat l) l × (length (rule smallFormat l) ≡ writtenLength smallFormat a)
 reads-back a l h bytes r =
-    let same : writtenLength smallFormat a ≡ length (rule l) = ap (λ items. length (rule items)) (run-items smallFormat a l r) in
-    let short : length (rule l) ≤ length a = omega (arith, same, shortest smallFormat a a l h r r) in
+    let same : writtenLength smallFormat a ≡ length (rule smallFormat l) = ap (λ items. length (rule smallFormat items)) (run-items smallFormat a l r) in
+    let short : length (rule smallFormat l) ≤ length a = omega (arith, same, shortest smallFormat a a l h r r) in
     (rule-reads smallFormat l (accepted-writable a l h bytes r short), sym same)
 
 -- Repacking what was written gives the same bytes again.
 pub again : (a : List ℕ) (l : List Item) → Accepted smallFormat a → AllBytes a → ReadsAs smallFormat a l
-    → Accepted smallFormat (rule l) × (rule (itemsOf (runOf smallFormat (rule l))) ≡ rule l)
-again a l h bytes r = (accepted-again a l h bytes r, ap rule (run-items smallFormat (rule l) l (reads-back a l h bytes r .0)))
+    → Accepted smallFormat (rule smallFormat l) × (rule smallFormat (itemsOf (runOf smallFormat (rule smallFormat l))) ≡ rule smallFormat l)
+again a l h bytes r = (accepted-again a l h bytes r, ap (rule smallFormat) (run-items smallFormat (rule smallFormat l) l (reads-back a l h bytes r .0)))

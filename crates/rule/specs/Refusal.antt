@@ -126,4 +126,4 @@ pub record Accepted (f : Format) (archive : List ℕ) : Type 0 where
 
 -- "The written length in the reply counts the bytes written"
 abbrev pub writtenLength : Format → List ℕ → ℕ
-writtenLength f archive = length (rule (itemsOf (runOf f archive)))
+writtenLength f archive = length (rule f (itemsOf (runOf f archive)))

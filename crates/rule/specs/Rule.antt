@@ -7,6 +7,7 @@ use lib.Dec.{eqb}
 use Rattle.words.specs.Stream.{sameBytes}
 use Rattle.registering.specs.Counting.{count}
 use Rattle.registering.specs.Registers.{registers}
+use Rattle.format.specs.declared.Format.{Format}
 use Rattle.records.specs.Item.{thread, Item, itemProvider, Key, textKey, threadKey, keyWords, Use, usesOf}
 use Rattle.encoding.specs.Encoded.{stringRecord, threadRecord, itemRecord}
 
@@ -58,9 +59,9 @@ nextIndex (e ∷ entries) u =
     cond (sameProvider (u .provider) (e .use-of .provider) && sameTable (u .key) (e .use-of .key)) 1 0 + nextIndex entries u
 
 -- the record that registers a key
-abbrev pub keyRecord : ℕ → Key → List ℕ
-keyRecord index (textKey bytes) = stringRecord index bytes
-keyRecord index (threadKey t) = threadRecord index t
+abbrev pub keyRecord : Format → ℕ → Key → List ℕ
+keyRecord f index (textKey bytes) = stringRecord f index bytes
+keyRecord f index (threadKey t) = threadRecord f index t
 
 -- whether a use is the first of a key that is to be registered
 abbrev pub isNew : (Use → Bool) → List Entry → Use → Bool
@@ -69,29 +70,29 @@ isNew chosen entries u = chosen u && eqb (indexIn entries (u .provider) (u .key)
 abbrev pub withUse : (Use → Bool) → List Entry → Use → List Entry
 withUse chosen entries u = cond (isNew chosen entries u) (record { use-of = u; index = nextIndex entries u } ∷ entries) entries
 
-abbrev pub useBytes : (Use → Bool) → List Entry → Use → List ℕ
-useBytes chosen entries u = cond (isNew chosen entries u) (keyRecord (nextIndex entries u) (u .key)) []
+abbrev pub useBytes : Format → (Use → Bool) → List Entry → Use → List ℕ
+useBytes f chosen entries u = cond (isNew chosen entries u) (keyRecord f (nextIndex entries u) (u .key)) []
 
 -- the registrations after some uses, and the bytes of their records in order
 abbrev pub entriesAfter : (Use → Bool) → List Entry → List Use → List Entry
 entriesAfter chosen entries [] = entries
 entriesAfter chosen entries (u ∷ us) = entriesAfter chosen (withUse chosen entries u) us
 
-abbrev pub registrations : (Use → Bool) → List Entry → List Use → List ℕ
-registrations chosen entries [] = []
-registrations chosen entries (u ∷ us) = useBytes chosen entries u ++ registrations chosen (withUse chosen entries u) us
+abbrev pub registrations : Format → (Use → Bool) → List Entry → List Use → List ℕ
+registrations f chosen entries [] = []
+registrations f chosen entries (u ∷ us) = useBytes f chosen entries u ++ registrations f chosen (withUse chosen entries u) us
 
 -- "A registration stands right before the first record using it: thread, then strings by first use in that record."
-abbrev pub recordsFrom : (Use → Bool) → List Entry → List Item → List ℕ
-recordsFrom chosen entries [] = []
-recordsFrom chosen entries (i ∷ items) =
-    registrations chosen entries (usesOf i)
-    ++ (itemRecord (indexIn (entriesAfter chosen entries (usesOf i)) (itemProvider i)) i ++ recordsFrom chosen (entriesAfter chosen entries (usesOf i)) items)
+abbrev pub recordsFrom : Format → (Use → Bool) → List Entry → List Item → List ℕ
+recordsFrom f chosen entries [] = []
+recordsFrom f chosen entries (i ∷ items) =
+    registrations f chosen entries (usesOf i)
+    ++ (itemRecord f (indexIn (entriesAfter chosen entries (usesOf i)) (itemProvider i)) i ++ recordsFrom f chosen (entriesAfter chosen entries (usesOf i)) items)
 
 -- which uses of a list are of registered keys; "Otherwise each use is inline."
 abbrev pub chosenIn : List Use → Use → Bool
 chosenIn uses u = registers (keyWords (u .key)) (count sameUse u uses)
 
 -- the bytes that the repacking rule gives
-unfoldable pub rule : List Item → List ℕ
-rule items = recordsFrom (chosenIn (usesAll items)) [] items
+unfoldable pub rule : Format → List Item → List ℕ
+rule f items = recordsFrom f (chosenIn (usesAll items)) [] items

@@ -48,10 +48,10 @@ itemList (some i) = i ∷ []
 -- what is written for a record, and the slots after it
 pub record Wrote (f : Format) (archive : List ℕ) (last : State) (uses : List Use) (tables slots : List ℕ) (s : State) (entries : List Entry) (c : Content) (next : ℕ)
     : Type 0 where
-  pub bytes-are : contentBytes f archive tables slots s c next ≡ recordsFrom (chosenIn uses) entries (itemList (itemAt f archive tables s c next))
+  pub bytes-are : contentBytes f archive tables slots s c next ≡ recordsFrom f (chosenIn uses) entries (itemList (itemAt f archive tables s c next))
   pub indexing : Indexing f archive last uses (contentSlots f archive tables slots s c next)
       (entriesAfter (chosenIn uses) entries (usesAll (itemList (itemAt f archive tables s c next))))
-  pub kept : KeysKept archive (tableWords f) (codes last uses) slots (contentSlots f archive tables slots s c next)
+  pub kept : KeysKept archive (tableWords f) (codes f last uses) slots (contentSlots f archive tables slots s c next)
   pub fits : ContentFits f archive tables slots s c next
 
 module _ (f : Format) (archive : List ℕ) (last : State) (uses : List Use) (few : last .count ≤ 8) (plain : UsesPlain uses) (small : Small f)
@@ -66,8 +66,8 @@ module _ (f : Format) (archive : List ℕ) (last : State) (uses : List Use) (few
   next = recordAt f archive (s .place) .next
 
   -- slots that stay are kept
-  same : KeysKept archive (tableWords f) (codes last uses) slots slots
-  same = kept-same archive (tableWords f) (codes last uses) slots
+  same : KeysKept archive (tableWords f) (codes f last uses) slots slots
+  same = kept-same archive (tableWords f) (codes f last uses) slots
 
   -- a record that refers to texts and threads
   report-written : (r : ReadReport) → 0 < s .place → recordAt f archive (s .place) .content ≡ ReportRead r
@@ -79,7 +79,7 @@ module _ (f : Format) (archive : List ℕ) (last : State) (uses : List Use) (few
       let us = usesOf (report item) in
       let after = entriesAfter chosen entries us in
       let index = indexIn after (providerItem (providerOf s)) in
-      let own = itemRecord index (report item) in
+      let own = itemRecord f index (report item) in
       let stands = report-stands f archive (s .place) r later is in
       let listed = argumentsTo f archive r next in
       let part = take (next - r .arguments) (drop (r .arguments) archive) in
@@ -107,13 +107,13 @@ module _ (f : Format) (archive : List ℕ) (last : State) (uses : List Use) (few
 
   -- an item that refers to nothing: it has no uses, its record is the rule's, and it fits
   plain-written : (o : Option Item) → PlainOnly o → AllFit f chosen entries (itemList o)
-      → (plainBytes o ≡ recordsFrom chosen entries (itemList o)) × (entriesAfter chosen entries (usesAll (itemList o)) ≡ entries) × PlainFits o
+      → (plainBytes f o ≡ recordsFrom f chosen entries (itemList o)) × (entriesAfter chosen entries (usesAll (itemList o)) ≡ entries) × PlainFits o
   plain-written none only fit = (refl, refl, tt)
-  plain-written (some magic) only fit = (sym (append-nil (plainRecord magic)), refl, tt)
-  plain-written (some (providerInfo id name)) only fit = (sym (append-nil (plainRecord (providerInfo id name))), refl, fit .1 .suits .1)
-  plain-written (some (section id)) only fit = (sym (append-nil (plainRecord (section id))), refl, tt)
-  plain-written (some (providerEvent id e)) only fit = (sym (append-nil (plainRecord (providerEvent id e))), refl, fit .1 .suits .1)
-  plain-written (some (initialization rate)) only fit = (sym (append-nil (plainRecord (initialization rate))), refl, tt)
+  plain-written (some magic) only fit = (sym (append-nil (plainRecord f magic)), refl, tt)
+  plain-written (some (providerInfo id name)) only fit = (sym (append-nil (plainRecord f (providerInfo id name))), refl, fit .1 .suits .1)
+  plain-written (some (section id)) only fit = (sym (append-nil (plainRecord f (section id))), refl, tt)
+  plain-written (some (providerEvent id e)) only fit = (sym (append-nil (plainRecord f (providerEvent id e))), refl, fit .1 .suits .1)
+  plain-written (some (initialization rate)) only fit = (sym (append-nil (plainRecord f (initialization rate))), refl, tt)
   plain-written (some (report r)) only fit = absurd only
   plain-written (some (skipped type size)) only fit = absurd (fit .1 .suits)
 

@@ -69,10 +69,10 @@ module _ (f : Format) (archive : List ℕ) (last : State) (uses : List Use) (few
   pub record GivenUse (slots : List ℕ) (entries : List Entry) (u : Use) (index : ℕ) (slots′ : List ℕ) : Type 0 where
     pub index-is : index ≡ cond (isNew (chosenIn uses) entries u) (nextIndex entries u) 0
     pub indexing : Indexing f archive last uses slots′ (withUse (chosenIn uses) entries u)
-    pub kept : KeysKept archive (tableWords f) (codes last uses) slots slots′
+    pub kept : KeysKept archive (tableWords f) (codes f last uses) slots slots′
 
   module _ (slots : List ℕ) (entries : List Entry) (u : Use) (place label : ℕ) (I : Indexing f archive last uses slots entries) (h : KeyPlain (u .key))
-      (ready : UseReady f uses entries u) (is : keyOf archive place label ≡ codeIn last u) (mark : label / 65536 < 18) where
+      (ready : UseReady f uses entries u) (is : keyOf archive place label ≡ codeIn f last u) (mark : label / 65536 < 18) where
     -- the key that is asked for
     abbrev key : List ℕ
     key = keyOf archive place label
@@ -82,22 +82,22 @@ module _ (f : Format) (archive : List ℕ) (last : State) (uses : List Use) (few
     chosen = chosenIn uses
 
     -- its mark is that of the use's code
-    mark-is : label / 65536 ≡ keyMark (codeIn last u)
+    mark-is : label / 65536 ≡ keyMark (codeIn f last u)
     mark-is = ap keyMark is
 
     -- the next number of that mark is the use's next index
-    next-is : givenCode last entries (label / 65536) + 1 ≡ nextIndex entries u
-    next-is = ap (λ (m : ℕ). givenCode last entries m + 1) mark-is ∙ given-code last few entries u (I .plain) h
+    next-is : givenCode f last entries (label / 65536) + 1 ≡ nextIndex entries u
+    next-is = ap (λ (m : ℕ). givenCode f last entries m + 1) mark-is ∙ given-code f last few entries u (I .plain) h
 
     -- the key is chosen and has no index where the use is new
-    new-is : (chosenKey (codes last uses) key && eqb (indexCode last entries key) 0) ≡ isNew chosen entries u
+    new-is : (chosenKey (codes f last uses) key && eqb (indexCode f last entries key) 0) ≡ isNew chosen entries u
     new-is =
-        ap (λ (k : List ℕ). chosenKey (codes last uses) k && eqb (indexCode last entries k) 0) is
-        ∙ rw (chosen-code last few uses u plain h, index-code last few entries u (I .plain) h)
+        ap (λ (k : List ℕ). chosenKey (codes f last uses) k && eqb (indexCode f last entries k) 0) is
+        ∙ rw (chosen-code f last few uses u plain h, index-code f last few entries u (I .plain) h)
 
     -- the key was counted as the use was
-    counted : 0 < count sameBytes key (codes last uses)
-    counted = rw (is, count-codes last few u uses h plain) (ready .used)
+    counted : 0 < count sameBytes key (codes f last uses)
+    counted = rw (is, count-codes f last few u uses h plain) (ready .used)
 
     -- the slot of the key gets the use's next index where the use is new
     pub use-given : GivenUse slots entries u (newIndex (tableWords f) slots label (findOf archive (tableWords f) slots key))
@@ -112,27 +112,27 @@ module _ (f : Format) (archive : List ℕ) (last : State) (uses : List Use) (few
             seen = u ∷ I .seen;
             registered = use-registered chosen entries (I .seen) u (I .registered);
           };
-          kept = kept-indexed archive (tableWords f) (codes last uses) (I .indexes .wide .some) slots key label counted mark;
+          kept = kept-indexed archive (tableWords f) (codes f last uses) (I .indexes .wide .some) slots key label counted mark;
         }
       where
         kept : TablePlain (withUse chosen entries u)
         kept = cases (isNew chosen entries u) (λ e. rw e (h, I .plain)) (λ e. rw e (I .plain))
 
         same-index : (k : List ℕ)
-            → cond ((chosenKey (codes last uses) key && eqb (indexCode last entries key) 0) && sameBytes k key) (givenCode last entries (label / 65536) + 1)
-            (indexCode last entries k)
-            ≡ indexCode last (withUse chosen entries u) k
+            → cond ((chosenKey (codes f last uses) key && eqb (indexCode f last entries key) 0) && sameBytes k key) (givenCode f last entries (label / 65536) + 1)
+            (indexCode f last entries k)
+            ≡ indexCode f last (withUse chosen entries u) k
         same-index k =
             rw (new-is, next-is) (cases (isNew chosen entries u) (λ e. rw (e, is)) (λ e. rw e))
 
         same-given : (m : ℕ)
-            → cond ((chosenKey (codes last uses) key && eqb (indexCode last entries key) 0) && eqb m (label / 65536)) (givenCode last entries m + 1)
-            (givenCode last entries m)
-            ≡ givenCode last (withUse chosen entries u) m
+            → cond ((chosenKey (codes f last uses) key && eqb (indexCode f last entries key) 0) && eqb m (label / 65536)) (givenCode f last entries m + 1)
+            (givenCode f last entries m)
+            ≡ givenCode f last (withUse chosen entries u) m
         same-given m =
             rw new-is
             (cases (isNew chosen entries u)
-            (λ e. rw (e, mark-is) (cases (eqb m (keyMark (codeIn last u))) (λ q. rw q (omega arith)) (λ q. rw q (omega arith))))
+            (λ e. rw (e, mark-is) (cases (eqb m (keyMark (codeIn f last u))) (λ q. rw q (omega arith)) (λ q. rw q (omega arith))))
             (λ e. rw e))
 
 -- ---- some uses, one after the other
@@ -140,9 +140,9 @@ module _ (f : Format) (archive : List ℕ) (last : State) (uses : List Use) (few
 -- what was written for some uses and what the slots are then: the registrations that the rule gives, its table, and no other words changed
 pub record Gave (f : Format) (archive : List ℕ) (last : State) (uses : List Use) (entries : List Entry) (us : List Use) (slots bytes slots′ : List ℕ) (Fits : Type 0)
     : Type 0 where
-  pub bytes-are : bytes ≡ registrations (chosenIn uses) entries us
+  pub bytes-are : bytes ≡ registrations f (chosenIn uses) entries us
   pub indexing : Indexing f archive last uses slots′ (entriesAfter (chosenIn uses) entries us)
-  pub kept : KeysKept archive (tableWords f) (codes last uses) slots slots′
+  pub kept : KeysKept archive (tableWords f) (codes f last uses) slots slots′
   pub fits : Fits
 
 -- so it is from every table that the slots hold
@@ -151,14 +151,14 @@ Gives f archive last uses us slots bytes slots′ Fits =
     (entries : List Entry) → Indexing f archive last uses slots entries → UsesReady f uses entries us → Gave f archive last uses entries us slots bytes slots′ Fits
 
 -- the registrations of two parts of uses
-registrations-both : (chosen : Use → Bool) (entries : List Entry) (us vs : List Use)
-    → registrations chosen entries (us ++ vs) ≡ registrations chosen entries us ++ registrations chosen (entriesAfter chosen entries us) vs
-registrations-both chosen entries [] vs = refl
-registrations-both chosen entries (u ∷ us) vs =
+registrations-both : (f : Format) (chosen : Use → Bool) (entries : List Entry) (us vs : List Use)
+    → registrations f chosen entries (us ++ vs) ≡ registrations f chosen entries us ++ registrations f chosen (entriesAfter chosen entries us) vs
+registrations-both f chosen entries [] vs = refl
+registrations-both f chosen entries (u ∷ us) vs =
     rw (
-      registrations-both chosen (withUse chosen entries u) us vs,
-      append-assoc (useBytes chosen entries u) (registrations chosen (withUse chosen entries u) us)
-          (registrations chosen (entriesAfter chosen (withUse chosen entries u) us) vs),
+      registrations-both f chosen (withUse chosen entries u) us vs,
+      append-assoc (useBytes f chosen entries u) (registrations f chosen (withUse chosen entries u) us)
+          (registrations f chosen (entriesAfter chosen (withUse chosen entries u) us) vs),
     )
 
 -- both parts of uses that are ready are
@@ -171,7 +171,7 @@ module _ (f : Format) (archive : List ℕ) (last : State) (uses : List Use) wher
   -- no use asks for nothing
   pub gives-none : (slots : List ℕ) {Fits : Type 0} → Fits → Gives f archive last uses [] slots [] slots Fits
   gives-none slots fit entries I ready =
-      record { bytes-are = refl; indexing = I; kept = kept-same archive (tableWords f) (codes last uses) slots; fits = fit }
+      record { bytes-are = refl; indexing = I; kept = kept-same archive (tableWords f) (codes f last uses) slots; fits = fit }
 
   -- one part of uses, and then another
   pub gives-both : {us vs : List Use} {slots bytes slots′ bytes′ slots″ : List ℕ} {Fits Fits′ : Type 0} → Gives f archive last uses us slots bytes slots′ Fits
@@ -181,9 +181,9 @@ module _ (f : Format) (archive : List ℕ) (last : State) (uses : List Use) wher
       let a = first entries I (both .0) in
       let b = second (entriesAfter (chosenIn uses) entries us) (a .indexing) (both .1) in
       record {
-        bytes-are = rw (a .bytes-are, b .bytes-are) (sym (registrations-both (chosenIn uses) entries us vs));
+        bytes-are = rw (a .bytes-are, b .bytes-are) (sym (registrations-both f (chosenIn uses) entries us vs));
         indexing = rw (after-both (chosenIn uses) entries us vs) (b .indexing);
-        kept = kept-then archive (tableWords f) (codes last uses) (I .indexes .wide .some) slots slots′ slots″ (a .kept) (b .kept);
+        kept = kept-then archive (tableWords f) (codes f last uses) (I .indexes .wide .some) slots slots′ slots″ (a .kept) (b .kept);
         fits = (a .fits, b .fits);
       }
 

@@ -37,36 +37,36 @@ test-turned : (a b : ℕ) → eqb a b ≡ eqb b a
 test-turned a b =
     cases (eqb a b) (λ e. rw (e, eqb-true a b e) (sym (eq-eqb b b refl))) (λ e. rw e (sym (ne-eqb b a (λ z. eqb-false a b e (sym z)))))
 
-module _ (last : State) (few : last .count ≤ 8) where
+module _ (f : Format) (last : State) (few : last .count ≤ 8) where
   -- the index of a use's code is the use's
   pub index-code : (entries : List Entry) (u : Use) → TablePlain entries → KeyPlain (u .key)
-      → indexCode last entries (codeIn last u) ≡ indexIn entries (u .provider) (u .key)
+      → indexCode f last entries (codeIn f last u) ≡ indexIn entries (u .provider) (u .key)
   index-code [] u plain h = refl
-  index-code (e ∷ entries) u plain h = rw (← (same-codes last few u (e .use-of) h (plain .0)), index-code entries u (plain .1) h)
+  index-code (e ∷ entries) u plain h = rw (← (same-codes f last few u (e .use-of) h (plain .0)), index-code entries u (plain .1) h)
 
   -- the marks of two codes are the same where the uses are of one context and table
   mark-same : (u v : Use) → KeyPlain (u .key) → KeyPlain (v .key)
-      → _≡_ {A = ℕ} (cond (eqb (keyMark (codeIn last u)) (keyMark (codeIn last v))) 1 0)
+      → _≡_ {A = ℕ} (cond (eqb (keyMark (codeIn f last u)) (keyMark (codeIn f last v))) 1 0)
       (cond (sameProvider (u .provider) (v .provider) && sameTable (u .key) (v .key)) 1 0)
   mark-same u v h k =
-      rw (test-turned (keyMark (codeIn last u)) (keyMark (codeIn last v))) (omega (arith, alike-distinct last few u (v ∷ []) h (k, tt)))
+      rw (test-turned (keyMark (codeIn f last u)) (keyMark (codeIn f last v))) (omega (arith, alike-distinct f last few u (v ∷ []) h (k, tt)))
 
   -- with the entries of a use's mark counted, the next is the use's next index
   pub given-code : (entries : List Entry) (u : Use) → TablePlain entries → KeyPlain (u .key)
-      → givenCode last entries (keyMark (codeIn last u)) + 1 ≡ nextIndex entries u
+      → givenCode f last entries (keyMark (codeIn f last u)) + 1 ≡ nextIndex entries u
   given-code [] u plain h = refl
   given-code (e ∷ entries) u plain h = omega (arith, mark-same u (e .use-of) h (plain .0), given-code entries u (plain .1) h)
 
   -- a use is chosen where its code is
   pub chosen-code : (uses : List Use) (u : Use) → UsesPlain uses → KeyPlain (u .key)
-      → chosenKey (codes last uses) (codeIn last u) ≡ chosenIn uses u
-  chosen-code uses u plain h = rw (code-words (contextIn last (u .provider)) (u .key) h, count-codes last few u uses h plain)
+      → chosenKey (codes f last uses) (codeIn f last u) ≡ chosenIn uses u
+  chosen-code uses u plain h = rw (code-words f (contextIn last (u .provider)) (u .key) h, count-codes f last few u uses h plain)
 
 -- ---- the slots by a table
 
 -- the slots hold, by codes, the choices of a list of uses and the indexes of a table
 pub record Indexing (f : Format) (archive : List ℕ) (last : State) (uses : List Use) (slots : List ℕ) (entries : List Entry) : Type 0 where
-  pub indexes : Indexes archive (tableWords f) slots (codes last uses) (chosenKey (codes last uses)) (indexCode last entries) (givenCode last entries)
+  pub indexes : Indexes archive (tableWords f) slots (codes f last uses) (chosenKey (codes f last uses)) (indexCode f last entries) (givenCode f last entries)
   pub plain : TablePlain entries
   pub seen : List Use
   pub registered : Registered (chosenIn uses) entries seen
@@ -94,15 +94,15 @@ module _ (f : Format) (archive : List ℕ) (last : State) (uses : List Use) (few
       inline-index u (empty-inline (count sameUse u uses))
 
   -- what is found for a plain use's code is its index
-  pub index-spelled : (u : Use) → KeyPlain (u .key) → indexOf archive (tableWords f) slots (codeIn last u) ≡ indexIn entries (u .provider) (u .key)
+  pub index-spelled : (u : Use) → KeyPlain (u .key) → indexOf archive (tableWords f) slots (codeIn f last u) ≡ indexIn entries (u .provider) (u .key)
   index-spelled u h =
-      let n = count sameBytes (codeIn last u) (codes last uses) in
-      let counted = count-codes last few u uses h plain in
+      let n = count sameBytes (codeIn f last u) (codes f last uses) in
+      let counted = count-codes f last few u uses h plain in
       cases (eqb n 0)
       (λ e. let none = eqb-true n 0 e in
-      index-missing (I .indexes) (codeIn last u) none
+      index-missing (I .indexes) (codeIn f last u) none
       ∙ sym (inline-index u (unused-inline (keyWords (u .key)) (count sameUse u uses) (sym counted ∙ none))))
       (λ e. let some = eqb-false n 0 e in
-      index-found (I .indexes) (codeIn last u) (omega arith)
-      ∙ (rw (chosen-code last few uses u plain h, index-code last few entries u (I .plain) h)
+      index-found (I .indexes) (codeIn f last u) (omega arith)
+      ∙ (rw (chosen-code f last few uses u plain h, index-code f last few entries u (I .plain) h)
       (cases (chosenIn uses u) (λ c. rw c) (λ c. rw c (sym (inline-index u c))))))

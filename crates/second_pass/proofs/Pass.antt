@@ -65,14 +65,14 @@ uses-both [] others = refl
 uses-both (i ∷ items) others = rw (uses-both items others) (sym (append-assoc (usesOf i) (usesAll items) (usesAll others)))
 
 -- what the rule writes for one item or none, and then for others
-records-behind : (chosen : Use → Bool) (entries : List Entry) (o : Option Item) (others : List Item)
-    → recordsFrom chosen entries (itemList o ++ others)
-    ≡ recordsFrom chosen entries (itemList o) ++ recordsFrom chosen (entriesAfter chosen entries (usesAll (itemList o))) others
-records-behind chosen entries none others = refl
-records-behind chosen entries (some i) others =
-    let first = registrations chosen entries (usesOf i) in
-    let own = itemRecord (indexIn (entriesAfter chosen entries (usesOf i)) (itemProvider i)) i in
-    rw (append-nil (usesOf i), append-nil own) (sym (append-assoc first own (recordsFrom chosen (entriesAfter chosen entries (usesOf i)) others)))
+records-behind : (f : Format) (chosen : Use → Bool) (entries : List Entry) (o : Option Item) (others : List Item)
+    → recordsFrom f chosen entries (itemList o ++ others)
+    ≡ recordsFrom f chosen entries (itemList o) ++ recordsFrom f chosen (entriesAfter chosen entries (usesAll (itemList o))) others
+records-behind f chosen entries none others = refl
+records-behind f chosen entries (some i) others =
+    let first = registrations f chosen entries (usesOf i) in
+    let own = itemRecord f (indexIn (entriesAfter chosen entries (usesOf i)) (itemProvider i)) i in
+    rw (append-nil (usesOf i), append-nil own) (sym (append-assoc first own (recordsFrom f chosen (entriesAfter chosen entries (usesOf i)) others)))
 
 -- both parts fit as they are written
 fit-behind : (f : Format) (chosen : Use → Bool) (entries : List Entry) (o : Option Item) (others : List Item) → AllFit f chosen entries (itemList o ++ others)
@@ -105,8 +105,8 @@ pub record Writing (f : Format) (archive : List ℕ) (s : State) (tables slots�
   pub indexing : Indexing f archive (lastOf f archive) (usesAll (itemsOf (runOf f archive))) slots entries
   pub ready : UsesReady f (usesAll (itemsOf (runOf f archive))) entries (usesAll (itemsOf (runFrom f archive (suc steps) s tables)))
   pub fit : AllFit f (chosenIn (usesAll (itemsOf (runOf f archive)))) entries (itemsOf (runFrom f archive (suc steps) s tables))
-  pub rule-is : rule (itemsOf (runOf f archive))
-      ≡ sofar ++ recordsFrom (chosenIn (usesAll (itemsOf (runOf f archive)))) entries (itemsOf (runFrom f archive (suc steps) s tables))
+  pub rule-is : rule f (itemsOf (runOf f archive))
+      ≡ sofar ++ recordsFrom f (chosenIn (usesAll (itemsOf (runOf f archive)))) entries (itemsOf (runFrom f archive (suc steps) s tables))
   pub kept : KeysKept archive (tableWords f) (keysOf f archive) slots₀ slots
 
 -- ---- the end
@@ -122,7 +122,7 @@ module _ (f : Format) (archive : List ℕ) (s : State) (tables slots₀ slots so
   ends = run-end f archive tables s (w .steps) (w .sound) (w .opens) e
 
   -- all bytes of the rule are written
-  pub writing-end : rule (itemsOf (runOf f archive)) ≡ sofar
+  pub writing-end : rule f (itemsOf (runOf f archive)) ≡ sofar
   writing-end = w .rule-is ∙ rw ends (append-nil sofar)
 
   -- the tables are those at the end
@@ -135,7 +135,7 @@ module _ (f : Format) (archive : List ℕ) (s : State) (tables slots₀ slots so
 
   -- whose indexes the slots hold
   slots-index : Indexes archive (tableWords f) slots (keysOf f archive) (chosenKey (keysOf f archive))
-      (indexCode (lastOf f archive) (registeredOf f archive)) (givenCode (lastOf f archive) (registeredOf f archive))
+      (indexCode f (lastOf f archive) (registeredOf f archive)) (givenCode f (lastOf f archive) (registeredOf f archive))
   slots-index = rw entries-whole at (w .indexing .indexes)
 
   -- with places and labels as they were, and the third words of other slots
@@ -182,7 +182,7 @@ pub record Turned (f : Format) (archive : List ℕ) (s : State) (tables slots₀
   pub writing : Writing f archive (afterRecord s c next .state) (tablesAfter f tables s c) slots₀
       (contentSlots f archive (tablesAfter f tables s c) slots s c next)
       (sofar ++ contentBytes f archive (tablesAfter f tables s c) slots s c next)
-  pub room : length (sofar ++ contentBytes f archive (tablesAfter f tables s c) slots s c next) ≤ length (rule (itemsOf (runOf f archive)))
+  pub room : length (sofar ++ contentBytes f archive (tablesAfter f tables s c) slots s c next) ≤ length (rule f (itemsOf (runOf f archive)))
 
 module _ (f : Format) (archive : List ℕ) (s : State) (tables slots₀ slots sofar : List ℕ) (w : Writing f archive s tables slots₀ slots sofar)
     (more : s .place < length archive) where
@@ -281,11 +281,11 @@ module _ (f : Format) (archive : List ℕ) (s : State) (tables slots₀ slots so
       ∙ rw (shown, uses-both (itemList item) (itemsOf rest)) (after-both chosen (w .entries) (usesAll (itemList item)) (usesAll (itemsOf rest)))
 
   -- with them the bytes of the rule go on
-  rule-follows : rule (itemsOf (runOf f archive)) ≡ (sofar ++ bytes) ++ recordsFrom chosen entries′ (itemsOf rest)
+  rule-follows : rule f (itemsOf (runOf f archive)) ≡ (sofar ++ bytes) ++ recordsFrom f chosen entries′ (itemsOf rest)
   rule-follows =
       w .rule-is
-      ∙ rw (shown, records-behind chosen (w .entries) item (itemsOf rest), ← (wrote .bytes-are))
-      (sym (append-assoc sofar bytes (recordsFrom chosen entries′ (itemsOf rest))))
+      ∙ rw (shown, records-behind f chosen (w .entries) item (itemsOf rest), ← (wrote .bytes-are))
+      (sym (append-assoc sofar bytes (recordsFrom f chosen entries′ (itemsOf rest))))
 
   -- a turn of the pass
   pub writing-turn : Turned f archive s tables slots₀ slots sofar (recordAt f archive (s .place) .content) (recordAt f archive (s .place) .next)
@@ -311,7 +311,7 @@ module _ (f : Format) (archive : List ℕ) (s : State) (tables slots₀ slots so
       rule-is = rw again rule-follows;
       kept = kept-then archive (tableWords f) (keysOf f archive) (w .indexing .indexes .wide .some) slots₀ slots _ (w .kept) (wrote .kept);
     };
-    room = omega (arith, ap length rule-follows, length-append (sofar ++ bytes) (recordsFrom chosen entries′ (itemsOf rest)));
+    room = omega (arith, ap length rule-follows, length-append (sofar ++ bytes) (recordsFrom f chosen entries′ (itemsOf rest)));
   }
 
 -- ---- the start

@@ -82,7 +82,7 @@ output-long {out₀ = out₀} asks p =
 -- it was
 pub passing-end : {f : Format} {archive room₀ out₀ room out : List ℕ} {s : State} {at : ℕ} → Passing f archive room₀ out₀ room out s at
     → length archive ≤ s .place
-    → (out ≡ overwritten out₀ 0 (rule (itemsOf (runOf f archive))))
+    → (out ≡ overwritten out₀ 0 (rule f (itemsOf (runOf f archive))))
     × ((take (tableWords f) room ≡ tablesOf f archive)
     × (SlotsIndexed f archive (drop (tableWords f) room₀) (drop (tableWords f) room)
     × ((length room ≡ length room₀) × (drop (4 * tableWords f) room ≡ drop (4 * tableWords f) room₀))))

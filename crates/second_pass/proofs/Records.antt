@@ -51,8 +51,8 @@ use Rattle.second_pass.proofs.Registrations.{can-look-up}
 
 -- what is looked up in a table is spelled as it is encoded, and fits
 pub record Spells (f : Format) (archive slots : List ℕ) (context table : ℕ) (index : Key → ℕ) (r : Resolved) : Type 0 where
-  pub part-is : spelledPart archive table (spelledOf f archive slots context table r)
-      ≡ encodedReferent index (referentItem archive (shownReferent archive table r))
+  pub part-is : spelledPart f archive table (spelledOf f archive slots context table r)
+      ≡ encodedReferent index (referentItem archive (shownReferent f archive table r))
   pub text : table ≡ 2 → TextShort archive (spelledOf f archive slots context table r)
   pub thread : SpelledThread table archive (spelledOf f archive slots context table r)
 
@@ -86,7 +86,7 @@ module _ (f : Format) (archive : List ℕ) (last : State) (uses : List Use) (few
       let size = part-inside archive place long inside .1 in
       let u : Use = record { provider = provider; key = textKey (partOf archive place long) } in
       let is : indexOf archive (tableWords f) slots (keyOf archive place (labelOf context 2 long)) ≡ index (textKey (partOf archive place long)) =
-      ap (indexOf archive (tableWords f) slots) (text-use-code archive last provider context here place long inside (omega arith))
+      ap (indexOf archive (tableWords f) slots) (text-use-code f archive last provider context here place long inside (omega arith))
       ∙ index-spelled f archive last uses few plain slots entries I u (omega (arith, size)) in
       record { part-is = rw is; text = λ k. (omega (arith, is), omega (arith, size)); thread = λ k. absurd (omega (arith, k)) }
 
@@ -99,26 +99,26 @@ module _ (f : Format) (archive : List ℕ) (last : State) (uses : List Use) (few
   text-spelled (Unresolved i) stands fit = absurd fit
 
   -- a thread as it is shown
-  thread-spelled : (r : Resolved) → ResolvedStands archive 3 r → ThreadFits index (threadItem (shownThread archive r))
+  thread-spelled : (r : Resolved) → ResolvedStands archive 3 r → ThreadFits index (threadItem (shownThread f archive r))
       → Spells f archive slots context 3 index r
   unfolding spelledOf shownThread shownReferent
   thread-spelled Bad stands fit = absurd fit
   thread-spelled (Known place long) stands fit =
       let sixteen = stands .1 refl in
       let size = part-inside archive place long (stands .0) .1 in
-      let k = threadKey (thread (wordAt archive place) (wordAt archive (place + 8))) in
-      let words = words-inside archive place (omega (arith, sixteen, stands .0)) in
+      let k = threadKey (thread (wordAt (f .order) archive place) (wordAt (f .order) archive (place + 8))) in
+      let words = words-inside f archive place (omega (arith, sixteen, stands .0)) in
       let u : Use = record { provider = provider; key = k } in
-      let code = thread-use-code archive last provider context here place bytes (omega (arith, sixteen, stands .0)) in
+      let code = thread-use-code f archive last provider context here place bytes (omega (arith, sixteen, stands .0)) in
       let is : indexOf archive (tableWords f) slots (keyOf archive place (labelOf context 3 long)) ≡ index k =
       ap (indexOf archive (tableWords f) slots) (rw sixteen code)
-      ∙ index-spelled f archive last uses few plain slots entries I u (wordAt-lt archive place bytes, wordAt-lt archive (place + 8) bytes) in
+      ∙ index-spelled f archive last uses few plain slots entries I u (wordAt-lt (f .order) archive place bytes, wordAt-lt (f .order) archive (place + 8) bytes) in
       record { part-is = rw (is, sixteen, words .0, words .1); text = λ k. absurd (omega (arith, k)); thread = λ k none. omega (arith, size, sixteen) }
   thread-spelled (Unresolved i) stands fit = absurd fit
 
   -- what is looked up in one of the two tables, as it is shown
   referent-spelled : (table : ℕ) (r : Resolved) → IsTable table → ResolvedStands archive table r
-      → ReferentFits f index (referentItem archive (shownReferent archive table r)) → Spells f archive slots context table index r
+      → ReferentFits f index (referentItem archive (shownReferent f archive table r)) → Spells f archive slots context table index r
   unfolding shownReferent
   referent-spelled table r (inl k) stands fit = rw k (text-spelled r (rw k at stands) (rw k at fit))
   referent-spelled table r (inr k) stands fit = rw k (thread-spelled r (rw k at stands) (rw k at fit))
@@ -157,16 +157,16 @@ module _ (f : Format) (archive : List ℕ) (last : State) (uses : List Use) (few
     -- a value is written as the rule writes it
     value-spelled : (name : Encoded) (v : ReadValue) → LookupStands archive (textLookup (textIn v))
         → ValueFits f index (valueItem archive (shownValue f archive tables context until v))
-        → valueBytes f archive tables slots context until name v ≡ valueRecord index name (valueItem archive (shownValue f archive tables context until v))
+        → valueBytes f archive tables slots context until name v ≡ valueRecord f index name (valueItem archive (shownValue f archive tables context until v))
     unfolding shownValue shownReferent
     value-spelled name (ScalarValue s) stands fit = refl
     value-spelled name (TextValue r) stands fit =
-        ap (λ (w : Encoded). textArgument name w) (lookup-spelled (textLookup r) stands fit .part-is)
+        ap (λ (w : Encoded). textArgument f name w) (lookup-spelled (textLookup r) stands fit .part-is)
 
     module _ (a : ReadArgument) (name : LookupStands archive (textLookup (a .name))) (value : LookupStands archive (textLookup (textIn (a .value))))
         (fit : ArgumentItemFits f index (argumentAt f archive tables context until a)) where
       -- an argument is written as the rule writes it
-      argument-spelled : argumentBytes f archive tables slots context until a ≡ argumentRecord index (argumentAt f archive tables context until a)
+      argument-spelled : argumentBytes f archive tables slots context until a ≡ argumentRecord f index (argumentAt f archive tables context until a)
       unfolding argumentBytes shownReferent
       argument-spelled =
           rw (lookup-spelled (textLookup (a .name)) name (fit .name) .part-is)
@@ -181,12 +181,12 @@ module _ (f : Format) (archive : List ℕ) (last : State) (uses : List Use) (few
             name = lookup-fits (textLookup (a .name)) name (fit .name);
             text = v .0;
             type = v .1;
-            size = rw argument-spelled (omega (arith, length-argument index (argumentAt f archive tables context until a)));
+            size = rw argument-spelled (omega (arith, length-argument f index (argumentAt f archive tables context until a)));
           }
 
     -- arguments are written as the rule writes them, and fit
     pub record ArgumentsSpelled (l : List ReadArgument) : Type 0 where
-      pub bytes-are : argumentsBytes f archive tables slots context until l ≡ argumentsRecords index (argumentsAt f archive tables context until l)
+      pub bytes-are : argumentsBytes f archive tables slots context until l ≡ argumentsRecords f index (argumentsAt f archive tables context until l)
       pub fits : ArgumentsFit f archive tables slots context until l
 
     -- so are those that stand in the archive and fit
@@ -247,7 +247,7 @@ module _ (f : Format) (archive : List ℕ) (last : State) (uses : List Use) (few
         (all-sized keyIndex (item .arguments) (omega (arith, fit .layout .size)))
 
     -- behind its header it is written as the rule writes it
-    body-spelled : reportBody f archive tables slots s r next ≡ layoutBody keyIndex (reportLayout item)
+    body-spelled : reportBody f archive tables slots s r next ≡ layoutBody f keyIndex (reportLayout item)
     unfolding reportBody reportAt
     body-spelled = rw (first .part-is, second .part-is, third .part-is, arguments .bytes-are)
 
@@ -260,11 +260,11 @@ module _ (f : Format) (archive : List ℕ) (last : State) (uses : List Use) (few
         (referenceOf (encodedReferent keyIndex (item .third))) (length (item .stream))) (sym all))
 
     -- it is written as the rule writes it
-    pub report-spelled : reportBytes f archive tables slots s r next ≡ itemRecord keyIndex (report item)
+    pub report-spelled : reportBytes f archive tables slots s r next ≡ itemRecord f keyIndex (report item)
     unfolding reportBytes reportAt
     report-spelled =
-        ap (λ (h : List Field). recordBytes (ownLayout (r .own) .type) h (reportBody f archive tables slots s r next)) header-spelled
-        ∙ ap (λ (b : List ℕ). recordBytes (ownLayout (r .own) .type) (layoutHeader keyIndex (reportLayout item)) b) body-spelled
+        ap (λ (h : List Field). recordBytes f (ownLayout (r .own) .type) h (reportBody f archive tables slots s r next)) header-spelled
+        ∙ ap (λ (b : List ℕ). recordBytes f (ownLayout (r .own) .type) (layoutHeader keyIndex (reportLayout item)) b) body-spelled
 
     -- and fits
     pub report-fits : ReportFits f archive tables slots s r next
@@ -275,5 +275,5 @@ module _ (f : Format) (archive : List ℕ) (last : State) (uses : List Use) (few
       third = one-fits (r .third) (stands .1 .1 .0) (fit .layout .pieces .1 .1 .1 .0);
       header = subst FieldsFit (sym header-spelled) (own-encoded f keyIndex item fit .fits .fits .1 .1);
       arguments = arguments .fits;
-      size = omega (arith, ap length body-spelled, length-body keyIndex (reportLayout item), fit .layout .size);
+      size = omega (arith, ap length body-spelled, length-body f keyIndex (reportLayout item), fit .layout .size);
     }

@@ -41,24 +41,24 @@ resolved-stands f archive tables context until l h = go (lookedUp f archive tabl
     go (Unresolved index) e = tt
 
 -- the two words of sixteen bytes are those that the archive has there
-pub words-inside : (archive : List ℕ) (place : ℕ) → place + 16 ≤ length archive
-    → (wordAt (partOf archive place 16) 0 ≡ wordAt archive place) × (wordAt (partOf archive place 16) 8 ≡ wordAt archive (place + 8))
-words-inside archive place h =
+pub words-inside : (f : Format) (archive : List ℕ) (place : ℕ) → place + 16 ≤ length archive
+    → (wordAt (f .order) (partOf archive place 16) 0 ≡ wordAt (f .order) archive place) × (wordAt (f .order) (partOf archive place 16) 8 ≡ wordAt (f .order) archive (place + 8))
+words-inside f archive place h =
     rw (part-inside archive place 16 h .0) (
-      wordAt-take (drop place archive) 0 16 (omega arith) ∙ wordAt-drop archive place 0 ∙ rw add-zero,
-      wordAt-take (drop place archive) 8 16 (omega arith) ∙ wordAt-drop archive place 8,
+      wordAt-take (f .order) (drop place archive) 0 16 (omega arith) ∙ wordAt-drop (f .order) archive place 0 ∙ rw add-zero,
+      wordAt-take (f .order) (drop place archive) 8 16 (omega arith) ∙ wordAt-drop (f .order) archive place 8,
     )
 
 -- ---- the codes
 
-module _ (archive : List ℕ) (last : State) (provider : Option ℕ) (context : ℕ) (here : contextIn last provider ≡ context) (place : ℕ) where
+module _ (f : Format) (archive : List ℕ) (last : State) (provider : Option ℕ) (context : ℕ) (here : contextIn last provider ≡ context) (place : ℕ) where
   -- the key of a text in a provider's context is the code of its use
   pub text-use-code : (long : ℕ) → place + long ≤ length archive → long < 65536
-      → keyOf archive place (labelOf context 2 long) ≡ codeIn last (record { provider = provider; key = textKey (partOf archive place long) })
-  text-use-code long h short = rw here (text-code archive place long context short (part-inside archive place long h .1))
+      → keyOf archive place (labelOf context 2 long) ≡ codeIn f last (record { provider = provider; key = textKey (partOf archive place long) })
+  text-use-code long h short = rw here (text-code f archive place long context short (part-inside archive place long h .1))
 
   -- and so is that of a thread
   pub thread-use-code : AllBytes archive → place + 16 ≤ length archive
       → keyOf archive place (labelOf context 3 16)
-      ≡ codeIn last (record { provider = provider; key = threadKey (thread (wordAt archive place) (wordAt archive (place + 8))) })
-  thread-use-code bytes h = rw here (thread-code archive place context bytes h)
+      ≡ codeIn f last (record { provider = provider; key = threadKey (thread (wordAt (f .order) archive place) (wordAt (f .order) archive (place + 8))) })
+  thread-use-code bytes h = rw here (thread-code f archive place context bytes h)

@@ -29,21 +29,21 @@ use Rattle.second_pass.specs.Models.Fits.{RegistrationFits, GivenFits, C
 -- ---- the registration of a key
 
 -- without an index there is none
-pub registration-none : (table index : ℕ) (bytes : List ℕ) → index ≡ 0 → registrationBytes table index bytes ≡ []
+pub registration-none : (f : Format) (table index : ℕ) (bytes : List ℕ) → index ≡ 0 → registrationBytes f table index bytes ≡ []
 unfolding registrationBytes
-registration-none table index bytes z = rw (eq-eqb index 0 z)
+registration-none f table index bytes z = rw (eq-eqb index 0 z)
 
 -- that of a thread, from its two words
-pub registration-thread : (table index : ℕ) (bytes : List ℕ) (first second : ℕ) → (index ≡ 0 → ⊥) → table ≡ 3 → first ≡ wordAt bytes 0
-    → second ≡ wordAt bytes 8 → registrationBytes table index bytes ≡ threadRecord index (thread first second)
+pub registration-thread : (f : Format) (table index : ℕ) (bytes : List ℕ) (first second : ℕ) → (index ≡ 0 → ⊥) → table ≡ 3 → first ≡ wordAt (f .order) bytes 0
+    → second ≡ wordAt (f .order) bytes 8 → registrationBytes f table index bytes ≡ threadRecord f index (thread first second)
 unfolding registrationBytes
-registration-thread table index bytes first second some k a b = rw (ne-eqb index 0 some, eq-eqb table 3 k, a, b)
+registration-thread f table index bytes first second some k a b = rw (ne-eqb index 0 some, eq-eqb table 3 k, a, b)
 
 -- that of a text
-pub registration-text : (table index : ℕ) (bytes : List ℕ) → (index ≡ 0 → ⊥) → (table ≡ 3 → ⊥)
-    → registrationBytes table index bytes ≡ stringRecord index bytes
+pub registration-text : (f : Format) (table index : ℕ) (bytes : List ℕ) → (index ≡ 0 → ⊥) → (table ≡ 3 → ⊥)
+    → registrationBytes f table index bytes ≡ stringRecord f index bytes
 unfolding registrationBytes
-registration-text table index bytes some k = rw (ne-eqb index 0 some, ne-eqb table 3 k)
+registration-text f table index bytes some k = rw (ne-eqb index 0 some, ne-eqb table 3 k)
 
 -- ---- what a reference stands for
 
@@ -60,7 +60,7 @@ module _ (f : Format) (archive room out : List ℕ) (at context table : ℕ) (r 
       → givenIndex f archive (drop (tableWords f) room) context table r ≡ 0 → Given f archive room out at context table r room out at
   given-none same z =
       let index = givenIndex f archive (drop (tableWords f) room) context table r in
-      let none : givenBytes f archive (drop (tableWords f) room) context table r ≡ [] = registration-none table index (knownBytes archive r) z in (
+      let none : givenBytes f archive (drop (tableWords f) room) context table r ≡ [] = registration-none f table index (knownBytes archive r) z in (
         rw same (sym (take-append-drop (tableWords f) room)),
         (rw none (nothing-written out at), omega (arith, ap length none)),
       )
@@ -108,7 +108,7 @@ module _ (f : Format) (archive slots : List ℕ) (context table : ℕ) (r : Reso
 
     -- its registration fits where what is given fits
     pub registration-fits : (at size : ℕ) → GivenFits f archive slots context table r → at + length (givenBytes f archive slots context table r) ≤ size
-        → RegistrationFits table index bytes × (at + length (registrationBytes table index bytes) ≤ size)
+        → RegistrationFits table index bytes × (at + length (registrationBytes f table index bytes) ≤ size)
     registration-fits at size g h = rw (← index-is, ← bytes-are) (g, h)
 
 -- where it is written under its index, it is registered
@@ -118,8 +118,8 @@ pub given-known : (f : Format) (archive room out : List ℕ) (at context table :
     → slots
     ≡ indexed (tableWords f) (drop (tableWords f) room) label
     (findOf archive (tableWords f) (drop (tableWords f) room) (keyOf archive place label))
-    → after ≡ take (tableWords f) room ++ slots → now ≡ overwritten out at (registrationBytes table index bytes)
-    → next ≡ at + length (registrationBytes table index bytes) → Given f archive room out at context table r after now next
+    → after ≡ take (tableWords f) room ++ slots → now ≡ overwritten out at (registrationBytes f table index bytes)
+    → next ≡ at + length (registrationBytes f table index bytes) → Given f archive room out at context table r after now next
 given-known f archive room out at context table r place long label index bytes slots after now next i s a w n =
     let old = drop (tableWords f) room in
     rw (

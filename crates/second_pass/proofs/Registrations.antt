@@ -93,30 +93,30 @@ unfolding givenIndex givenSlots
 given-key f archive slots context table place long n = rw (ne-eqb long 0 n) (refl, refl)
 
 -- no registration where the index is 0
-none-registered : (table index : ℕ) (bytes : List ℕ) → index ≡ 0 → registrationBytes table index bytes ≡ []
+none-registered : (f : Format) (table index : ℕ) (bytes : List ℕ) → index ≡ 0 → registrationBytes f table index bytes ≡ []
 unfolding registrationBytes
-none-registered table index bytes e = rw (eq-eqb index 0 e)
+none-registered f table index bytes e = rw (eq-eqb index 0 e)
 
 -- the registration of a text and of a thread where they are new
-text-registered : (chosen : Use → Bool) (entries : List Entry) (provider : Option ℕ) (b : List ℕ) (index : ℕ)
+text-registered : (f : Format) (chosen : Use → Bool) (entries : List Entry) (provider : Option ℕ) (b : List ℕ) (index : ℕ)
     → index ≡ cond (isNew chosen entries (record { provider = provider; key = textKey b })) (nextIndex entries (record { provider = provider; key = textKey b })) 0
-    → registrationBytes 2 index b ≡ useBytes chosen entries (record { provider = provider; key = textKey b })
+    → registrationBytes f 2 index b ≡ useBytes f chosen entries (record { provider = provider; key = textKey b })
 unfolding registrationBytes
-text-registered chosen entries provider b index is =
+text-registered f chosen entries provider b index is =
     let u : Use = record { provider = provider; key = textKey b } in
     cases (isNew chosen entries u)
     (λ e. let next : index ≡ nextIndex entries u = rw e at is in
     rw (e, next, ne-eqb (nextIndex entries u) 0 (λ z. omega (arith, next-index-pos entries u))))
     (λ e. let none : index ≡ 0 = rw e at is in rw (e, eq-eqb index 0 none))
 
-thread-registered : (chosen : Use → Bool) (entries : List Entry) (provider : Option ℕ) (bytes : List ℕ) (p t index : ℕ)
+thread-registered : (f : Format) (chosen : Use → Bool) (entries : List Entry) (provider : Option ℕ) (bytes : List ℕ) (p t index : ℕ)
     → index
     ≡ cond (isNew chosen entries (record { provider = provider; key = threadKey (thread p t) }))
     (nextIndex entries (record { provider = provider; key = threadKey (thread p t) })) 0
-    → wordAt bytes 0 ≡ p → wordAt bytes 8 ≡ t
-    → registrationBytes 3 index bytes ≡ useBytes chosen entries (record { provider = provider; key = threadKey (thread p t) })
+    → wordAt (f .order) bytes 0 ≡ p → wordAt (f .order) bytes 8 ≡ t
+    → registrationBytes f 3 index bytes ≡ useBytes f chosen entries (record { provider = provider; key = threadKey (thread p t) })
 unfolding registrationBytes
-thread-registered chosen entries provider bytes p t index is process own =
+thread-registered f chosen entries provider bytes p t index is process own =
     let u : Use = record { provider = provider; key = threadKey (thread p t) } in
     cases (isNew chosen entries u)
     (λ e. let next : index ≡ nextIndex entries u = rw e at is in
@@ -141,7 +141,7 @@ module _ (f : Format) (archive : List ℕ) (last : State) (uses : List Use) (few
 
   -- a text whose bytes are these
   text-known : (place long : ℕ) (slots : List ℕ) → place + long ≤ length archive → long ≤ f .longest → (b : List ℕ) → partOf archive place long ≡ b
-      → Gives f archive last uses (textUses provider (known b)) slots (registrationBytes 2 (givenIndex f archive slots context 2 (Known place long)) b)
+      → Gives f archive last uses (textUses provider (known b)) slots (registrationBytes f 2 (givenIndex f archive slots context 2 (Known place long)) b)
       (givenSlots f archive slots context 2 (Known place long)) (GivenFits f archive slots context 2 (Known place long))
   text-known place long slots inside short [] is =
       let size = part-inside archive place long inside .1 in
@@ -153,21 +153,21 @@ module _ (f : Format) (archive : List ℕ) (last : State) (uses : List Use) (few
         thread-long = λ e. absurd (omega arith);
         short = omega (arith, size);
       } in
-      rw (none .1, none-registered 2 (givenIndex f archive slots context 2 (Known place long)) [] (none .0))
+      rw (none .1, none-registered f 2 (givenIndex f archive slots context 2 (Known place long)) [] (none .0))
       (gives-none f archive last uses slots fit)
   text-known place long slots inside short (b ∷ bs) is = λ entries I ready.
       let size = part-inside archive place long inside .1 in
       let l : length (b ∷ bs) ≡ long = sym (ap length is) ∙ size in
       let u : Use = record { provider = provider; key = textKey (b ∷ bs) } in
       let label = labelOf context 2 long in
-      let code = text-use-code archive last provider context here place long inside (omega (arith, small .longest)) in
+      let code = text-use-code f archive last provider context here place long inside (omega (arith, small .longest)) in
       let g = use-given f archive last uses few plain (small .highest) slots entries u place label I (omega (arith, small .longest)) (ready .0) (rw is at code)
       (omega (arith, label-mark context 2 long (omega (arith, small .longest)))) in
       let k = given-key f archive slots context 2 place long (λ z. omega arith) in
       let index = k .0 ∙ g .index-is in
       record {
-        bytes-are = text-registered chosen entries provider (b ∷ bs) (givenIndex f archive slots context 2 (Known place long)) index
-            ∙ sym (append-nil (useBytes chosen entries u));
+        bytes-are = text-registered f chosen entries provider (b ∷ bs) (givenIndex f archive slots context 2 (Known place long)) index
+            ∙ sym (append-nil (useBytes f chosen entries u));
         indexing = rw (k .1) (g .indexing);
         kept = rw (k .1) (g .kept);
         fits = record {
@@ -190,24 +190,24 @@ module _ (f : Format) (archive : List ℕ) (last : State) (uses : List Use) (few
 
   -- a thread whose words stand at this place
   thread-known : (place long : ℕ) (slots : List ℕ) → place + long ≤ length archive → long ≡ 16
-      → Gives f archive last uses (threadUses provider (known (thread (wordAt archive place) (wordAt archive (place + 8))))) slots
+      → Gives f archive last uses (threadUses provider (known (thread (wordAt (f .order) archive place) (wordAt (f .order) archive (place + 8))))) slots
       (givenBytes f archive slots context 3 (Known place long)) (givenSlots f archive slots context 3 (Known place long))
       (GivenFits f archive slots context 3 (Known place long))
   thread-known place long slots inside sixteen entries I ready =
-      let p = wordAt archive place in
-      let t = wordAt archive (place + 8) in
+      let p = wordAt (f .order) archive place in
+      let t = wordAt (f .order) archive (place + 8) in
       let size = part-inside archive place long inside .1 in
       let u : Use = record { provider = provider; key = threadKey (thread p t) } in
       let label = labelOf context 3 long in
-      let code : keyOf archive place label ≡ codeIn last u = rw sixteen (thread-use-code archive last provider context here place bytes (omega arith)) in
-      let g = use-given f archive last uses few plain (small .highest) slots entries u place label I (wordAt-lt archive place bytes, wordAt-lt archive (place + 8) bytes)
+      let code : keyOf archive place label ≡ codeIn f last u = rw sixteen (thread-use-code f archive last provider context here place bytes (omega arith)) in
+      let g = use-given f archive last uses few plain (small .highest) slots entries u place label I (wordAt-lt (f .order) archive place bytes, wordAt-lt (f .order) archive (place + 8) bytes)
       (ready .0) code (omega (arith, label-mark context 3 long (omega arith))) in
       let k = given-key f archive slots context 3 place long (λ z. omega arith) in
       let index = k .0 ∙ g .index-is in
-      let words = words-inside archive place (omega arith) in
+      let words = words-inside f archive place (omega arith) in
       record {
-        bytes-are = thread-registered chosen entries provider (partOf archive place long) p t (givenIndex f archive slots context 3 (Known place long)) index
-            (rw sixteen (words .0)) (rw sixteen (words .1)) ∙ sym (append-nil (useBytes chosen entries u));
+        bytes-are = thread-registered f chosen entries provider (partOf archive place long) p t (givenIndex f archive slots context 3 (Known place long)) index
+            (rw sixteen (words .0)) (rw sixteen (words .1)) ∙ sym (append-nil (useBytes f chosen entries u));
         indexing = rw (k .1) (g .indexing);
         kept = rw (k .1) (g .kept);
         fits = record {
@@ -219,8 +219,8 @@ module _ (f : Format) (archive : List ℕ) (last : State) (uses : List Use) (few
       }
 
   -- a thread as it is shown
-  thread-gives : (slots : List ℕ) (r : Resolved) → ResolvedStands archive 3 r → ThreadPlain (threadItem (shownThread archive r))
-      → Gives f archive last uses (threadUses provider (threadItem (shownThread archive r))) slots (givenBytes f archive slots context 3 r)
+  thread-gives : (slots : List ℕ) (r : Resolved) → ResolvedStands archive 3 r → ThreadPlain (threadItem (shownThread f archive r))
+      → Gives f archive last uses (threadUses provider (threadItem (shownThread f archive r))) slots (givenBytes f archive slots context 3 r)
       (givenSlots f archive slots context 3 r) (GivenFits f archive slots context 3 r)
   unfolding shownThread
   thread-gives slots Bad stands fit = absurd fit
@@ -229,8 +229,8 @@ module _ (f : Format) (archive : List ℕ) (last : State) (uses : List Use) (few
 
   -- what is looked up in one of the two tables, as it is shown
   referent-gives : (table : ℕ) (slots : List ℕ) (r : Resolved) → IsTable table → ResolvedStands archive table r
-      → ReferentPlain f (referentItem archive (shownReferent archive table r))
-      → Gives f archive last uses (referentUses provider (referentItem archive (shownReferent archive table r))) slots
+      → ReferentPlain f (referentItem archive (shownReferent f archive table r))
+      → Gives f archive last uses (referentUses provider (referentItem archive (shownReferent f archive table r))) slots
       (givenBytes f archive slots context table r) (givenSlots f archive slots context table r) (GivenFits f archive slots context table r)
   unfolding shownReferent
   referent-gives table slots r (inl k) stands fit = rw k (text-gives slots r (rw k at stands) (rw k at fit))

@@ -44,7 +44,7 @@ module _ (f : Format) (archive slots : List ℕ) (wide : Wide (tableWords f) slo
   -- so it is not registered
   settled-bytes : (context table : ℕ) (r : Resolved) → givenBytes f archive slots context table r ≡ []
   settled-bytes context table r =
-      registration-none table (givenIndex f archive slots context table r) (knownBytes archive r) (settled-none context table r)
+      registration-none f table (givenIndex f archive slots context table r) (knownBytes archive r) (settled-none context table r)
 
   -- and the slots stay
   settled-slots : (context table : ℕ) (r : Resolved) → givenSlots f archive slots context table r ≡ slots

@@ -12,9 +12,9 @@ use Rattle.tally.specs.Models.Tally.{Wide}
 use Rattle.tables.specs.Models.Entries.{FormatFits}
 use Rattle.encoding.specs.Encoded.{stream, referenceOf, wordsBytes, partBytes, partsBytes}
 use Rattle.encoding.specs.Models.Part.{textPart, FieldsFit, reportHeader, textArgument, scalarArgument}
-use Rattle.words.specs.Word.{bytesOf, Field, _of_, pack}
+use Rattle.words.specs.Word.{wordBytes, Field, _of_, pack}
 use Rattle.words.specs.Stream.{overwritten}
-use Rattle.words.proofs.Words.{length-bytesOf}
+use Rattle.words.proofs.Words.{length-wordBytes}
 use Rattle.words.proofs.Streams.{length-overwritten, overwritten-twice, none-overwritten}
 use Rattle.format.specs.declared.Format.{Format}
 use Rattle.format.specs.declared.Reference.{Reference}
@@ -90,25 +90,25 @@ pub writing-leaves : {out whole part now : List ℕ} {left : List (List ℕ)} {s
 writing-leaves e w = record { done = w .done; parts = w .parts ∙ rw e; is = w .is; behind = w .behind }
 
 -- a body behind the place of a header, and then the header, are one writing of both
-pub header-last : (out : List ℕ) (place word : ℕ) (body : List ℕ) → place + 8 ≤ length out
-    → overwritten (overwritten out (place + 8) body) place (bytesOf 8 word) ≡ overwritten out place (bytesOf 8 word ++ body)
-header-last out place word body h =
+pub header-last : (f : Format) (out : List ℕ) (place word : ℕ) (body : List ℕ) → place + 8 ≤ length out
+    → overwritten (overwritten out (place + 8) body) place (wordBytes (f .order) word) ≡ overwritten out place (wordBytes (f .order) word ++ body)
+header-last f out place word body h =
     let front = take (place + 8) out in
     let behind = body ++ drop (place + 8 + length body) out in
     let long : length front ≡ place + 8 = length-take-le (place + 8) out h in
     rw (
-      length-append (bytesOf 8 word) body,
-      length-bytesOf 8 word,
+      length-append (wordBytes (f .order) word) body,
+      length-wordBytes (f .order) word,
       take-append-le place front behind (omega arith),
       take-take place (place + 8) out (omega arith),
       drop-at front behind (place + 8) long,
       ← add-assoc place 8 (length body),
-      append-assoc (bytesOf 8 word) body,
+      append-assoc (wordBytes (f .order) word) body,
     )
 
 -- a header is eight bytes in front of a body
-length-headed : (word : ℕ) (body : List ℕ) → length (bytesOf 8 word ++ body) ≡ 8 + length body
-length-headed word body = rw (length-append (bytesOf 8 word) body, length-bytesOf 8 word)
+length-headed : (f : Format) (word : ℕ) (body : List ℕ) → length (wordBytes (f .order) word ++ body) ≡ 8 + length body
+length-headed f word body = rw (length-append (wordBytes (f .order) word) body, length-wordBytes (f .order) word)
 
 -- ---- the room
 
@@ -124,12 +124,12 @@ slots-wide f words room fit e h = record {
 -- ---- last words
 
 -- no last word where the kind has none
-pub last-none : (behind last : ℕ) → behind ≡ 0 → wordsBytes (lastWords behind last) ≡ []
-last-none behind last z = rw (eq-eqb behind 0 z)
+pub last-none : (f : Format) (behind last : ℕ) → behind ≡ 0 → wordsBytes f (lastWords behind last) ≡ []
+last-none f behind last z = rw (eq-eqb behind 0 z)
 
 -- and one where it has one
-pub last-word : (behind last : ℕ) → (behind ≡ 0 → ⊥) → wordsBytes (lastWords behind last) ≡ bytesOf 8 last
-last-word behind last some = rw (ne-eqb behind 0 some) (append-nil (bytesOf 8 last))
+pub last-word : (f : Format) (behind last : ℕ) → (behind ≡ 0 → ⊥) → wordsBytes f (lastWords behind last) ≡ wordBytes (f .order) last
+last-word f behind last some = rw (ne-eqb behind 0 some) (append-nil (wordBytes (f .order) last))
 
 -- ---- arguments
 
@@ -137,7 +137,7 @@ module _ (f : Format) (archive tables slots : List ℕ) (context until : ℕ) wh
   -- an argument whose value is no text, from how its name is spelled
   pub scalar-argument : (a : Argument) (p : Spelled) (bytes : List ℕ) (s : Scalar)
       → p ≡ spelledLookup f archive tables slots context until (textLookup (a .name)) → bytes ≡ spelledBytes archive p → a .value ≡ ScalarValue s
-      → argumentBytes f archive tables slots context until a ≡ scalarArgument (textPart (p .index) bytes) s
+      → argumentBytes f archive tables slots context until a ≡ scalarArgument f (textPart (p .index) bytes) s
   unfolding argumentBytes
   scalar-argument a p bytes s spelled is v = rw (is, spelled, v)
 
@@ -145,7 +145,7 @@ module _ (f : Format) (archive tables slots : List ℕ) (context until : ℕ) wh
   pub text-argument : (a : Argument) (p q : Spelled) (name text : List ℕ) (r : Reference)
       → p ≡ spelledLookup f archive tables slots context until (textLookup (a .name)) → name ≡ spelledBytes archive p
       → q ≡ spelledLookup f archive tables slots context until (textLookup r) → text ≡ spelledBytes archive q → a .value ≡ Text r
-      → argumentBytes f archive tables slots context until a ≡ textArgument (textPart (p .index) name) (textPart (q .index) text)
+      → argumentBytes f archive tables slots context until a ≡ textArgument f (textPart (p .index) name) (textPart (q .index) text)
   unfolding argumentBytes
   text-argument a p q name text r named n held t v = rw (n, named, t, held, v)
 
@@ -201,42 +201,42 @@ module _ (f : Format) (archive tables slots : List ℕ) (context until : ℕ) wh
 -- ---- records
 
 -- the pieces of a record are still to be written: own words, three references and the stream
-pub pieces-start : (archive : List ℕ) (r : Report) (first second third : Spelled) (out : List ℕ) (at : ℕ)
-    → Writing out at (partsBytes (spelledPieces archive r first second third))
-    (wordsBytes (ownLayout (r .own) .words)
-    ∷ partBytes (spelledPart archive (r .first .table) first)
-    ∷ partBytes (spelledPart archive (r .second .table) second)
-    ∷ partBytes (spelledPart archive (r .third .table) third)
-    ∷ partBytes (stream (streamOf archive r))
+pub pieces-start : (f : Format) (archive : List ℕ) (r : Report) (first second third : Spelled) (out : List ℕ) (at : ℕ)
+    → Writing out at (partsBytes f (spelledPieces f archive r first second third))
+    (wordsBytes f (ownLayout (r .own) .words)
+    ∷ partBytes f (spelledPart f archive (r .first .table) first)
+    ∷ partBytes f (spelledPart f archive (r .second .table) second)
+    ∷ partBytes f (spelledPart f archive (r .third .table) third)
+    ∷ partBytes f (stream (streamOf archive r))
     ∷ []) out at
-pieces-start archive r first second third out at =
-    writing-starts out at (partsBytes (spelledPieces archive r first second third)) _ refl
+pieces-start f archive r first second third out at =
+    writing-starts out at (partsBytes f (spelledPieces f archive r first second third)) _ refl
 
 -- the header of a record, from the references as they are spelled and the length of its stream
-module _ (archive : List ℕ) (r : Report) (first second third : Spelled) (a b c long : ℕ) (one : a ≡ referenceOf (spelledPart archive (r .first .table) first))
-    (two : b ≡ referenceOf (spelledPart archive (r .second .table) second)) (three : c ≡ referenceOf (spelledPart archive (r .third .table) third))
+module _ (f : Format) (archive : List ℕ) (r : Report) (first second third : Spelled) (a b c long : ℕ) (one : a ≡ referenceOf (spelledPart f archive (r .first .table) first))
+    (two : b ≡ referenceOf (spelledPart f archive (r .second .table) second)) (three : c ≡ referenceOf (spelledPart f archive (r .third .table) third))
     (is : long ≡ length (streamOf archive r)) where
-  fields-are : ownLayout (r .own) .header (r .count) a b c long ≡ spelledFields archive r first second third
+  fields-are : ownLayout (r .own) .header (r .count) a b c long ≡ spelledFields f archive r first second third
   fields-are =
       ap (λ (n : ℕ). ownLayout (r .own) .header (r .count) n b c long) one
-      ∙ ap (λ (n : ℕ). ownLayout (r .own) .header (r .count) (referenceOf (spelledPart archive (r .first .table) first)) n c long) two
-      ∙ ap (λ (n : ℕ). ownLayout (r .own) .header (r .count) (referenceOf (spelledPart archive (r .first .table) first))
-      (referenceOf (spelledPart archive (r .second .table) second)) n long) three
-      ∙ ap (λ (n : ℕ). ownLayout (r .own) .header (r .count) (referenceOf (spelledPart archive (r .first .table) first))
-      (referenceOf (spelledPart archive (r .second .table) second)) (referenceOf (spelledPart archive (r .third .table) third)) n) is
+      ∙ ap (λ (n : ℕ). ownLayout (r .own) .header (r .count) (referenceOf (spelledPart f archive (r .first .table) first)) n c long) two
+      ∙ ap (λ (n : ℕ). ownLayout (r .own) .header (r .count) (referenceOf (spelledPart f archive (r .first .table) first))
+      (referenceOf (spelledPart f archive (r .second .table) second)) n long) three
+      ∙ ap (λ (n : ℕ). ownLayout (r .own) .header (r .count) (referenceOf (spelledPart f archive (r .first .table) first))
+      (referenceOf (spelledPart f archive (r .second .table) second)) (referenceOf (spelledPart f archive (r .third .table) third)) n) is
 
-  pub header-is : (size : ℕ) → reportHeader (r .own) size (r .count) a b c long ≡ spelledHeader archive size r first second third
-  header-is size = ap (λ (fields : List Field). bytesOf 8 (pack (ownLayout (r .own) .type of 4 ∷ size of 12 ∷ fields))) fields-are
+  pub header-is : (size : ℕ) → reportHeader f (r .own) size (r .count) a b c long ≡ spelledHeader f archive size r first second third
+  header-is size = ap (λ (fields : List Field). wordBytes (f .order) (pack (ownLayout (r .own) .type of 4 ∷ size of 12 ∷ fields))) fields-are
 
-  pub header-fits : SpelledHeaderFits archive r first second third → FieldsFit (ownLayout (r .own) .header (r .count) a b c long)
+  pub header-fits : SpelledHeaderFits f archive r first second third → FieldsFit (ownLayout (r .own) .header (r .count) a b c long)
   header-fits fit = subst FieldsFit (sym fields-are) fit
 
 -- the parts of a record behind its header: its pieces, its arguments and its last word
 abbrev pub reportParts : Format → (archive tables slots : List ℕ) → State → Report → ℕ → (first second third : Spelled) → List (List ℕ)
 reportParts f archive tables slots s r next first second third =
-    partsBytes (spelledPieces archive r first second third)
+    partsBytes f (spelledPieces f archive r first second third)
     ∷ argumentsBytes f archive tables slots (s .current) (s .place) (argumentsTo f archive r next)
-    ∷ wordsBytes (lastWords (ownLayout (r .own) .behind) (r .last))
+    ∷ wordsBytes f (lastWords (ownLayout (r .own) .behind) (r .last))
     ∷ []
 
 -- how its three references are spelled
@@ -250,12 +250,12 @@ module _ (f : Format) (archive tables slots : List ℕ) (s : State) (r : Report)
   -- a record behind its header is its parts
   report-parts : reportBody f archive tables slots s r next ≡ joined (reportParts f archive tables slots s r next first second third)
   unfolding reportBody
-  report-parts = rw (append-nil (wordsBytes (lastWords (ownLayout (r .own) .behind) (r .last))), p .first-is, p .second-is, p .third-is)
+  report-parts = rw (append-nil (wordsBytes f (lastWords (ownLayout (r .own) .behind) (r .last))), p .first-is, p .second-is, p .third-is)
 
   -- a record is as long as its header and what is behind it
   pub report-long : length (reportBytes f archive tables slots s r next) ≡ 8 + length (reportBody f archive tables slots s r next)
   unfolding reportBytes
-  report-long = length-headed _ (reportBody f archive tables slots s r next)
+  report-long = length-headed f _ (reportBody f archive tables slots s r next)
 
   -- its parts are still to be written, behind the place of the header
   pub report-starts : (out : List ℕ) (at : ℕ)
@@ -266,7 +266,7 @@ module _ (f : Format) (archive tables slots : List ℕ) (s : State) (r : Report)
   -- these parts, and then the header, are one writing of the record
   pub report-ends : (out now after : List ℕ) (at end : ℕ) → at + length (reportBytes f archive tables slots s r next) ≤ length out
       → Writing out (at + 8) (reportBody f archive tables slots s r next) [] now end
-      → after ≡ overwritten now at (spelledHeader archive ((end - at) / 8) r first second third)
+      → after ≡ overwritten now at (spelledHeader f archive ((end - at) / 8) r first second third)
       → (after ≡ overwritten out at (reportBytes f archive tables slots s r next)) × (end ≡ at + length (reportBytes f archive tables slots s r next))
   unfolding reportBytes
   report-ends out now after at end h w a =
@@ -275,6 +275,6 @@ module _ (f : Format) (archive tables slots : List ℕ) (s : State) (r : Report)
       let size : (end - at) / 8 ≡ 1 + length (reportBody f archive tables slots s r next) / 8 = omega (arith, ended .1) in (
         a
             ∙ rw (size, p .first-is, p .second-is, p .third-is, ended .0)
-            (header-last out at _ (reportBody f archive tables slots s r next) (omega (arith, long))),
+            (header-last f out at _ (reportBody f archive tables slots s r next) (omega (arith, long))),
         omega (arith, ended .1, long),
       )

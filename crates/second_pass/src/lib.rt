@@ -45,25 +45,34 @@ pub struct Spelled {
 }
 
 // The registration of a key under an index; none where that is 0.
-fn put_registration(out: &mut [u8], at: usize, table: u64, index: usize, bytes: &[u8]) -> usize
+fn put_registration(
+    f: Format,
+    out: &mut [u8],
+    at: usize,
+    table: u64,
+    index: usize,
+    bytes: &[u8],
+) -> usize
     requires { ⌜ RegistrationFits table index (now bytes) ⌝ }
-    requires { ⌜ at + length (registrationBytes table index (now bytes)) ≤ length (now out) ⌝ }
-    ensures { λ _. ⌜ now (out .exit) ≡ overwritten (now (out .entry)) at (registrationBytes table index (now (bytes .entry))) ⌝ }
-    ensures { λ r. ⌜ r ≡ at + length (registrationBytes table index (now (bytes .entry))) ⌝ }
+    requires { ⌜ at + length (registrationBytes f table index (now bytes)) ≤ length (now out) ⌝ }
+    ensures { λ _. ⌜ now (out .exit) ≡ overwritten (now (out .entry)) at (registrationBytes f table index (now (bytes .entry))) ⌝ }
+    ensures { λ r. ⌜ r ≡ at + length (registrationBytes f table index (now (bytes .entry))) ⌝ }
 {
+    let order = f.order;
     if index == 0 {
         return at;
     }
     if table == 3 {
         return encoding::put_thread_record(
+            f,
             out,
             at,
             index,
-            words::word(bytes, 0),
-            words::word(bytes, 8),
+            words::word(order, bytes, 0),
+            words::word(order, bytes, 8),
         );
     }
-    encoding::put_string_record(out, at, index, bytes)
+    encoding::put_string_record(f, out, at, index, bytes)
 }
 
 // Where what a reference stands for is to be registered and is not yet, it is, at the place `at`.
@@ -96,7 +105,14 @@ fn register_lookup(
             }
             let label = tally::label_of(context, table, length);
             let index = indexing::give_index(archive, &mut room[words..], words, place, label);
-            put_registration(out, at, table, index, reader::text(archive, place, length))
+            put_registration(
+                f,
+                out,
+                at,
+                table,
+                index,
+                reader::text(archive, place, length),
+            )
         }
     }
 }
@@ -257,21 +273,28 @@ fn spell(
 }
 
 // A text or a thread that is spelled so, in a body.
-fn put_spelled(archive: &[u8], out: &mut [u8], at: usize, table: u64, spelled: Spelled) -> usize
-    requires { ⌜ SpelledThread table (now archive) spelled × (at + length (partBytes (spelledPart (now archive) table spelled)) ≤ length (now out)) ⌝ }
-    ensures { λ _. ⌜ now (out .exit) ≡ overwritten (now (out .entry)) at (partBytes (spelledPart (now (archive .entry)) table spelled)) ⌝ }
-    ensures { λ r. ⌜ r ≡ at + length (partBytes (spelledPart (now (archive .entry)) table spelled)) ⌝ }
+fn put_spelled(
+    f: Format,
+    archive: &[u8],
+    out: &mut [u8],
+    at: usize,
+    table: u64,
+    spelled: Spelled,
+) -> usize
+    requires { ⌜ SpelledThread table (now archive) spelled × (at + length (partBytes f (spelledPart f (now archive) table spelled)) ≤ length (now out)) ⌝ }
+    ensures { λ _. ⌜ now (out .exit) ≡ overwritten (now (out .entry)) at (partBytes f (spelledPart f (now (archive .entry)) table spelled)) ⌝ }
+    ensures { λ r. ⌜ r ≡ at + length (partBytes f (spelledPart f (now (archive .entry)) table spelled)) ⌝ }
 {
     let bytes = reader::text(archive, spelled.place, spelled.long);
-    encoding::put_referent(out, at, table, spelled.index, bytes)
+    encoding::put_referent(f, out, at, table, spelled.index, bytes)
 }
 
 // Its reference.
-fn spelled_reference(archive: &[u8], table: u64, spelled: Spelled) -> u64
-    ensures { λ r. ⌜ r ≡ referenceOf (spelledPart (now (archive .entry)) table spelled) ⌝ }
+fn spelled_reference(f: Format, archive: &[u8], table: u64, spelled: Spelled) -> u64
+    ensures { λ r. ⌜ r ≡ referenceOf (spelledPart f (now (archive .entry)) table spelled) ⌝ }
 {
     let bytes = reader::text(archive, spelled.place, spelled.long);
-    encoding::referent_reference(table, spelled.index, bytes)
+    encoding::referent_reference(f, table, spelled.index, bytes)
 }
 
 // An argument.
@@ -299,7 +322,14 @@ fn put_argument(
     let named = spell(f, archive, room, context, until, name);
     let bytes = reader::text(archive, named.place, named.long);
     match value {
-        Value::Scalar(scalar) => encoding::put_scalar_argument(out, at, scalar, named.index, bytes),
+        Value::Scalar(scalar) => encoding::put_scalar_argument(
+            f,
+            out,
+            at,
+            scalar,
+            named.index,
+            bytes,
+        ),
         Value::Text(inside) => {
             let text = Lookup {
                 table: 2,
@@ -307,7 +337,7 @@ fn put_argument(
             };
             let held = spell(f, archive, room, context, until, text);
             let content = reader::text(archive, held.place, held.long);
-            encoding::put_text_argument(out, at, named.index, bytes, held.index, content)
+            encoding::put_text_argument(f, out, at, named.index, bytes, held.index, content)
         }
     }
 }
@@ -352,15 +382,16 @@ fn put_arguments(
 }
 
 // The last word of a record, where its kind has one.
-fn put_last(out: &mut [u8], at: usize, own: Event, last: u64) -> usize
-    requires { ⌜ at + length (wordsBytes (lastWords (ownLayout own .behind) last)) ≤ length (now out) ⌝ }
-    ensures { λ _. ⌜ now (out .exit) ≡ overwritten (now (out .entry)) at (wordsBytes (lastWords (ownLayout own .behind) last)) ⌝ }
-    ensures { λ r. ⌜ r ≡ at + length (wordsBytes (lastWords (ownLayout own .behind) last)) ⌝ }
+fn put_last(f: Format, out: &mut [u8], at: usize, own: Event, last: u64) -> usize
+    requires { ⌜ at + length (wordsBytes f (lastWords (ownLayout own .behind) last)) ≤ length (now out) ⌝ }
+    ensures { λ _. ⌜ now (out .exit) ≡ overwritten (now (out .entry)) at (wordsBytes f (lastWords (ownLayout own .behind) last)) ⌝ }
+    ensures { λ r. ⌜ r ≡ at + length (wordsBytes f (lastWords (ownLayout own .behind) last)) ⌝ }
 {
+    let order = f.order;
     if records::own_behind(own) == 0 {
         return at;
     }
-    words::put_word(out, at, last);
+    words::put_word(order, out, at, last);
     at + 8
 }
 
@@ -376,6 +407,7 @@ fn stream_bytes(archive: &[u8], stream: Reference) -> &[u8]
 
 // The pieces of a record before its arguments: its own words, its three references and its stream.
 fn put_pieces(
+    f: Format,
     archive: &[u8],
     out: &mut [u8],
     at: usize,
@@ -385,23 +417,24 @@ fn put_pieces(
     third: Spelled,
 ) -> usize
     requires { ⌜ SpelledThread (report .first .table) (now archive) first × SpelledThread (report .second .table) (now archive) second × SpelledThread (report .third .table) (now archive) third ⌝ }
-    requires { ⌜ at + length (partsBytes (spelledPieces (now archive) report first second third)) ≤ length (now out) ⌝ }
-    ensures { λ _. ⌜ now (out .exit) ≡ overwritten (now (out .entry)) at (partsBytes (spelledPieces (now (archive .entry)) report first second third)) ⌝ }
-    ensures { λ r. ⌜ r ≡ at + length (partsBytes (spelledPieces (now (archive .entry)) report first second third)) ⌝ }
+    requires { ⌜ at + length (partsBytes f (spelledPieces f (now archive) report first second third)) ≤ length (now out) ⌝ }
+    ensures { λ _. ⌜ now (out .exit) ≡ overwritten (now (out .entry)) at (partsBytes f (spelledPieces f (now (archive .entry)) report first second third)) ⌝ }
+    ensures { λ r. ⌜ r ≡ at + length (partsBytes f (spelledPieces f (now (archive .entry)) report first second third)) ⌝ }
 {
     let one = report.first;
     let two = report.second;
     let three = report.third;
     let stream = report.stream;
-    let owned = encoding::put_own_words(out, at, report.own);
-    let behind_first = put_spelled(archive, out, owned, one.table, first);
-    let behind_second = put_spelled(archive, out, behind_first, two.table, second);
-    let behind_third = put_spelled(archive, out, behind_second, three.table, third);
-    encoding::put_stream(out, behind_third, stream_bytes(archive, stream))
+    let owned = encoding::put_own_words(f, out, at, report.own);
+    let behind_first = put_spelled(f, archive, out, owned, one.table, first);
+    let behind_second = put_spelled(f, archive, out, behind_first, two.table, second);
+    let behind_third = put_spelled(f, archive, out, behind_second, three.table, third);
+    encoding::put_stream(f, out, behind_third, stream_bytes(archive, stream))
 }
 
 // The header of a record of this size in words.
 fn put_header(
+    f: Format,
     archive: &[u8],
     out: &mut [u8],
     at: usize,
@@ -411,8 +444,8 @@ fn put_header(
     second: Spelled,
     third: Spelled,
 ) -> usize
-    requires { ⌜ (size < 2 ^ 12) × SpelledHeaderFits (now archive) report first second third × (at + 8 ≤ length (now out)) ⌝ }
-    ensures { λ _. ⌜ now (out .exit) ≡ overwritten (now (out .entry)) at (spelledHeader (now (archive .entry)) size report first second third) ⌝ }
+    requires { ⌜ (size < 2 ^ 12) × SpelledHeaderFits f (now archive) report first second third × (at + 8 ≤ length (now out)) ⌝ }
+    ensures { λ _. ⌜ now (out .exit) ≡ overwritten (now (out .entry)) at (spelledHeader f (now (archive .entry)) size report first second third) ⌝ }
     ensures { λ r. ⌜ r ≡ at + 8 ⌝ }
 {
     let one = report.first;
@@ -420,14 +453,15 @@ fn put_header(
     let three = report.third;
     let stream = report.stream;
     encoding::put_report_header(
+        f,
         out,
         at,
         report.own,
         size,
         report.count,
-        spelled_reference(archive, one.table, first),
-        spelled_reference(archive, two.table, second),
-        spelled_reference(archive, three.table, third),
+        spelled_reference(f, archive, one.table, first),
+        spelled_reference(f, archive, two.table, second),
+        spelled_reference(f, archive, three.table, third),
         stream_bytes(archive, stream).len(),
     )
 }
@@ -458,7 +492,7 @@ fn put_report(
     let first = spell(f, archive, room, context, until, one);
     let second = spell(f, archive, room, context, until, two);
     let third = spell(f, archive, room, context, until, three);
-    let pieced = put_pieces(archive, out, at + 8, report, first, second, third);
+    let pieced = put_pieces(f, archive, out, at + 8, report, first, second, third);
     let argued = put_arguments(
         f,
         archive,
@@ -471,8 +505,9 @@ fn put_report(
         start,
         report.count,
     );
-    let end = put_last(out, argued, own, report.last);
+    let end = put_last(f, out, argued, own, report.last);
     put_header(
+        f,
         archive,
         out,
         at,
@@ -486,19 +521,19 @@ fn put_report(
 }
 
 // The record of an item that refers to nothing; nothing for a record that shows none.
-fn put_plain(archive: &[u8], out: &mut [u8], at: usize, content: Content) -> usize
-    requires { ⌜ PlainFits (plainItem (now archive) content) × (at + length (plainBytes (plainItem (now archive) content)) ≤ length (now out)) ⌝ }
-    ensures { λ _. ⌜ now (out .exit) ≡ overwritten (now (out .entry)) at (plainBytes (plainItem (now (archive .entry)) content)) ⌝ }
-    ensures { λ r. ⌜ r ≡ at + length (plainBytes (plainItem (now (archive .entry)) content)) ⌝ }
+fn put_plain(f: Format, archive: &[u8], out: &mut [u8], at: usize, content: Content) -> usize
+    requires { ⌜ PlainFits (plainItem (now archive) content) × (at + length (plainBytes f (plainItem (now archive) content)) ≤ length (now out)) ⌝ }
+    ensures { λ _. ⌜ now (out .exit) ≡ overwritten (now (out .entry)) at (plainBytes f (plainItem (now (archive .entry)) content)) ⌝ }
+    ensures { λ r. ⌜ r ≡ at + length (plainBytes f (plainItem (now (archive .entry)) content)) ⌝ }
 {
     match content {
-        Content::Magic => encoding::put_magic(out, at),
+        Content::Magic => encoding::put_magic(f, out, at),
         Content::ProviderInfo { id, place, length } => {
-            encoding::put_provider_info(out, at, id, reader::text(archive, place, length))
+            encoding::put_provider_info(f, out, at, id, reader::text(archive, place, length))
         }
-        Content::Section { id } => encoding::put_section(out, at, id),
-        Content::ProviderEvent { id, event } => encoding::put_provider_event(out, at, id, event),
-        Content::Initialization { rate } => encoding::put_initialization(out, at, rate),
+        Content::Section { id } => encoding::put_section(f, out, at, id),
+        Content::ProviderEvent { id, event } => encoding::put_provider_event(f, out, at, id, event),
+        Content::Initialization { rate } => encoding::put_initialization(f, out, at, rate),
         Content::Report(_) => at,
         Content::Refused(_) => at,
         Content::String {
@@ -539,7 +574,7 @@ fn put_record(
             let registered = register_waiting(f, archive, room, out, at, s, report, next, waits);
             put_report(f, archive, room, out, registered, s, report, next)
         }
-        _ => put_plain(archive, out, at, content),
+        _ => put_plain(f, archive, out, at, content),
     }
 }
 
@@ -547,7 +582,7 @@ fn put_record(
 pub fn write_all(f: Format, archive: &[u8], room: &mut [u32], out: &mut [u8])
     requires { ⌜ Asks f (now archive) (now room) (now out) ⌝ }
     requires { ⌜ Chosen f (now archive) (slotsIn f (now room)) ⌝ }
-    ensures { λ _. ⌜ now (out .exit) ≡ overwritten (now (out .entry)) 0 (ruleOf (itemsOf (runOf f (now (archive .entry))))) ⌝ }
+    ensures { λ _. ⌜ now (out .exit) ≡ overwritten (now (out .entry)) 0 (ruleOf f (itemsOf (runOf f (now (archive .entry))))) ⌝ }
     ensures { λ _. ⌜ tablesIn f (now (room .exit)) ≡ tablesOf f (now (archive .entry)) ⌝ }
     ensures { λ _. ⌜ SlotsIndexed f (now (archive .entry)) (slotsIn f (now (room .entry))) (slotsIn f (now (room .exit))) ⌝ }
     ensures { λ _. ⌜ (length (now (room .exit)) ≡ length (now (room .entry))) × (drop (4 * tableWords f) (now (room .exit)) ≡ drop (4 * tableWords f) (now (room .entry))) ⌝ }

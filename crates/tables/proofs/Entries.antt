@@ -25,7 +25,7 @@ use Rattle.records.specs.Effect.{effectOf}
 -- ---- what a record registers, by its header
 
 -- a content of a record that is no string and no thread record registers nothing
-silent : (f : Format) (source : List ℕ) (place : ℕ) → (field 0 3 (wordAt source 0) ≡ 2 → ⊥) → (field 0 3 (wordAt source 0) ≡ 3 → ⊥)
+silent : (f : Format) (source : List ℕ) (place : ℕ) → (field 0 3 (wordAt (f .order) source 0) ≡ 2 → ⊥) → (field 0 3 (wordAt (f .order) source 0) ≡ 3 → ⊥)
     → (c : Content) → ContentIs f source place c → registrationOf c ≡ Nothing
 unfolding registrationOf effectOf
 silent f source place a b _ (refused number n) = refl
@@ -45,7 +45,7 @@ pub content-registers : (f : Format) (source : List ℕ) (place : ℕ) → 8 ≤
     → registrationOf (contentOf f source place) ≡ registrationAt f source place
 unfolding registrationAt
 content-registers f source place h =
-    let t = field 0 3 (wordAt source 0) in
+    let t = field 0 3 (wordAt (f .order) source 0) in
     cases (eqb t 2) (λ e. rw (e, content-string f source place (eqb-true t 2 e)))
     (λ a. cases (eqb t 3) (λ e. rw (a, e, content-thread f source place (eqb-true t 3 e)))
     (λ b. rw (a, b) (silent f source place (eqb-false t 2 a) (eqb-false t 3 b) (contentOf f source place) (content-is f source place h))))
@@ -54,7 +54,7 @@ content-registers f source place h =
 
 -- an entry behind the archive's end, or of a record that has no extent, is bad
 pub entry-refused : (f : Format) (archive : List ℕ) (table index entry until number : ℕ)
-    → extentOf (drop entry archive) ≡ ExtentRefused number → entryAt f archive table index entry until ≡ Bad
+    → extentOf f (drop entry archive) ≡ ExtentRefused number → entryAt f archive table index entry until ≡ Bad
 unfolding entryAt recordOf registrationOf effectOf
 entry-refused f archive table index entry until number e =
     rw e
@@ -69,14 +69,14 @@ entry-behind f archive table index entry until h =
 
 -- an entry of a record that ends behind `until` is bad
 pub entry-late : (f : Format) (archive : List ℕ) (table index entry until size : ℕ)
-    → extentOf (drop entry archive) ≡ Bytes size → until < entry + size → entryAt f archive table index entry until ≡ Bad
+    → extentOf f (drop entry archive) ≡ Bytes size → until < entry + size → entryAt f archive table index entry until ≡ Bad
 unfolding entryAt recordOf
 entry-late f archive table index entry until size e h =
     rw (e, lt-ltb until (entry + size) h) (on-pick (λ r. r ≡ Bad) (eqb (entry % 8) 0) _ _ (λ a. refl) (λ a. refl))
 
 -- every other entry stands for what its record's header registers
 pub entry-read : (f : Format) (archive : List ℕ) (table index entry until size : ℕ)
-    → entry % 8 ≡ 0 → extentOf (drop entry archive) ≡ Bytes size → entry + size ≤ until
+    → entry % 8 ≡ 0 → extentOf f (drop entry archive) ≡ Bytes size → entry + size ≤ until
     → entryAt f archive table index entry until
     ≡ belonging table index (registrationAt f (take size (drop entry archive)) entry)
 unfolding entryAt recordOf belonging
@@ -86,8 +86,8 @@ entry-read f archive table index entry until size a e h =
     rest : List ℕ
     rest = drop entry archive
 
-    w : Whole rest size
-    w = extent-read rest size e
+    w : Whole f rest size
+    w = extent-read f rest size e
 
     long : length (take size rest) ≡ size
     long = length-take-le size rest (w .inside)

@@ -34,7 +34,7 @@ pub fn table_words(f: Format) -> usize
     requires { ⌜ FormatFits f ⌝ }
     ensures { λ r. ⌜ r ≡ tableWords f ⌝ }
 {
-    9 * (f.highest + 257)
+    9 * (f.highest as usize + 257)
 }
 
 // The highest index of a table.
@@ -44,7 +44,7 @@ pub fn highest_of(f: Format, table: u64) -> usize
     if table == 3 {
         return 255;
     }
-    f.highest
+    f.highest as usize
 }
 
 // The position of an entry.
@@ -52,9 +52,10 @@ pub fn position_of(f: Format, context: usize, table: u64, index: usize) -> usize
     requires { ⌜ FormatFits f × (context ≤ 8) × (index ≤ highestOf f table) ⌝ }
     ensures { λ r. ⌜ r ≡ position f context table index ⌝ }
 {
-    let start = context * (f.highest + 257);
+    let highest = f.highest as usize;
+    let start = context * (highest + 257);
     if table == 3 {
-        return start + (f.highest + 1) + index;
+        return start + (highest + 1) + index;
     }
     start + index
 }
@@ -100,7 +101,8 @@ fn registration_at(f: Format, source: &[u8], place: usize) -> Registration
     requires { ⌜ (8 ≤ length (now source)) × (place + length (now source) < 2 ^ 62) ⌝ }
     ensures { λ r. ⌜ r ≡ registrationAt f (now (source .entry)) place ⌝ }
 {
-    let record_type = words::field(words::word(source, 0), 0, 3);
+    let order = f.order;
+    let record_type = words::field(words::word(order, source, 0), 0, 3);
     if record_type == 2 {
         return registration_of(records::string_of(f, source, place));
     }
@@ -153,7 +155,7 @@ fn entry_at(
         return Resolved::Bad;
     }
     let rest = &archive[entry..];
-    let extent = format::extent_of(rest);
+    let extent = format::extent_of(f, rest);
     match extent {
         Extent::Refused(_) => Resolved::Bad,
         Extent::Bytes(size) => {

@@ -10,7 +10,7 @@ use borrow.Author.Tests.{eq-eqb, eqb-true, eqb-false}
 use lib.Dec.{eqb}
 use lib.ListN.{length, getD, drop, replicate, length-drop, drop-of-length-le}
 use lib.Seq.{drop-cons, drop-drop}
-use Rattle.words.specs.Word.{little, wordAt}
+use Rattle.words.specs.Word.{little, littleAt}
 use Rattle.words.specs.Stream.{sameBytes, allZero}
 use Rattle.words.proofs.Tests.{both-true}
 use Rattle.words.proofs.Words.{AllBytes, bytes-left}
@@ -70,21 +70,21 @@ same-spelled (suc k) (x ∷ xs) (y ∷ ys) p q ha hb e =
     rw (eq-eqb x y first) (same-spelled k xs ys (λ i. p (suc i)) (λ i. q (suc i)) (omega arith) (omega arith) others)
 
 -- where the words at a place differ, the bytes are not the same
-pub words-differ : (a b : List ℕ) (place : ℕ) → (wordAt a place ≡ wordAt b place → ⊥) → sameBytes a b ≡ false
-words-differ a b place unequal = same-false a b (λ e. unequal (ap (λ (bytes : List ℕ). wordAt bytes place) e))
+pub words-differ : (a b : List ℕ) (place : ℕ) → (littleAt a place ≡ littleAt b place → ⊥) → sameBytes a b ≡ false
+words-differ a b place unequal = same-false a b (λ e. unequal (ap (λ (bytes : List ℕ). littleAt bytes place) e))
 
 module _ (a b : List ℕ) (p : AllBytes a) (q : AllBytes b) where
   -- a loop that compares from the front: where the words at a place are the same, the bytes behind them decide
-  pub words-same : (place : ℕ) → place + 8 ≤ length a → place + 8 ≤ length b → wordAt a place ≡ wordAt b place
+  pub words-same : (place : ℕ) → place + 8 ≤ length a → place + 8 ≤ length b → littleAt a place ≡ littleAt b place
       → sameBytes (drop place a) (drop place b) ≡ sameBytes (drop (place + 8) a) (drop (place + 8) b)
-  unfolding wordAt
+  unfolding littleAt
   words-same place ha hb e =
       same-spelled 8 (drop place a) (drop place b) (bytes-left place a p) (bytes-left place b q)
       (omega (arith, length-drop place a)) (omega (arith, length-drop place b)) e
       ∙ rw (drop-drop 8 place a, drop-drop 8 place b)
 
   -- where the last words are the same, so is all from any place in them
-  last-same : (last place : ℕ) → last + 8 ≡ length a → last + 8 ≡ length b → last ≤ place → wordAt a last ≡ wordAt b last
+  last-same : (last place : ℕ) → last + 8 ≡ length a → last + 8 ≡ length b → last ≤ place → littleAt a last ≡ littleAt b last
       → sameBytes (drop place a) (drop place b) ≡ true
   last-same last place ha hb behind e =
       let ends : sameBytes (drop last a) (drop last b) ≡ true =
@@ -96,12 +96,12 @@ module _ (a b : List ℕ) (p : AllBytes a) (q : AllBytes b) where
 
   -- behind the loop, which left only bytes of the last word: that word decides
   pub last-decides : (last place : ℕ) → last + 8 ≡ length a → last + 8 ≡ length b → last ≤ place
-      → sameBytes a b ≡ sameBytes (drop place a) (drop place b) → eqb (wordAt a last) (wordAt b last) ≡ sameBytes a b
-  last-decides last place ha hb behind left = decided (eqb (wordAt a last) (wordAt b last)) refl
+      → sameBytes a b ≡ sameBytes (drop place a) (drop place b) → eqb (littleAt a last) (littleAt b last) ≡ sameBytes a b
+  last-decides last place ha hb behind left = decided (eqb (littleAt a last) (littleAt b last)) refl
     where
-      decided : (same : Bool) → eqb (wordAt a last) (wordAt b last) ≡ same → same ≡ sameBytes a b
-      decided true e = sym (left ∙ last-same last place ha hb behind (eqb-true (wordAt a last) (wordAt b last) e))
-      decided false e = sym (words-differ a b last (eqb-false (wordAt a last) (wordAt b last) e))
+      decided : (same : Bool) → eqb (littleAt a last) (littleAt b last) ≡ same → same ≡ sameBytes a b
+      decided true e = sym (left ∙ last-same last place ha hb behind (eqb-true (littleAt a last) (littleAt b last) e))
+      decided false e = sym (words-differ a b last (eqb-false (littleAt a last) (littleAt b last) e))
 
 -- zeros are all zero
 pub zero-zeros : (n : ℕ) → allZero (replicate n 0) ≡ true

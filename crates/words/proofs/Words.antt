@@ -1,6 +1,6 @@
 -- Words as bytes: what a written word reads back as, what a read depends on, and bytes that stand at a place.
 -- Assumes nothing.
-use Prim.Native.Nat.{ℕ, zero, suc, _+_, _*_, _/_, _^_, _<_, _≤_}
+use Prim.Native.Nat.{ℕ, zero, suc, _+_, _*_, _/_, _%_, _^_, _<_, _≤_}
 use mathlib.Core.Path.{_≡_, refl, ap, _∙_}
 use mathlib.Core.List.{List, _∷_, _++_, append-assoc, []}
 use native.Mathlib.Nat.{add-zero, div-one, div-div-eq-div-mul}
@@ -8,9 +8,11 @@ use native.Mathlib.Omega.{arith}
 use mathlib.Core.Bool.{Bool, true, false}
 use borrow.Author.Tests.{ltb-true, ltb-false}
 use lib.Dec.{ltb}
-use lib.ListN.{length, getD, take, drop, replicate, length-take, List·getD-eq-default}
+use lib.ListN.{length, getD, take, drop, replicate, length-take, length-drop, List·getD-eq-default}
 use lib.Seq.{getD-drop, getD-take, drop-drop, drop-append-seam, take-append-seam}
-use Rattle.words.specs.Word.{little, wordAt, bytesOf, field}
+use Rattle.words.specs.declared.Order.{Order}
+use Rattle.words.specs.declared.Order.the-variants.{Little}
+use Rattle.words.specs.Word.{little, littleAt, bytesOf, wordAt, wordBytes, field}
 use Rattle.words.specs.Stream.{padded, paddingOf}
 
 -- k bytes of a number are k bytes
@@ -32,15 +34,15 @@ unfolding bytesOf little
 little-bytes zero n rest h = omega arith
 little-bytes (suc k) n rest h = rw (little-bytes k (n / 256) rest (omega arith)) (omega arith)
 
--- a word as the sum of its eight bytes
-pub word-bytes : (bytes : List ℕ) (place : ℕ)
-    → wordAt bytes place
+-- a number as the sum of its eight bytes
+pub little-sum : (bytes : List ℕ) (place : ℕ)
+    → littleAt bytes place
     ≡ getD bytes place 0 + getD bytes (place + 1) 0 * 2 ^ 8
     + getD bytes (place + 2) 0 * 2 ^ 16 + getD bytes (place + 3) 0 * 2 ^ 24
     + getD bytes (place + 4) 0 * 2 ^ 32 + getD bytes (place + 5) 0 * 2 ^ 40
     + getD bytes (place + 6) 0 * 2 ^ 48 + getD bytes (place + 7) 0 * 2 ^ 56
-unfolding wordAt little
-word-bytes bytes place = simp (getD-drop, add-zero) (omega arith)
+unfolding littleAt little
+little-sum bytes place = simp (getD-drop, add-zero) (omega arith)
 
 -- every number of a list is a byte
 abbrev pub AllBytes : List ℕ → Type 0
@@ -74,20 +76,20 @@ little-same (suc k) a b h =
       little-same k (drop 1 a) (drop 1 b) (λ i l. rw (getD-drop 1 a i 0, getD-drop 1 b i 0) (h (1 + i) (omega arith))),
     )
 
--- a word of bytes has 64 bits
-pub wordAt-lt : (bytes : List ℕ) (place : ℕ) → AllBytes bytes → wordAt bytes place < 2 ^ 64
-unfolding wordAt
-wordAt-lt bytes place h = little-lt 8 (drop place bytes) (bytes-left place bytes h)
+-- eight bytes spell a number of 64 bits
+pub littleAt-lt : (bytes : List ℕ) (place : ℕ) → AllBytes bytes → littleAt bytes place < 2 ^ 64
+unfolding littleAt
+littleAt-lt bytes place h = little-lt 8 (drop place bytes) (bytes-left place bytes h)
 
--- a word of what is left behind a place
-pub wordAt-drop : (bytes : List ℕ) (a b : ℕ) → wordAt (drop a bytes) b ≡ wordAt bytes (a + b)
-unfolding wordAt
-wordAt-drop bytes a b = rw (drop-drop b a bytes)
+-- a number of what is left behind a place
+pub littleAt-drop : (bytes : List ℕ) (a b : ℕ) → littleAt (drop a bytes) b ≡ littleAt bytes (a + b)
+unfolding littleAt
+littleAt-drop bytes a b = rw (drop-drop b a bytes)
 
--- a word that ends before a cut is not changed by it
-pub wordAt-take : (bytes : List ℕ) (place n : ℕ) → place + 8 ≤ n → wordAt (take n bytes) place ≡ wordAt bytes place
-unfolding wordAt
-wordAt-take bytes place n h =
+-- a number that ends before a cut is not changed by it
+pub littleAt-take : (bytes : List ℕ) (place n : ℕ) → place + 8 ≤ n → littleAt (take n bytes) place ≡ littleAt bytes place
+unfolding littleAt
+littleAt-take bytes place n h =
     little-same 8 (drop place (take n bytes)) (drop place bytes)
     (λ i l. rw (getD-drop place (take n bytes) i 0, getD-drop place bytes i 0, getD-take n bytes (place + i) 0 (omega arith)))
 
@@ -104,10 +106,64 @@ pub at-right : (bytes : List ℕ) (place : ℕ) (a b : List ℕ) → At bytes pl
 at-right bytes place a b h =
     (h .0, rw (← drop-drop (length a) place bytes, h .1, append-assoc a b (h .0), drop-append-seam a (b ++ h .0)))
 
--- where the bytes of a word stand, the word is read
-pub word-is : (bytes : List ℕ) (place n : ℕ) → n < 256 ^ 8 → At bytes place (bytesOf 8 n) → wordAt bytes place ≡ n
+-- where the eight bytes of a number stand, it is read
+pub little-is : (bytes : List ℕ) (place n : ℕ) → n < 256 ^ 8 → At bytes place (bytesOf 8 n) → littleAt bytes place ≡ n
+unfolding littleAt
+little-is bytes place n h at = rw (at .1) (little-bytes 8 n (at .0) h)
+
+-- the bytes that a number is spelled by spell it
+bytes-again : (k : ℕ) (bytes : List ℕ) → k ≤ length bytes → AllBytes bytes → bytesOf k (little k bytes) ≡ take k bytes
+unfolding bytesOf little
+bytes-again zero bytes h b = refl
+bytes-again (suc k) [] h b = absurd (omega arith)
+bytes-again (suc k) (x ∷ xs) h b =
+    let low : x < 256 = b 0 in
+    let first : (x + 256 * little k xs) % 256 ≡ x = omega arith in
+    let others : (x + 256 * little k xs) / 256 ≡ little k xs = omega arith in
+    rw (first, others, bytes-again k xs (omega arith) (λ i. b (suc i)))
+
+-- ---- words, in a byte order
+
+-- a word is read, and written, in the one order that there is
+pub word-little : (o : Order) (bytes : List ℕ) (place : ℕ) → wordAt o bytes place ≡ littleAt bytes place
 unfolding wordAt
-word-is bytes place n h at = rw (at .1) (little-bytes 8 n (at .0) h)
+word-little Little bytes place = refl
+
+pub bytes-little : (o : Order) (n : ℕ) → wordBytes o n ≡ bytesOf 8 n
+unfolding wordBytes
+bytes-little Little n = refl
+
+-- a written word has eight bytes
+pub length-wordBytes : (o : Order) (n : ℕ) → length (wordBytes o n) ≡ 8
+unfolding wordBytes
+length-wordBytes Little n = length-bytesOf 8 n
+
+-- a word of bytes has 64 bits
+pub wordAt-lt : (o : Order) (bytes : List ℕ) (place : ℕ) → AllBytes bytes → wordAt o bytes place < 2 ^ 64
+unfolding wordAt
+wordAt-lt Little bytes place h = littleAt-lt bytes place h
+
+-- a word of what is left behind a place
+pub wordAt-drop : (o : Order) (bytes : List ℕ) (a b : ℕ) → wordAt o (drop a bytes) b ≡ wordAt o bytes (a + b)
+unfolding wordAt
+wordAt-drop Little bytes a b = littleAt-drop bytes a b
+
+-- a word that ends before a cut is not changed by it
+pub wordAt-take : (o : Order) (bytes : List ℕ) (place n : ℕ) → place + 8 ≤ n → wordAt o (take n bytes) place ≡ wordAt o bytes place
+unfolding wordAt
+wordAt-take Little bytes place n h = littleAt-take bytes place n h
+
+-- where the bytes of a word stand, the word is read
+pub word-is : (o : Order) (bytes : List ℕ) (place n : ℕ) → n < 256 ^ 8 → At bytes place (wordBytes o n) → wordAt o bytes place ≡ n
+unfolding wordAt wordBytes
+word-is Little bytes place n h at = little-is bytes place n h at
+
+-- the bytes of a word that was read are those that it was read from
+pub word-again : (o : Order) (bytes : List ℕ) (place : ℕ) → place + 8 ≤ length bytes → AllBytes bytes
+    → wordBytes o (wordAt o bytes place) ≡ take 8 (drop place bytes)
+unfolding wordAt wordBytes littleAt
+word-again Little bytes place h b =
+    bytes-again 8 (drop place bytes) (omega (arith, length-drop place bytes)) (bytes-left place bytes b)
 
 -- where a padded stream stands, its bytes are read
 pub stream-is : (bytes : List ℕ) (place : ℕ) (b : List ℕ) → At bytes place (padded b) → take (length b) (drop place bytes) ≡ b

@@ -5,6 +5,8 @@ use mathlib.Core.Bool.{Bool, true, false}
 use lib.IntN.{ℤ, pos, negsuc}
 use lib.ListN.{getD, drop}
 use lib.Dec.{ltb}
+use Rattle.words.specs.declared.Order.{Order}
+use Rattle.words.specs.declared.Order.the-variants.{Little}
 
 -- the first case where the test holds, else the second
 abbrev pub pick : {A : Type 0} → Bool → A → A → A
@@ -16,14 +18,22 @@ unfoldable pub little : ℕ → List ℕ → ℕ
 little zero bytes = 0
 little (suc k) bytes = getD bytes 0 0 + 256 * little k (drop 1 bytes)
 
--- "A word is 8 bytes, little-endian": the word at a byte place
-unfoldable pub wordAt : List ℕ → ℕ → ℕ
-wordAt bytes place = little 8 (drop place bytes)
+-- the number that the eight bytes at a place spell so
+unfoldable pub littleAt : List ℕ → ℕ → ℕ
+littleAt bytes place = little 8 (drop place bytes)
 
 -- the lowest k bytes of a number, the lowest first
 unfoldable pub bytesOf : ℕ → ℕ → List ℕ
 bytesOf zero n = []
 bytesOf (suc k) n = n % 256 ∷ bytesOf k (n / 256)
+
+-- "A word is 8 bytes, little-endian": the word at a byte place, in a byte order
+unfoldable pub wordAt : Order → List ℕ → ℕ → ℕ
+wordAt Little bytes place = littleAt bytes place
+
+-- and the bytes of a word that is written
+unfoldable pub wordBytes : Order → ℕ → List ℕ
+wordBytes Little n = bytesOf 8 n
 
 -- "Bits are written [low..high], both included": the field [low..high] of a word
 abbrev pub field : ℕ → ℕ → ℕ → ℕ

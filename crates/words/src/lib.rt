@@ -2,8 +2,13 @@
 ghost use mathlib.Core.Path.{_≡_};
 ghost use Prim.Native.Nat.{_+_, _-_, _*_, _^_, _<_, _≤_};
 ghost use lib.ListN.{length, getD, replicate};
-ghost use Rattle.words.specs.Word.{wordAt, bytesOf, field, signed};
+ghost use Rattle.words.specs.Word.{littleAt, bytesOf, wordAt, wordBytes, field, signed};
 ghost use Rattle.words.specs.Stream.{streamWords, padded, overwritten, partOf, sameBytes, allZero, startsWithMagic};
+
+// The byte order of an archive's words.
+pub enum Order {
+    Little,
+}
 
 pub fn byte(bytes: &[u8], place: usize) -> u64
     requires { ⌜ place < length (now bytes) ⌝ }
@@ -12,11 +17,10 @@ pub fn byte(bytes: &[u8], place: usize) -> u64
     bytes[place] as u64
 }
 
-// The word of the first eight bytes. Every word of an archive is read here, so the byte order is decided here alone.
-// Its indexes are literals, so that the eight bytes become one load wherever they stand.
+// The number of the first eight bytes, the lowest first. Its indexes are literals, so that the eight bytes become one load wherever they stand.
 fn first_word(bytes: &[u8]) -> u64
     requires { ⌜ 8 ≤ length (now bytes) ⌝ }
-    ensures { λ r. ⌜ r ≡ wordAt (now (bytes .entry)) 0 ⌝ }
+    ensures { λ r. ⌜ r ≡ littleAt (now (bytes .entry)) 0 ⌝ }
 {
     byte(bytes, 0)
         | (byte(bytes, 1) << 8)
@@ -28,12 +32,22 @@ fn first_word(bytes: &[u8]) -> u64
         | (byte(bytes, 7) << 56)
 }
 
-// The word at a byte place.
-pub fn word(bytes: &[u8], place: usize) -> u64
+// The number of the eight bytes at a byte place, the lowest first.
+pub fn little_word(bytes: &[u8], place: usize) -> u64
     requires { ⌜ place + 8 ≤ length (now bytes) ⌝ }
-    ensures { λ r. ⌜ r ≡ wordAt (now (bytes .entry)) place ⌝ }
+    ensures { λ r. ⌜ r ≡ littleAt (now (bytes .entry)) place ⌝ }
 {
     first_word(&bytes[place..place + 8])
+}
+
+// The word at a byte place. Every word of an archive is read here, so the byte order is decided here alone.
+pub fn word(order: Order, bytes: &[u8], place: usize) -> u64
+    requires { ⌜ place + 8 ≤ length (now bytes) ⌝ }
+    ensures { λ r. ⌜ r ≡ wordAt order (now (bytes .entry)) place ⌝ }
+{
+    match order {
+        Order::Little => little_word(bytes, place),
+    }
 }
 
 fn byte_of(word: u64, low: u32) -> u8
@@ -43,8 +57,8 @@ fn byte_of(word: u64, low: u32) -> u8
     ((word >> low) & 0xff) as u8
 }
 
-// The word, written at a byte place.
-pub fn put_word(out: &mut [u8], place: usize, word: u64)
+// The eight bytes of a number at a byte place, the lowest first.
+fn put_little(out: &mut [u8], place: usize, word: u64)
     requires { ⌜ place + 8 ≤ length (now out) ⌝ }
     ensures { λ _. ⌜ now (out .exit) ≡ overwritten (now (out .entry)) place (bytesOf 8 word) ⌝ }
 {
@@ -56,6 +70,16 @@ pub fn put_word(out: &mut [u8], place: usize, word: u64)
     out[place + 5] = byte_of(word, 40);
     out[place + 6] = byte_of(word, 48);
     out[place + 7] = byte_of(word, 56);
+}
+
+// The word, written at a byte place. Every word of an output is written here.
+pub fn put_word(order: Order, out: &mut [u8], place: usize, word: u64)
+    requires { ⌜ place + 8 ≤ length (now out) ⌝ }
+    ensures { λ _. ⌜ now (out .exit) ≡ overwritten (now (out .entry)) place (wordBytes order word) ⌝ }
+{
+    match order {
+        Order::Little => put_little(out, place, word),
+    }
 }
 
 // The field [low..high] of a word.
@@ -177,12 +201,12 @@ pub fn same_bytes(a: &[u8], b: &[u8]) -> bool
     let last = a.len() - 8;
     let mut i = 0;
     while i < last {
-        if word(a, i) != word(b, i) {
+        if little_word(a, i) != little_word(b, i) {
             return false;
         }
         i += 8;
     }
-    word(a, last) == word(b, last)
+    little_word(a, last) == little_word(b, last)
 }
 
 // Whether all bytes are zero.

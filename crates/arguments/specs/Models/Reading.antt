@@ -19,7 +19,7 @@ use Rattle.arguments.specs.declared.Texts.the-variants.{Refused as Texts
 unfoldable pub takeValue : Format → (header at : ℕ) → List ℕ → ℕ → Valued
 takeValue f header at argument place =
     onBody (takeParts f (valueParts header) at argument place) ValueRefused
-    (λ references next. ValueRead (valueOf header argument place (part 0 references)))
+    (λ references next. ValueRead (valueOf f header argument place (part 0 references)))
 
 -- the texts of an argument alone, with its size
 unfoldable pub textsOf : Format → List ℕ → ℕ → Texts

@@ -14,23 +14,23 @@ use Rattle.encoding.proofs.put_argument_start.Tie as tie
 add-header : tie.Need-add-header
 add-header c =
     let a = c .before .before .before .args in
-    omega (arith, length-start (a .variant) (a .more) (a .half) (textPart (a .index) (a .name .now)), c .text-words .ensures)
+    omega (arith, length-start (a .f) (a .variant) (a .more) (a .half) (textPart (a .index) (a .name .now)), c .text-words .ensures)
 
 add-header-2 : tie.Need-add-header-2
 add-header-2 c =
     let a = c .before .before .before .args in
-    omega (arith, length-start (a .variant) (a .more) (a .half) (textPart (a .index) (a .name .now)), c .text-words .ensures)
+    omega (arith, length-start (a .f) (a .variant) (a .more) (a .half) (textPart (a .index) (a .name .now)), c .text-words .ensures)
 
 header-requires : tie.Need-header-requires
 header-requires c κs =
     let a = c .before .before .before .args in
-    let long = length-start (a .variant) (a .more) (a .half) (textPart (a .index) (a .name .now)) in
+    let long = length-start (a .f) (a .variant) (a .more) (a .half) (textPart (a .index) (a .name .now)) in
     (omega arith, omega (arith, long, c .text-words .ensures))
 
 with-field-requires : tie.Need-with-field-requires
 with-field-requires c κs =
     let given = c .before .before .before .before .before .args in
-    let a = given in let long = length-start (a .variant) (a .more) (a .half) (textPart (a .index) (a .name .now)) in (
+    let a = given in let long = length-start (a .f) (a .variant) (a .more) (a .half) (textPart (a .index) (a .name .now)) in (
       omega arith,
       omega arith,
       omega (arith, long, c .before .before .text-words .ensures, c .before .header .ensures),
@@ -41,7 +41,7 @@ with-field-requires-2 : tie.Need-with-field-requires-2
 with-field-requires-2 c κs =
     let text-words′ = c .before .before .before .before .text-words in
     let given = c .before .before .before .before .before .before .before .args in
-    let a = given in let long = length-start (a .variant) (a .more) (a .half) (textPart (a .index) (a .name .now)) in (
+    let a = given in let long = length-start (a .f) (a .variant) (a .more) (a .half) (textPart (a .index) (a .name .now)) in (
       omega arith,
       omega arith,
       omega (
@@ -59,21 +59,21 @@ with-field-requires-2 c κs =
 put-word-requires : tie.Need-put-word-requires
 put-word-requires c κs =
     let given = c .before .before .before .before .before .before .before .before .args in
-    let a = given in omega (arith, length-start (a .variant) (a .more) (a .half) (textPart (a .index) (a .name .now)))
+    let a = given in omega (arith, length-start (a .f) (a .variant) (a .more) (a .half) (textPart (a .index) (a .name .now)))
 
 put-text-requires : tie.Need-put-text-requires
 put-text-requires c κs =
     let given = c .before .before .before .before .before .before .before .before .before .before .before .before .args in
-    let a = given in omega (arith, length-start (a .variant) (a .more) (a .half) (textPart (a .index) (a .name .now)))
+    let a = given in omega (arith, length-start (a .f) (a .variant) (a .more) (a .half) (textPart (a .index) (a .name .now)))
 
 returns : tie.Need-returns
 returns c =
     let a = c .before .before .before .before .before .before .before .before .before .before .before .before .before .before .before .args in
     let part = textPart (a .index) (a .name .now) in
-    let long = length-start (a .variant) (a .more) (a .half) part in (
+    let long = length-start (a .f) (a .variant) (a .more) (a .half) part in (
       c .before .before .put-text .ensures .0
-          ∙ ap (λ (out : List ℕ). overwritten out (a .place + 8) (partBytes part)) (c .before .before .before .before .before .before .put-word .ensures)
-          ∙ start-written (a .out .now) (a .place) (a .variant) (a .more) (a .half)
+          ∙ ap (λ (out : List ℕ). overwritten out (a .place + 8) (partBytes (a .f) part)) (c .before .before .before .before .before .before .put-word .ensures)
+          ∙ start-written (a .f) (a .out .now) (a .place) (a .variant) (a .more) (a .half)
           (c .before .before .before .before .before .before .before .before .before .before .before .before .text-words .result)
           (c .before .before .before .before .before .before .before .with-field2 .result) part
           (omega (arith, long)) (c .before .before .before .before .before .before .before .before .before .before .before .before .text-words .ensures)

@@ -1,20 +1,20 @@
 -- `put_own_words` meets its contract: an event has one word of its own.
 use native.Mathlib.Omega.{arith}
 use mathlib.Core.List.{append-nil}
-use Rattle.words.specs.Word.{bytesOf}
-use Rattle.words.proofs.Words.{length-bytesOf}
+use Rattle.words.specs.Word.{wordBytes}
+use Rattle.words.proofs.Words.{length-wordBytes}
 use borrow.Author.Needs.{needs}
 use Rattle.encoding.proofs.put_own_words.Statement.{statement}
 use Rattle.encoding.proofs.put_own_words.Tie as tie
 
 put-word-requires : tie.Need-put-word-requires
 put-word-requires c κs = let t = c .before .before .args .own .timestamp in
-    let e = append-nil (bytesOf 8 t) in
-    omega (arith, rw e at (c .before .before .pre), length-bytesOf 8 t)
+    let e = append-nil (wordBytes (c .before .before .args .f .order) t) in
+    omega (arith, rw e at (c .before .before .pre), length-wordBytes (c .before .before .args .f .order) t)
 
 returns : tie.Need-returns
 returns c = let t = c .before .before .before .before .before .args .own .timestamp in
-    rw (append-nil (bytesOf 8 t)) (c .before .before .put-word .ensures, omega (arith, length-bytesOf 8 t))
+    rw (append-nil (wordBytes (c .before .before .before .before .before .args .f .order) t)) (c .before .before .put-word .ensures, omega (arith, length-wordBytes (c .before .before .before .before .before .args .f .order) t))
 
 pub put-own-words-spec : {M : Type 1} → statement M
 put-own-words-spec =

@@ -12,7 +12,7 @@ use Rattle.encoding.proofs.put_provider_event.Tie as tie
 put-word-requires : tie.Need-put-word-requires
 put-word-requires c κs =
     let given = c .before .before .before .before .before .before .args in
-    omega (arith, length-plain (providerEvent (given .id) (given .event)))
+    omega (arith, length-plain (given .f) (providerEvent (given .id) (given .event)))
 
 returns : tie.Need-returns
 returns c =
@@ -21,8 +21,8 @@ returns c =
     let with-field = c .before .before .before .before .before .before .with-field in
     let header = c .before .before .before .before .before .before .before .header in
     let given = c .before .before .before .before .before .before .before .before .before .args in
-    let a = given in let long = length-plain (providerEvent (given .id) (given .event)) in (
-      c .before .before .put-word .ensures ∙ header-written (a .out .now) (a .place) 0 (with-field3 .result)
+    let a = given in let long = length-plain (a .f) (providerEvent (given .id) (given .event)) in (
+      c .before .before .put-word .ensures ∙ header-written (a .f) (a .out .now) (a .place) 0 (with-field3 .result)
           (3 of 4 ∷ a .id of 32 ∷ a .event of 4 ∷ 0 of 8 ∷ []) (omega
           (arith, with-field3 .ensures, with-field2 .ensures, with-field .ensures, header .ensures)),
       omega (arith, long),

@@ -17,22 +17,22 @@ use Rattle.encoding.proofs.put_provider_info.Tie as tie
 put-word-requires : tie.Need-put-word-requires
 put-word-requires c κs =
     let given = c .before .before .before .before .before .before .before .before .args in
-    omega (arith, length-plain (providerInfo (given .id) (given .name .now)))
+    omega (arith, length-plain (given .f) (providerInfo (given .id) (given .name .now)))
 
 put-stream-requires : tie.Need-put-stream-requires
 put-stream-requires c κs =
     let given = c .before .before .before .before .before .before .before .before .before .before .before .before .args in
-    omega (arith, length-plain (providerInfo (given .id) (given .name .now)))
+    omega (arith, length-plain (given .f) (providerInfo (given .id) (given .name .now)))
 
 returns : tie.Need-returns
 returns c =
     let a = c .before .before .before .before .before .before .before .before .before .before .before .before .before .before .before .args in
     let n = length (a .name .now) in
     let words = c .before .before .before .before .before .before .before .before .before .before .before .before .stream-words in
-    let long = length-plain (providerInfo (a .id) (a .name .now)) in (
+    let long = length-plain (a .f) (providerInfo (a .id) (a .name .now)) in (
       c .before .before .put-stream .ensures
           ∙ ap (λ (out : List ℕ). overwritten out (a .place + 8) (padded (a .name .now))) (c .before .before .before .before .before .before .put-word .ensures)
-          ∙ record-written (a .out .now) (a .place) 0 (words .result) (c .before .before .before .before .before .before .before .before .with-field3 .result) (1 of 4 ∷ a .id of 32 ∷ n of 8 ∷ 0 of 4 ∷ []) (padded (a .name .now))
+          ∙ record-written (a .f) (a .out .now) (a .place) 0 (words .result) (c .before .before .before .before .before .before .before .before .with-field3 .result) (1 of 4 ∷ a .id of 32 ∷ n of 8 ∷ 0 of 4 ∷ []) (padded (a .name .now))
           (omega (arith, long)) (omega (arith, length-padded (a .name .now), words .ensures))
           (omega (
             arith,
@@ -41,7 +41,7 @@ returns c =
             c .before .before .before .before .before .before .before .before .before .before .with-field .ensures,
             c .before .before .before .before .before .before .before .before .before .before .before .header .ensures,
           ))
-          ∙ ap (overwritten (a .out .now) (a .place)) (sym (provider-info-record (λ key. 0) (a .id) (a .name .now))),
+          ∙ ap (overwritten (a .out .now) (a .place)) (sym (provider-info-record (a .f) (λ key. 0) (a .id) (a .name .now))),
       omega (arith, long, words .ensures),
     )
 

@@ -12,16 +12,16 @@ use Rattle.encoding.proofs.put_referent.Tie as tie
 
 put-text-requires : tie.Need-put-text-requires
 put-text-requires c κs = let a = c .before .before .before .before .args in
-    omega (arith, ap (λ w. length (partBytes w)) (referent-text (a .table) (a .index) (a .bytes .now) (c .before .if1 .taken)))
+    omega (arith, ap (λ w. length (partBytes (a .f) w)) (referent-text (a .f) (a .table) (a .index) (a .bytes .now) (c .before .if1 .taken)))
 
 returns : tie.Need-returns
 returns c = let a = c .before .before .before .before .before .before .before .args in
-    rw (referent-text (a .table) (a .index) (a .bytes .now) (c .before .before .before .before .if1 .taken)) (c .before .before .put-text .ensures)
+    rw (referent-text (a .f) (a .table) (a .index) (a .bytes .now) (c .before .before .before .before .if1 .taken)) (c .before .before .put-text .ensures)
 
 returns-2 : tie.Need-returns-2
 returns-2 c = let a = c .before .before .before .before .args in
-    let t = thread (wordAt (a .bytes .now) 0) (wordAt (a .bytes .now) 8) in
-    rw (referent-thread (a .table) (a .index) (a .bytes .now) (c .before .if1 .left), indexed-thread (a .index) t (c .if2 .taken))
+    let t = thread (wordAt (a .f .order) (a .bytes .now) 0) (wordAt (a .f .order) (a .bytes .now) 8) in
+    rw (referent-thread (a .f) (a .table) (a .index) (a .bytes .now) (c .before .if1 .left), indexed-thread (a .f) (a .index) t (c .if2 .taken))
     (nothing-written (a .out .now) (a .place), omega arith)
 
 word-requires : tie.Need-word-requires
@@ -32,20 +32,20 @@ word-requires-2 c κs = omega (arith, c .before .before .before .before .before 
 
 put-thread-requires : tie.Need-put-thread-requires
 put-thread-requires c κs = let a = c .before .before .before .before .before .before .before .args in
-    let t = thread (wordAt (a .bytes .now) 0) (wordAt (a .bytes .now) 8) in
+    let t = thread (wordAt (a .f .order) (a .bytes .now) 0) (wordAt (a .f .order) (a .bytes .now) 8) in
     rw (c .before .word .ensures, c .word2 .ensures)
     (omega (
       arith,
-      ap (λ w. length (partBytes w)) (referent-thread (a .table) (a .index) (a .bytes .now) (c .before .before .before .before .if1 .left)),
-      ap length (inline-thread (a .index) t (c .before .before .before .if2 .left)),
+      ap (λ w. length (partBytes (a .f) w)) (referent-thread (a .f) (a .table) (a .index) (a .bytes .now) (c .before .before .before .before .if1 .left)),
+      ap length (inline-thread (a .f) (a .index) t (c .before .before .before .if2 .left)),
     ))
 
 returns-3 : tie.Need-returns-3
 returns-3 c = let a = c .before .before .before .before .before .before .before .before .before .before .args in
-    let t = thread (wordAt (a .bytes .now) 0) (wordAt (a .bytes .now) 8) in
+    let t = thread (wordAt (a .f .order) (a .bytes .now) 0) (wordAt (a .f .order) (a .bytes .now) 8) in
     rw (
-      referent-thread (a .table) (a .index) (a .bytes .now) (c .before .before .before .before .before .before .before .if1 .left),
-      inline-thread (a .index) t (c .before .before .before .before .before .before .if2 .left),
+      referent-thread (a .f) (a .table) (a .index) (a .bytes .now) (c .before .before .before .before .before .before .before .if1 .left),
+      inline-thread (a .f) (a .index) t (c .before .before .before .before .before .before .if2 .left),
       ← c .before .before .before .before .word .ensures,
       ← c .before .before .before .word2 .ensures,
     )

@@ -2,7 +2,7 @@
 use native.Mathlib.Omega.{arith}
 use mathlib.Core.Path.{_≡_, refl, ap, _∙_}
 use Prim.Native.Nat.{ℕ, _+_, _*_, _^_}
-use Rattle.words.specs.Word.{bytesOf}
+use Rattle.words.specs.Word.{wordBytes}
 use Rattle.words.specs.Stream.{overwritten}
 use borrow.Author.Needs.{needs}
 use Rattle.encoding.proofs.put_report_header.Statement.{statement}
@@ -19,7 +19,7 @@ returns c = let a = c .before .before .before .before .before .before .before .b
     let word : third .result ≡ 4 + 2 ^ 4 *
     (a .size + 2 ^ 12 * (a .own .variant + 2 ^ 4 * (a .count + 2 ^ 4 * (a .first + 2 ^ 8 * (a .second + 2 ^ 16 * (a .third + 2 ^ 16 * 0)))))) =
     omega (arith, third .ensures, second .ensures, first .ensures, counted .ensures, varied .ensures, started .ensures) in
-    (c .before .before .put-word .ensures ∙ ap (λ (n : ℕ). overwritten (a .out .now) (a .place) (bytesOf 8 n)) word, refl)
+    (c .before .before .put-word .ensures ∙ ap (λ (n : ℕ). overwritten (a .out .now) (a .place) (wordBytes (a .f .order) n)) word, refl)
 
 pub put-report-header-spec : {M : Type 1} → statement M
 put-report-header-spec =

@@ -17,7 +17,7 @@ use Rattle.encoding.proofs.put_scalar_argument.Tie as tie
 put-short-argument-requires : tie.Need-put-short-argument-requires
 put-short-argument-requires c κs =
     let given′ = c .before .before .before .before .before .args in
-    omega (arith, ap (λ (s : Scalar). length (scalarArgument (textPart (given′ .index) (given′ .name .now)) s)) (c .before .enum-told .given .1))
+    omega (arith, ap (λ (s : Scalar). length (scalarArgument (given′ .f) (textPart (given′ .index) (given′ .name .now)) s)) (c .before .enum-told .given .1))
 
 put-short-argument-requires-2 : tie.Need-put-short-argument-requires-2
 put-short-argument-requires-2 c κs =
@@ -25,12 +25,12 @@ put-short-argument-requires-2 c κs =
     let given′ = c .before .before .before .before .before .before .before .args in
     let name = textPart (given′ .index) (given′ .name .now) in let n = scalar′ .given .0 .0 in
     let half = handed-on w32 32 n (c .unsigned-half .result) (record { sfits = omega arith }) (c .unsigned-half .ensures .0) in
-    omega (arith, ap (λ (s : Scalar). length (scalarArgument name s)) (scalar′ .given .1), ap (λ (n : ℕ). length (encodedArgument 1 n name [])) half)
+    omega (arith, ap (λ (s : Scalar). length (scalarArgument (given′ .f) name s)) (scalar′ .given .1), ap (λ (n : ℕ). length (encodedArgument (given′ .f) 1 n name [])) half)
 
 put-short-argument-requires-3 : tie.Need-put-short-argument-requires-3
 put-short-argument-requires-3 c κs =
     let given′ = c .before .before .before .before .before .before .args in
-    omega (arith, ap (λ (s : Scalar). length (scalarArgument (textPart (given′ .index) (given′ .name .now)) s)) (c .before .before .scalar2 .given .1))
+    omega (arith, ap (λ (s : Scalar). length (scalarArgument (given′ .f) (textPart (given′ .index) (given′ .name .now)) s)) (c .before .before .scalar2 .given .1))
 
 put-word-argument-requires : tie.Need-put-word-argument-requires
 put-word-argument-requires c κs =
@@ -40,40 +40,40 @@ put-word-argument-requires c κs =
     let half = handed-on w64 64 n (c .unsigned-word .result) (record { sfits = omega arith }) (c .unsigned-word .ensures) in
     omega (
       arith,
-      ap (λ (s : Scalar). length (scalarArgument name s)) (scalar3 .given .1),
-      ap (λ (n : ℕ). length (encodedArgument 3 0 name (word n ∷ []))) half,
+      ap (λ (s : Scalar). length (scalarArgument (given′ .f) name s)) (scalar3 .given .1),
+      ap (λ (n : ℕ). length (encodedArgument (given′ .f) 3 0 name (word n ∷ []))) half,
     )
 
 put-word-argument-requires-2 : tie.Need-put-word-argument-requires-2
 put-word-argument-requires-2 c κs =
     let given′ = c .before .before .before .before .before .before .args in
-    omega (arith, ap (λ (s : Scalar). length (scalarArgument (textPart (given′ .index) (given′ .name .now)) s)) (c .before .before .scalar4 .given .1))
+    omega (arith, ap (λ (s : Scalar). length (scalarArgument (given′ .f) (textPart (given′ .index) (given′ .name .now)) s)) (c .before .before .scalar4 .given .1))
 
 put-word-argument-requires-3 : tie.Need-put-word-argument-requires-3
 put-word-argument-requires-3 c κs =
     let given′ = c .before .before .before .before .before .before .args in
-    omega (arith, ap (λ (s : Scalar). length (scalarArgument (textPart (given′ .index) (given′ .name .now)) s)) (c .before .before .scalar5 .given .1))
+    omega (arith, ap (λ (s : Scalar). length (scalarArgument (given′ .f) (textPart (given′ .index) (given′ .name .now)) s)) (c .before .before .scalar5 .given .1))
 
 put-word-argument-requires-4 : tie.Need-put-word-argument-requires-4
 put-word-argument-requires-4 c κs =
     let given′ = c .before .before .before .before .before .before .args in
-    omega (arith, ap (λ (s : Scalar). length (scalarArgument (textPart (given′ .index) (given′ .name .now)) s)) (c .before .before .scalar6 .given .1))
+    omega (arith, ap (λ (s : Scalar). length (scalarArgument (given′ .f) (textPart (given′ .index) (given′ .name .now)) s)) (c .before .before .scalar6 .given .1))
 
 put-word-argument-requires-5 : tie.Need-put-word-argument-requires-5
 put-word-argument-requires-5 c κs =
     let given′ = c .before .before .before .before .before .before .args in
-    omega (arith, ap (λ (s : Scalar). length (scalarArgument (textPart (given′ .index) (given′ .name .now)) s)) (c .before .before .scalar7 .given .1))
+    omega (arith, ap (λ (s : Scalar). length (scalarArgument (given′ .f) (textPart (given′ .index) (given′ .name .now)) s)) (c .before .before .scalar7 .given .1))
 
 put-short-argument-requires-4 : tie.Need-put-short-argument-requires-4
 put-short-argument-requires-4 c κs =
     let given′ = c .before .before .before .before .before .before .before .args in
-    let name = textPart (given′ .index) (given′ .name .now) in omega (arith, ap (λ (s : Scalar). length (scalarArgument name s)) (c .before .before .before .scalar8 .given .1), ap (λ (n : ℕ). length (encodedArgument 9 n name [])) (c .boolean-half .ensures .0))
+    let name = textPart (given′ .index) (given′ .name .now) in omega (arith, ap (λ (s : Scalar). length (scalarArgument (given′ .f) name s)) (c .before .before .before .scalar8 .given .1), ap (λ (n : ℕ). length (encodedArgument (given′ .f) 9 n name [])) (c .boolean-half .ensures .0))
 
 put-short-argument-requires-5 : tie.Need-put-short-argument-requires-5
 put-short-argument-requires-5 c κs =
     let scalar9 = c .before .before .scalar9 in
     let given′ = c .before .before .before .before .before .before .args in
-    let name = textPart (given′ .index) (given′ .name .now) in omega (arith, ap (λ (s : Scalar). length (scalarArgument name s)) (scalar9 .given .1), ap scalarType (scalar9 .given .1))
+    let name = textPart (given′ .index) (given′ .name .now) in omega (arith, ap (λ (s : Scalar). length (scalarArgument (given′ .f) name s)) (scalar9 .given .1), ap scalarType (scalar9 .given .1))
 
 returns : tie.Need-returns
 returns c =

@@ -12,7 +12,7 @@ use Rattle.encoding.proofs.put_section.Tie as tie
 put-word-requires : tie.Need-put-word-requires
 put-word-requires c κs =
     let given = c .before .before .before .before .before .args in
-    omega (arith, length-plain (section (given .id)))
+    omega (arith, length-plain (given .f) (section (given .id)))
 
 returns : tie.Need-returns
 returns c =
@@ -20,8 +20,8 @@ returns c =
     let with-field = c .before .before .before .before .before .with-field in
     let header = c .before .before .before .before .before .before .header in
     let given = c .before .before .before .before .before .before .before .before .args in
-    let a = given in let long = length-plain (section (given .id)) in (
-      c .before .before .put-word .ensures ∙ header-written (a .out .now) (a .place) 0 (with-field2 .result) (2 of 4 ∷ a .id of 32 ∷ 0 of 12 ∷ [])
+    let a = given in let long = length-plain (a .f) (section (given .id)) in (
+      c .before .before .put-word .ensures ∙ header-written (a .f) (a .out .now) (a .place) 0 (with-field2 .result) (2 of 4 ∷ a .id of 32 ∷ 0 of 12 ∷ [])
           (omega (arith, with-field2 .ensures, with-field .ensures, header .ensures)),
       omega (arith, long),
     )

@@ -14,15 +14,15 @@ put-argument-start-requires : tie.Need-put-argument-start-requires
 put-argument-start-requires c κs =
     let a = c .before .before .before .args in
     let part = textPart (a .index) (a .name .now) in
-    let long = length-start (a .variant) 0 (a .half) part in
-    let all = length-argument (a .variant) (a .half) part [] in
+    let long = length-start (a .f) (a .variant) 0 (a .half) part in
+    let all = length-argument (a .f) (a .variant) (a .half) part [] in
     ((omega arith, omega arith, omega arith, omega arith), (omega (arith, long, all), omega (arith, long, all)))
 
 returns : tie.Need-returns
 returns c =
     let put-argument-start = c .before .before .put-argument-start in
     let given = c .before .before .before .before .before .before .args in
-    let a = given in let part = textPart (a .index) (a .name .now) in let same = short-argument (a .variant) (a .half) part in (put-argument-start .ensures .0 ∙ ap (overwritten (a .out .now) (a .place)) same, omega (arith, put-argument-start .ensures .1, ap length same))
+    let a = given in let part = textPart (a .index) (a .name .now) in let same = short-argument (a .f) (a .variant) (a .half) part in (put-argument-start .ensures .0 ∙ ap (overwritten (a .out .now) (a .place)) same, omega (arith, put-argument-start .ensures .1, ap length same))
 
 pub put-short-argument-spec : {M : Type 1} → statement M
 put-short-argument-spec =

@@ -21,12 +21,12 @@ with-field-requires c κs = (omega arith, omega arith, omega (arith, c .header .
 put-word-requires : tie.Need-put-word-requires
 put-word-requires c κs =
     let given = c .before .before .before .before .before .before .before .args in
-    omega (arith, length-string (given .index) (given .bytes .now))
+    omega (arith, length-string (given .f) (given .index) (given .bytes .now))
 
 put-stream-requires : tie.Need-put-stream-requires
 put-stream-requires c κs =
     let given = c .before .before .before .before .before .before .before .before .before .before .before .args in
-    omega (arith, length-string (given .index) (given .bytes .now))
+    omega (arith, length-string (given .f) (given .index) (given .bytes .now))
 
 returns : tie.Need-returns
 returns c =
@@ -36,9 +36,9 @@ returns c =
     let header′ = c .before .before .before .before .before .before .before .before .before .before .header in
     let words = c .before .before .before .before .before .before .before .before .before .before .before .stream-words in
     let given = c .before .before .before .before .before .before .before .before .before .before .before .before .before .before .args in
-    let a = given in let n = length (a .bytes .now) in let long = length-string (a .index) (a .bytes .now) in (
+    let a = given in let n = length (a .bytes .now) in let long = length-string (a .f) (a .index) (a .bytes .now) in (
       c .before .before .put-stream .ensures ∙ ap (λ (out : List ℕ). overwritten out (a .place + 8) (padded (a .bytes .now))) (put-word .ensures)
-          ∙ record-written (a .out .now) (a .place) 2 (words .result) (with-field2 .result) (a .index of 15 ∷ 0 of 1 ∷ n of 15 ∷ 0 of 17 ∷ [])
+          ∙ record-written (a .f) (a .out .now) (a .place) 2 (words .result) (with-field2 .result) (a .index of 15 ∷ 0 of 1 ∷ n of 15 ∷ 0 of 17 ∷ [])
           (padded (a .bytes .now)) (omega (arith, long)) (omega (arith, length-padded (a .bytes .now), words .ensures))
           (omega (arith, with-field2 .ensures, with-field .ensures, header′ .ensures)),
       omega (arith, long, words .ensures),

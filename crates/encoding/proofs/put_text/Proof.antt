@@ -18,13 +18,13 @@ returns c =
 put-stream-requires : tie.Need-put-stream-requires
 put-stream-requires c κs =
     let given = c .before .before .before .before .args in
-    let a = given in omega (arith, length-padded (a .bytes .now), ap length (inline-text (a .index) (a .bytes .now) (c .before .if1 .left)))
+    let a = given in omega (arith, length-padded (a .bytes .now), ap length (inline-text (a .f) (a .index) (a .bytes .now) (c .before .if1 .left)))
 
 returns-2 : tie.Need-returns-2
 returns-2 c =
     let if1′ = c .before .before .before .before .before .if1 in
     let given = c .before .before .before .before .before .before .before .before .args in
-    let a = given in let inline = inline-text (a .index) (a .bytes .now) (if1′ .left) in (
+    let a = given in let inline = inline-text (a .f) (a .index) (a .bytes .now) (if1′ .left) in (
       c .before .before .before .put-stream .ensures ∙ ap (overwritten (a .out .now) (a .place)) (sym inline),
       omega (arith, c .stream-words .ensures, length-padded (a .bytes .now), ap length inline),
     )

@@ -15,8 +15,8 @@ put-argument-start-requires : tie.Need-put-argument-start-requires
 put-argument-start-requires c κs =
     let given = c .before .before .before .before .before .before .args in
     let a = given in let part = textPart (a .index) (a .name .now) in let text = textPart (a .key) (a .text .now) in
-    let more = c .before .before .text-words in let half = c .text-reference in let long = length-start 6 (more .result) (half .result) part in
-    let all = length-argument-one 6 (referenceOf text) part text in (
+    let more = c .before .before .text-words in let half = c .text-reference in let long = length-start (a .f) 6 (more .result) (half .result) part in
+    let all = length-argument-one (a .f) 6 (referenceOf text) part text in (
       (omega arith, omega (arith, half .ensures, reference-lt (a .key) (a .text .now) (omega arith) (omega arith)), omega arith, omega arith),
       (omega (arith, long, all, more .ensures), omega (arith, long, all, more .ensures)),
     )
@@ -30,8 +30,8 @@ put-text-requires c κs =
     omega (
       arith,
       c .before .before .before .put-argument-start .ensures .1,
-      length-start 6 (text-words .result) (text-reference′ .result) part,
-      length-argument-one 6 (referenceOf text) part text,
+      length-start (a .f) 6 (text-words .result) (text-reference′ .result) part,
+      length-argument-one (a .f) 6 (referenceOf text) part text,
     )
 
 returns : tie.Need-returns
@@ -42,12 +42,12 @@ returns c =
     let more = c .before .before .before .before .before .before .before .before .before .text-words in
     let half = c .before .before .before .before .before .before .before .text-reference in
     let start = c .before .before .before .before .before .before .put-argument-start in
-    let long = length-start 6 (more .result) (half .result) part in
-    let all = length-argument-one 6 (referenceOf text) part text in (
+    let long = length-start (a .f) 6 (more .result) (half .result) part in
+    let all = length-argument-one (a .f) 6 (referenceOf text) part text in (
       c .before .before .put-text .ensures .0
-          ∙ ap (λ (out : List ℕ). overwritten out (start .result) (partBytes text)) (start .ensures .0)
+          ∙ ap (λ (out : List ℕ). overwritten out (start .result) (partBytes (a .f) text)) (start .ensures .0)
           ∙ rw (start .ensures .1, half .ensures)
-          (argument-written (a .out .now) (a .place) 6 (more .result) (referenceOf text) part text (omega (arith, long, all)) (sym (more .ensures))),
+          (argument-written (a .f) (a .out .now) (a .place) 6 (more .result) (referenceOf text) part text (omega (arith, long, all)) (sym (more .ensures))),
       omega (arith, c .before .before .put-text .ensures .1, start .ensures .1, long, all),
     )
 

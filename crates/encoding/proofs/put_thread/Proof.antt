@@ -4,9 +4,9 @@ use mathlib.Core.Path.{sym, ap, _∙_}
 use mathlib.Core.List.{List}
 use Prim.Native.Nat.{ℕ, _+_}
 use lib.ListN.{length}
-use Rattle.words.specs.Word.{bytesOf}
+use Rattle.words.specs.Word.{wordBytes}
 use Rattle.words.specs.Stream.{overwritten}
-use Rattle.words.proofs.Words.{length-bytesOf}
+use Rattle.words.proofs.Words.{length-wordBytes}
 use borrow.Author.Tests.{ne-eqb}
 use Rattle.words.proofs.Streams.{overwritten-twice}
 use Rattle.records.specs.Item.{thread}
@@ -26,23 +26,23 @@ put-word-requires : tie.Need-put-word-requires
 put-word-requires c κs =
     let a = c .before .before .before .args in
     let t = thread (a .process) (a .thread) in
-    omega (arith, length-part (threadInline t), ap length (inline-thread (a .index) t (c .before .if1 .left)))
+    omega (arith, length-part (a .f) (threadInline t), ap length (inline-thread (a .f) (a .index) t (c .before .if1 .left)))
 
 put-word-requires-2 : tie.Need-put-word-requires-2
 put-word-requires-2 c κs =
     let if1′ = c .before .before .before .before .before .if1 in
     let given = c .before .before .before .before .before .before .before .args in
-    let a = given in let t = thread (a .process) (a .thread) in omega (arith, length-part (threadInline t), ap length (inline-thread (a .index) t (if1′ .left)))
+    let a = given in let t = thread (a .process) (a .thread) in omega (arith, length-part (a .f) (threadInline t), ap length (inline-thread (a .f) (a .index) t (if1′ .left)))
 
 returns-2 : tie.Need-returns-2
 returns-2 c =
     let put-word = c .before .before .before .before .before .before .put-word in
     let if1′ = c .before .before .before .before .before .before .before .before .if1 in
     let given = c .before .before .before .before .before .before .before .before .before .before .args in
-    let a = given in let t = thread (a .process) (a .thread) in let inline = inline-thread (a .index) t (if1′ .left) in
-    let first = bytesOf 8 (a .process) in let second = bytesOf 8 (a .thread) in let long = length-part (threadInline t) in (
+    let a = given in let t = thread (a .process) (a .thread) in let inline = inline-thread (a .f) (a .index) t (if1′ .left) in
+    let first = wordBytes (a .f .order) (a .process) in let second = wordBytes (a .f .order) (a .thread) in let long = length-part (a .f) (threadInline t) in (
       c .before .before .put-word2 .ensures ∙ ap (λ (out : List ℕ). overwritten out (a .place + 8) second) (put-word .ensures)
-          ∙ ap (λ (n : ℕ). overwritten (overwritten (a .out .now) (a .place) first) (a .place + n) second) (sym (length-bytesOf 8 (a .process)))
+          ∙ ap (λ (n : ℕ). overwritten (overwritten (a .out .now) (a .place) first) (a .place + n) second) (sym (length-wordBytes (a .f .order) (a .process)))
           ∙ overwritten-twice (a .out .now) (a .place) first second (omega (arith, long, ap length inline))
           ∙ ap (overwritten (a .out .now) (a .place)) (sym inline),
       omega (arith, long, ap length inline),

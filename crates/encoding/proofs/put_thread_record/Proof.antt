@@ -5,9 +5,9 @@ use mathlib.Core.Path.{_≡_, ap, _∙_}
 use mathlib.Core.List.{List, [], _∷_}
 use Prim.Native.Nat.{ℕ, _+_}
 use lib.ListN.{length}
-use Rattle.words.specs.Word.{_of_, bytesOf}
+use Rattle.words.specs.Word.{_of_, wordBytes}
 use Rattle.words.specs.Stream.{overwritten}
-use Rattle.words.proofs.Words.{length-bytesOf}
+use Rattle.words.proofs.Words.{length-wordBytes}
 use Rattle.records.specs.Item.{thread}
 use Rattle.encoding.specs.Encoded.{threadInline, partBytes}
 use Rattle.encoding.proofs.EncodedParts.{length-part}
@@ -19,17 +19,17 @@ use Rattle.encoding.proofs.put_thread_record.Tie as tie
 put-word-requires : tie.Need-put-word-requires
 put-word-requires c κs =
     let given = c .before .before .before .before .args in
-    omega (arith, length-thread (given .index) (thread (given .process) (given .thread)))
+    omega (arith, length-thread (given .f) (given .index) (thread (given .process) (given .thread)))
 
 put-word-requires-2 : tie.Need-put-word-requires-2
 put-word-requires-2 c κs =
     let given = c .before .before .before .before .before .before .before .before .args in
-    omega (arith, length-thread (given .index) (thread (given .process) (given .thread)))
+    omega (arith, length-thread (given .f) (given .index) (thread (given .process) (given .thread)))
 
 put-word-requires-3 : tie.Need-put-word-requires-3
 put-word-requires-3 c κs =
     let given = c .before .before .before .before .before .before .before .before .before .before .before .before .args in
-    omega (arith, length-thread (given .index) (thread (given .process) (given .thread)))
+    omega (arith, length-thread (given .f) (given .index) (thread (given .process) (given .thread)))
 
 returns : tie.Need-returns
 returns c =
@@ -38,15 +38,15 @@ returns c =
     let with-field = c .before .before .before .before .before .before .before .before .before .before .before .with-field in
     let header = c .before .before .before .before .before .before .before .before .before .before .before .before .header in
     let given = c .before .before .before .before .before .before .before .before .before .before .before .before .before .before .before .args in
-    let a = given in let t = thread (a .process) (a .thread) in let long = length-thread (a .index) t in let word = with-field in
-    let headed = overwritten (a .out .now) (a .place) (bytesOf 8 (word .result)) in
-    let same : length headed ≡ length (a .out .now) = length-overwritten (a .out .now) (a .place) (bytesOf 8 (word .result))
-    (omega (arith, long, length-bytesOf 8 (word .result))) in (
-      c .before .before .put-word3 .ensures ∙ ap (λ (out : List ℕ). overwritten out (a .place + 16) (bytesOf 8 (a .thread))) (put-word2 .ensures
-          ∙ ap (λ (out : List ℕ). overwritten out (a .place + 8) (bytesOf 8 (a .process))) (put-word .ensures))
-          ∙ thread-written headed (a .place) (a .process) (a .thread) (omega (arith, long, same))
-          ∙ record-written (a .out .now) (a .place) 3 2 (word .result) (a .index of 8 ∷ 0 of 40 ∷ []) (partBytes (threadInline t)) (omega (arith, long))
-          (length-part (threadInline t)) (omega (arith, word .ensures, header .ensures)),
+    let a = given in let t = thread (a .process) (a .thread) in let long = length-thread (a .f) (a .index) t in let word = with-field in
+    let headed = overwritten (a .out .now) (a .place) (wordBytes (a .f .order) (word .result)) in
+    let same : length headed ≡ length (a .out .now) = length-overwritten (a .out .now) (a .place) (wordBytes (a .f .order) (word .result))
+    (omega (arith, long, length-wordBytes (a .f .order) (word .result))) in (
+      c .before .before .put-word3 .ensures ∙ ap (λ (out : List ℕ). overwritten out (a .place + 16) (wordBytes (a .f .order) (a .thread))) (put-word2 .ensures
+          ∙ ap (λ (out : List ℕ). overwritten out (a .place + 8) (wordBytes (a .f .order) (a .process))) (put-word .ensures))
+          ∙ thread-written (a .f) headed (a .place) (a .process) (a .thread) (omega (arith, long, same))
+          ∙ record-written (a .f) (a .out .now) (a .place) 3 2 (word .result) (a .index of 8 ∷ 0 of 40 ∷ []) (partBytes (a .f) (threadInline t)) (omega (arith, long))
+          (length-part (a .f) (threadInline t)) (omega (arith, word .ensures, header .ensures)),
       omega (arith, long),
     )
 

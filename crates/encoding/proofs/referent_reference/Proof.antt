@@ -10,12 +10,12 @@ use Rattle.encoding.proofs.referent_reference.Tie as tie
 
 returns : tie.Need-returns
 returns c = let a = c .before .before .args in
-    let t = thread (wordAt (a .bytes .now) 0) (wordAt (a .bytes .now) 8) in
-    sym (ap referenceOf (referent-thread (a .table) (a .index) (a .bytes .now) (c .if1 .taken)) ∙ thread-reference (a .index) t)
+    let t = thread (wordAt (a .f .order) (a .bytes .now) 0) (wordAt (a .f .order) (a .bytes .now) 8) in
+    sym (ap referenceOf (referent-thread (a .f) (a .table) (a .index) (a .bytes .now) (c .if1 .taken)) ∙ thread-reference (a .index) t)
 
 returns-2 : tie.Need-returns-2
 returns-2 c = let a = c .before .before .before .args in
-    rw (referent-text (a .table) (a .index) (a .bytes .now) (c .before .if1 .left)) (c .text-reference .ensures)
+    rw (referent-text (a .f) (a .table) (a .index) (a .bytes .now) (c .before .if1 .left)) (c .text-reference .ensures)
 
 pub referent-reference-spec : {M : Type 1} → statement M
 referent-reference-spec =

@@ -39,5 +39,5 @@ FreeClear stretch slots =
 
 -- the slots after the pass
 pub record SlotsLeft (f : Format) (archive slots : List ℕ) : Type 0 where
-  pub tally : Tallies archive (tableWords f) slots (codes (lastOf f archive) (countedOf f archive))
+  pub tally : Tallies archive (tableWords f) slots (codes f (lastOf f archive) (countedOf f archive))
   pub free : FreeClear (tableWords f) slots

@@ -19,4 +19,5 @@ returns-3 c = simp (le-ltb _ _ (c .if2 .left), ← c .before .stream-words .ensu
 
 pub take-stream-spec : {M : Type 1} → statement M
 take-stream-spec =
-    tie.close (tie.spec returns (λ c κs. search needs) (λ c. search needs) (λ c. search needs) (λ c. search needs) returns-2 returns-3)
+    tie.close (tie.spec (λ c. search needs) returns (λ c κs. search needs) (λ c. search needs) (λ c. search needs) (λ c. search needs) returns-2
+    returns-3)

@@ -10,10 +10,10 @@ returns c =
     let w = c .before .before .before .before in
     rw (
       ← w .before .least .ensures .0,
-      ← w .word .ensures,
-      ← c .before .before .before .word2 .ensures,
-      ← c .before .before .word3 .ensures,
-      ← c .before .word4 .ensures,
+      ← w .little-word .ensures,
+      ← c .before .before .before .little-word2 .ensures,
+      ← c .before .before .little-word3 .ensures,
+      ← c .before .little-word4 .ensures,
     ) (c .join .ensures)
 
 pub block-spec : {M : Type 1} → statement M

@@ -3,7 +3,7 @@ use Prim.Native.Nat.{ℕ, zero, suc, _+_, _-_, _*_, _/_, _%_, _^_}
 use mathlib.Core.List.{List}
 use lib.ListN.{length, drop, getD}
 use lib.Dec.{eqb, ltb}
-use Rattle.words.specs.Word.{pick, little, wordAt, field}
+use Rattle.words.specs.Word.{pick, little, littleAt, field}
 
 -- the sum of two words, without what is above 64 bits
 abbrev pub sumOf : ℕ → ℕ → ℕ
@@ -31,7 +31,7 @@ leastOf a b = pick (ltb a b) a b
 unfoldable pub blockOf : List ℕ → ℕ → ℕ → ℕ → ℕ
 blockOf bytes hash first last =
     let step = leastOf 8 (last - first) in
-    joinOf hash (wordAt bytes first) (wordAt bytes (first + step)) (wordAt bytes (last - step)) (wordAt bytes last)
+    joinOf hash (littleAt bytes first) (littleAt bytes (first + step)) (littleAt bytes (last - step)) (littleAt bytes last)
 
 -- a hash and so many blocks of 32 bytes
 unfoldable pub blocksOf : List ℕ → ℕ → ℕ → ℕ

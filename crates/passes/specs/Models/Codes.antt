@@ -3,7 +3,7 @@ use Prim.Native.Nat.{ℕ, zero, suc, _+_, _/_}
 use mathlib.Core.List.{[], List, _∷_, _++_}
 use mathlib.Core.Option.{Option, none, some}
 use lib.ListN.{length, replicate}
-use Rattle.words.specs.Word.{bytesOf}
+use Rattle.words.specs.Word.{wordBytes}
 use Rattle.indexing.specs.Models.Indexes.{Indexes, chosenKey}
 use Rattle.format.specs.declared.Format.{Format}
 use Rattle.records.specs.Item.{thread, Key, textKey, threadKey, Use}
@@ -27,16 +27,16 @@ contextIn s none = 0
 contextIn s (some id) = slotOr (findId (s .ids) (s .count) id) id
 
 -- a use as a key of the tally
-abbrev pub codeOf : ℕ → Key → List ℕ
-codeOf context (textKey bytes) = labelOf context 2 (length bytes) ∷ bytes
-codeOf context (threadKey (thread p t)) = labelOf context 3 16 ∷ (bytesOf 8 p ++ bytesOf 8 t)
+abbrev pub codeOf : Format → ℕ → Key → List ℕ
+codeOf f context (textKey bytes) = labelOf context 2 (length bytes) ∷ bytes
+codeOf f context (threadKey (thread p t)) = labelOf context 3 16 ∷ (wordBytes (f .order) p ++ wordBytes (f .order) t)
 
-abbrev pub codeIn : State → Use → List ℕ
-codeIn s u = codeOf (contextIn s (u .provider)) (u .key)
+abbrev pub codeIn : Format → State → Use → List ℕ
+codeIn f s u = codeOf f (contextIn s (u .provider)) (u .key)
 
-abbrev pub codes : State → List Use → List (List ℕ)
-codes s [] = []
-codes s (u ∷ us) = codeIn s u ∷ codes s us
+abbrev pub codes : Format → State → List Use → List (List ℕ)
+codes f s [] = []
+codes f s (u ∷ us) = codeIn f s u ∷ codes f s us
 
 -- the state after so many steps; a step at the end changes nothing
 unfoldable pub lastFrom : Format → List ℕ → ℕ → State → List ℕ → State
@@ -51,5 +51,5 @@ lastOf f archive = lastFrom f archive (length archive / 8 + 1) opening (replicat
 -- the slots once the uses of an archive's items are counted and choices stand for them: no key has an index yet
 abbrev pub Chosen : Format → List ℕ → List ℕ → Type 0
 Chosen f archive slots =
-    let us = codes (lastOf f archive) (usesAll (itemsOf (runOf f archive))) in
+    let us = codes f (lastOf f archive) (usesAll (itemsOf (runOf f archive))) in
     Indexes archive (tableWords f) slots us (chosenKey us) (λ key. 0) (λ mark. 0)

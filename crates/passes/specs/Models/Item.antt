@@ -20,7 +20,7 @@ use Rattle.reader.specs.Reads.{textItem, referentItem, streamItem, providerItem
 
 -- what a reference of a record stands for in a context
 abbrev pub referentAt : Format → List ℕ → List ℕ → ℕ → ℕ → Lookup → Referent
-referentAt f archive tables context until l = referentItem archive (shownReferent archive (l .table) (lookedUp f archive tables context until l))
+referentAt f archive tables context until l = referentItem archive (shownReferent f archive (l .table) (lookedUp f archive tables context until l))
 
 -- what a text reference does
 abbrev pub textAt : Format → List ℕ → List ℕ → ℕ → ℕ → Reference → Text

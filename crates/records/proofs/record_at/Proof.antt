@@ -22,7 +22,7 @@ slice-aggregate-content-of c =
     let extent2 = c .before .before .extent2 in
     let extent-of = c .before .before .before .before .extent-of in
     let given′ = c .before .before .before .before .before .before .before .before .args in
-    let w = extent-read (take (length (given′ .archive .now) - given′ .place) (drop (given′ .place) (given′ .archive .now))) (extent2 .given .0 .0)
+    let w = extent-read (given′ .f) (take (length (given′ .archive .now) - given′ .place) (drop (given′ .place) (given′ .archive .now))) (extent2 .given .0 .0)
     (sym (extent-of .ensures) ∙ extent2 .given .1) in sym (length-take-le (extent2 .given .0 .0)
     (take (length (given′ .archive .now) - given′ .place) (drop (given′ .place) (given′ .archive .now))) (w .inside))
 
@@ -31,7 +31,7 @@ content-of-requires c κs =
     let extent2 = c .before .before .extent2 in
     let extent-of = c .before .before .before .before .extent-of in
     let given′ = c .before .before .before .before .before .before .before .before .args in
-    let w = extent-read (take (length (given′ .archive .now) - given′ .place) (drop (given′ .place) (given′ .archive .now))) (extent2 .given .0 .0)
+    let w = extent-read (given′ .f) (take (length (given′ .archive .now) - given′ .place) (drop (given′ .place) (given′ .archive .now))) (extent2 .given .0 .0)
     (sym (extent-of .ensures) ∙ extent2 .given .1) in let l : length
     (take (length (given′ .archive .now) - given′ .place) (drop (given′ .place) (given′ .archive .now))) ≡ length
     (given′ .archive .now) - given′ .place = simp part-from (length-drop (given′ .place) (given′ .archive .now)) in
@@ -43,7 +43,7 @@ add-t18 c =
     let extent2 = c .before .before .before .extent2 in
     let extent-of = c .before .before .before .before .before .extent-of in
     let given′ = c .before .before .before .before .before .before .before .before .before .args in
-    let w = extent-read (take (length (given′ .archive .now) - given′ .place) (drop (given′ .place) (given′ .archive .now))) (extent2 .given .0 .0)
+    let w = extent-read (given′ .f) (take (length (given′ .archive .now) - given′ .place) (drop (given′ .place) (given′ .archive .now))) (extent2 .given .0 .0)
     (sym (extent-of .ensures) ∙ extent2 .given .1) in let l : length
     (take (length (given′ .archive .now) - given′ .place) (drop (given′ .place) (given′ .archive .now))) ≡ length
     (given′ .archive .now) - given′ .place = simp part-from (length-drop (given′ .place) (given′ .archive .now)) in omega (arith, w .inside)

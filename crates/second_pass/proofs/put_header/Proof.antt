@@ -15,7 +15,7 @@ returns c =
     let two = c .before .before .before .before .before .spelled-reference2 in
     let three = c .before .before .before .before .spelled-reference3 in
     let bytes = c .before .before .before .stream-bytes in
-    let header = spelled-header (a .archive .now) (a .size) (a .report) (a .first) (a .second) (a .third) (one .result) (two .result) (three .result)
+    let header = spelled-header (a .f) (a .archive .now) (a .size) (a .report) (a .first) (a .second) (a .third) (one .result) (two .result) (three .result)
     (bytes .result .now) (one .ensures) (two .ensures) (three .ensures) (bytes .ensures) in
     (put .0 ∙ ap (overwritten (a .out .now) (a .at)) header, put .1)
 

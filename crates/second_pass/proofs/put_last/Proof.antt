@@ -3,7 +3,7 @@ use native.Mathlib.Omega.{arith}
 use mathlib.Core.Path.{sym, ap, _∙_}
 use lib.ListN.{length}
 use Rattle.records.specs.Item.{ownLayout}
-use Rattle.words.proofs.Words.{length-bytesOf}
+use Rattle.words.proofs.Words.{length-wordBytes}
 use Rattle.encoding.proofs.Parts.{nothing-written}
 use Rattle.second_pass.proofs.Spelling.{last-none, last-word}
 use borrow.Author.Needs.{needs}
@@ -24,7 +24,7 @@ returns c =
     let a = c .before .before .before .args in
     let own-behind′ = c .before .own-behind in
     let if1′ = c .if1 in
-    rw (last-none (ownLayout (a .own) .behind) (a .last) (sym (own-behind′ .ensures) ∙ if1′ .taken))
+    rw (last-none (a .f) (ownLayout (a .own) .behind) (a .last) (sym (own-behind′ .ensures) ∙ if1′ .taken))
     (nothing-written (a .out .now) (a .at), omega arith)
 
 -- src/lib.rt:362:5
@@ -34,8 +34,8 @@ put-word-requires c κs =
     let if1′ = c .before .if1 in
     let own-behind′ = c .before .before .own-behind in
     let p = c .before .before .before .before .pre in
-    let one = last-word (ownLayout (a .own) .behind) (a .last) (λ z. if1′ .left (own-behind′ .ensures ∙ z)) in
-    omega (arith, ap length one, length-bytesOf 8 (a .last), p)
+    let one = last-word (a .f) (ownLayout (a .own) .behind) (a .last) (λ z. if1′ .left (own-behind′ .ensures ∙ z)) in
+    omega (arith, ap length one, length-wordBytes (a .f .order) (a .last), p)
 
 -- src/lib.rt:363:5
 add-result : tie.Need-add-result
@@ -52,8 +52,8 @@ returns-2 c =
     let if1′ = c .before .before .before .before .if1 in
     let own-behind′ = c .before .before .before .before .before .own-behind in
     let put-word′ = c .before .before .put-word in
-    rw (last-word (ownLayout (a .own) .behind) (a .last) (λ z. if1′ .left (own-behind′ .ensures ∙ z)))
-    (put-word′ .ensures, omega (arith, length-bytesOf 8 (a .last)))
+    rw (last-word (a .f) (ownLayout (a .own) .behind) (a .last) (λ z. if1′ .left (own-behind′ .ensures ∙ z)))
+    (put-word′ .ensures, omega (arith, length-wordBytes (a .f .order) (a .last)))
 
 pub put-last-spec : {M : Type 1} → statement M
 put-last-spec =

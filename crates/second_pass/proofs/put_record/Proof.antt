@@ -60,7 +60,7 @@ put-plain-requires : tie.Need-put-plain-requires
 put-plain-requires c κs =
     let a = c .before .before .before .before .before .args in
     let p = c .before .before .before .before .before .pre in
-    let bytes = plainBytes (plainItem (a .archive .now) (a .content)) in
+    let bytes = plainBytes (a .f) (plainItem (a .archive .now) (a .content)) in
     let bytes-are : contentIn (a .f) (a .archive .now) (a .room .now) (a .s) (a .content) (a .next) ≡ bytes =
     other-arm (a .content) bytes _ (c .before .match .keys2) in
     (p .1 .0 .0 .plain, subst (λ (x : List ℕ). a .at + length x ≤ length (a .out .now)) bytes-are (p .1 .1))
@@ -85,7 +85,7 @@ returns-2 c =
     let tables = tablesIn (a .f) (a .room .now) in
     let slots = slotsIn (a .f) (a .room .now) in
     let other = c .before .before .before .before .match .keys2 in
-    let bytes = plainBytes (plainItem (a .archive .now) (a .content)) in
+    let bytes = plainBytes (a .f) (plainItem (a .archive .now) (a .content)) in
     let bytes-are : contentIn (a .f) (a .archive .now) (a .room .now) (a .s) (a .content) (a .next) ≡ bytes = other-arm (a .content) bytes _ other in
     let slots-are : contentSlots (a .f) (a .archive .now) tables slots (a .s) (a .content) (a .next) ≡ slots = other-arm (a .content) slots _ other in (
       sym (take-append-drop (tableWords (a .f)) (a .room .now)) ∙ ap (λ (x : List ℕ). tables ++ x) (sym slots-are),

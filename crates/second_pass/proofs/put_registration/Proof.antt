@@ -18,7 +18,7 @@ returns : tie.Need-returns
 returns c =
     let a = c .before .before .before .args in
     let if1′ = c .if1 in
-    let none = registration-none (a .table) (a .index) (a .bytes .now) (if1′ .taken) in
+    let none = registration-none (a .f) (a .table) (a .index) (a .bytes .now) (if1′ .taken) in
     (rw none (nothing-written (a .out .now) (a .at)), omega (arith, ap length none))
 
 -- src/lib.rt:62:13
@@ -46,7 +46,7 @@ put-thread-record-requires c κs =
     let if1′ = c .before .before .before .before .if1 in
     let if2′ = c .before .before .before .if2 in
     let p = c .before .before .before .before .before .before .before .pre in
-    let is = registration-thread (a .table) (a .index) (a .bytes .now) (word′ .result) (word2′ .result) (if1′ .left) (if2′ .taken)
+    let is = registration-thread (a .f) (a .table) (a .index) (a .bytes .now) (word′ .result) (word2′ .result) (if1′ .left) (if2′ .taken)
     (word′ .ensures) (word2′ .ensures) in
     omega (arith, p .0 .thread-low (if2′ .taken), p .1, ap length is)
 
@@ -64,7 +64,7 @@ returns-2 c =
     let if1′ = c .before .before .before .before .before .before .before .if1 in
     let if2′ = c .before .before .before .before .before .before .if2 in
     let put-thread-record′ = c .before .before .put-thread-record in
-    rw (registration-thread (a .table) (a .index) (a .bytes .now) (word′ .result) (word2′ .result) (if1′ .left) (if2′ .taken)
+    rw (registration-thread (a .f) (a .table) (a .index) (a .bytes .now) (word′ .result) (word2′ .result) (if1′ .left) (if2′ .taken)
     (word′ .ensures) (word2′ .ensures)) (put-thread-record′ .ensures)
 
 -- src/lib.rt:66:5
@@ -79,7 +79,7 @@ put-string-record-requires c κs =
       p .0 .low,
       p .0 .short,
       p .1,
-      ap length (registration-text (a .table) (a .index) (a .bytes .now) (if1′ .left) (if2′ .left)),
+      ap length (registration-text (a .f) (a .table) (a .index) (a .bytes .now) (if1′ .left) (if2′ .left)),
     )
 
 -- src/lib.rt:48:1
@@ -93,7 +93,7 @@ returns-3 c =
     let if1′ = c .before .before .before .before .before .if1 in
     let if2′ = c .before .before .before .before .if2 in
     let put-string-record′ = c .before .before .put-string-record in
-    rw (registration-text (a .table) (a .index) (a .bytes .now) (if1′ .left) (if2′ .left)) (put-string-record′ .ensures)
+    rw (registration-text (a .f) (a .table) (a .index) (a .bytes .now) (if1′ .left) (if2′ .left)) (put-string-record′ .ensures)
 
 pub put-registration-spec : {M : Type 1} → statement M
 put-registration-spec =

@@ -116,14 +116,14 @@ ArgumentsFitIn f archive room context until l = ArgumentsFit f archive (tablesIn
 -- ---- records that refer to texts and threads
 
 -- the values of its header
-abbrev pub SpelledHeaderFits : List ℕ → Report → (first second third : Spelled) → Type 0
-SpelledHeaderFits archive r first second third = FieldsFit (spelledFields archive r first second third)
+abbrev pub SpelledHeaderFits : Format → List ℕ → Report → (first second third : Spelled) → Type 0
+SpelledHeaderFits f archive r first second third = FieldsFit (spelledFields f archive r first second third)
 
 pub record ReportFits (f : Format) (archive tables slots : List ℕ) (s : State) (r : Report) (next : ℕ) : Type 0 where
   pub first : SpelledFits f archive tables slots (s .current) (s .place) (r .first)
   pub second : SpelledFits f archive tables slots (s .current) (s .place) (r .second)
   pub third : SpelledFits f archive tables slots (s .current) (s .place) (r .third)
-  pub header : SpelledHeaderFits archive r (firstSpelled f archive tables slots s r) (secondSpelled f archive tables slots s r)
+  pub header : SpelledHeaderFits f archive r (firstSpelled f archive tables slots s r) (secondSpelled f archive tables slots s r)
       (thirdSpelled f archive tables slots s r)
   pub arguments : ArgumentsFit f archive tables slots (s .current) (s .place) (argumentsTo f archive r next)
   pub size : length (reportBody f archive tables slots s r next) < 2 ^ 15 - 8
@@ -164,4 +164,4 @@ Asks f archive room out =
     × (refusalOf f (runOf f archive) ≡ none)
     × (4 * tableWords f ≤ length room)
     × ((i : ℕ) → i < tableWords f → getD room i 0 ≡ 0)
-    × (length (rule (itemsOf (runOf f archive))) ≤ length out)
+    × (length (rule f (itemsOf (runOf f archive))) ≤ length out)

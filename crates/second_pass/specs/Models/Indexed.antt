@@ -17,18 +17,18 @@ use Rattle.rule.specs.Rule.{usesAll, Entry, entriesAfter, chosenIn}
 use Rattle.rule.specs.Refusal.{runOf, itemsOf}
 
 -- the index of the first registration whose use has this code, 0 where none has
-abbrev pub indexCode : State → List Entry → List ℕ → ℕ
-indexCode last [] key = 0
-indexCode last (e ∷ entries) key = let rest = indexCode last entries key in cond (sameBytes key (codeIn last (e .use-of))) (e .index) rest
+abbrev pub indexCode : Format → State → List Entry → List ℕ → ℕ
+indexCode f last [] key = 0
+indexCode f last (e ∷ entries) key = let rest = indexCode f last entries key in cond (sameBytes key (codeIn f last (e .use-of))) (e .index) rest
 
 -- how many registrations have a code of this mark
-abbrev pub givenCode : State → List Entry → ℕ → ℕ
-givenCode last [] mark = 0
-givenCode last (e ∷ entries) mark = cond (eqb mark (keyMark (codeIn last (e .use-of)))) 1 0 + givenCode last entries mark
+abbrev pub givenCode : Format → State → List Entry → ℕ → ℕ
+givenCode f last [] mark = 0
+givenCode f last (e ∷ entries) mark = cond (eqb mark (keyMark (codeIn f last (e .use-of)))) 1 0 + givenCode f last entries mark
 
 -- the uses of an archive's items as keys of the tally
 abbrev pub keysOf : Format → List ℕ → List (List ℕ)
-keysOf f archive = codes (lastOf f archive) (usesAll (itemsOf (runOf f archive)))
+keysOf f archive = codes f (lastOf f archive) (usesAll (itemsOf (runOf f archive)))
 
 -- the registrations that the rule makes for an archive's items
 abbrev pub registeredOf : Format → List ℕ → List Entry
@@ -39,7 +39,7 @@ registeredOf f archive = let uses = usesAll (itemsOf (runOf f archive)) in entri
 pub record SlotsIndexed (f : Format) (archive before after : List ℕ) : Type 0 where
   pub keys : take (2 * tableWords f) after ≡ take (2 * tableWords f) before
   pub indexes : Indexes archive (tableWords f) after (keysOf f archive) (chosenKey (keysOf f archive))
-      (indexCode (lastOf f archive) (registeredOf f archive)) (givenCode (lastOf f archive) (registeredOf f archive))
+      (indexCode f (lastOf f archive) (registeredOf f archive)) (givenCode f (lastOf f archive) (registeredOf f archive))
   pub others : (s : ℕ) → s < tableWords f - 18
       → ((key : List ℕ) (used : 0 < count sameBytes key (keysOf f archive)) → indexes .found key used .0 ≡ s → ⊥)
       → usesAt (tableWords f) after s ≡ usesAt (tableWords f) before s

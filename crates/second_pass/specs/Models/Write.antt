@@ -41,10 +41,10 @@ slotsIn f room = drop (tableWords f) room
 -- ---- registrations
 
 -- the registration of a key under an index; none where that is 0
-unfoldable pub registrationBytes : ℕ → ℕ → List ℕ → List ℕ
-registrationBytes table index bytes =
+unfoldable pub registrationBytes : Format → ℕ → ℕ → List ℕ → List ℕ
+registrationBytes f table index bytes =
     pick (eqb index 0) []
-    (pick (eqb table 3) (threadRecord index (thread (wordAt bytes 0) (wordAt bytes 8))) (stringRecord index bytes))
+    (pick (eqb table 3) (threadRecord f index (thread (wordAt (f .order) bytes 0) (wordAt (f .order) bytes 8))) (stringRecord f index bytes))
 
 -- the index that what a reference stands for gets now, or 0
 unfoldable pub givenIndex : Format → List ℕ → List ℕ → ℕ → ℕ → Resolved → ℕ
@@ -71,7 +71,7 @@ knownBytes archive (Known place long) = partOf archive place long
 knownBytes archive (Unresolved index) = []
 
 abbrev pub givenBytes : Format → List ℕ → List ℕ → ℕ → ℕ → Resolved → List ℕ
-givenBytes f archive slots context table r = registrationBytes table (givenIndex f archive slots context table r) (knownBytes archive r)
+givenBytes f archive slots context table r = registrationBytes f table (givenIndex f archive slots context table r) (knownBytes archive r)
 
 -- the slots after the registrations of what references stand for, one after the other, and these registrations
 abbrev pub lookupsGivenSlots : Format → (archive tables : List ℕ) → (context until : ℕ) → List ℕ → List Lookup → List ℕ
@@ -114,19 +114,19 @@ spelledIn f archive room context until l = spelledLookup f archive (tablesIn f r
 abbrev pub spelledBytes : List ℕ → Spelled → List ℕ
 spelledBytes archive p = partOf archive (p .place) (p .long)
 
-abbrev pub spelledPart : List ℕ → ℕ → Spelled → Encoded
-spelledPart archive table p = referentPart table (p .index) (spelledBytes archive p)
+abbrev pub spelledPart : Format → List ℕ → ℕ → Spelled → Encoded
+spelledPart f archive table p = referentPart f table (p .index) (spelledBytes archive p)
 
 -- a reference of a record as it is written
 abbrev pub lookupPart : Format → (archive tables slots : List ℕ) → (context until : ℕ) → Lookup → Encoded
-lookupPart f archive tables slots context until l = spelledPart archive (l .table) (spelledLookup f archive tables slots context until l)
+lookupPart f archive tables slots context until l = spelledPart f archive (l .table) (spelledLookup f archive tables slots context until l)
 
 -- ---- arguments
 
 abbrev pub valueBytes : Format → (archive tables slots : List ℕ) → (context until : ℕ) → Encoded → Value → List ℕ
-valueBytes f archive tables slots context until name (ScalarValue s) = scalarArgument name s
+valueBytes f archive tables slots context until name (ScalarValue s) = scalarArgument f name s
 valueBytes f archive tables slots context until name (Text reference) =
-    textArgument name (lookupPart f archive tables slots context until (textLookup reference))
+    textArgument f name (lookupPart f archive tables slots context until (textLookup reference))
 
 unfoldable pub argumentBytes : Format → (archive tables slots : List ℕ) → (context until : ℕ) → Argument → List ℕ
 argumentBytes f archive tables slots context until a =
@@ -151,25 +151,25 @@ abbrev pub streamOf : List ℕ → Report → List ℕ
 streamOf archive r = streamItem archive (shownStream (r .stream))
 
 -- its own words, its references as they are spelled, and its stream
-abbrev pub spelledPieces : List ℕ → Report → (first second third : Spelled) → List Encoded
-spelledPieces archive r first second third =
+abbrev pub spelledPieces : Format → List ℕ → Report → (first second third : Spelled) → List Encoded
+spelledPieces f archive r first second third =
     words (ownLayout (r .own) .words)
-    ∷ spelledPart archive (r .first .table) first
-    ∷ spelledPart archive (r .second .table) second
-    ∷ spelledPart archive (r .third .table) third
+    ∷ spelledPart f archive (r .first .table) first
+    ∷ spelledPart f archive (r .second .table) second
+    ∷ spelledPart f archive (r .third .table) third
     ∷ stream (streamOf archive r)
     ∷ []
 
 -- its header behind type and size, and with them
-abbrev pub spelledFields : List ℕ → Report → (first second third : Spelled) → List Field
-spelledFields archive r first second third =
-    ownLayout (r .own) .header (r .count) (referenceOf (spelledPart archive (r .first .table) first)) (referenceOf (spelledPart archive (r .second .table) second))
-    (referenceOf (spelledPart archive (r .third .table) third)) (length (streamOf archive r))
+abbrev pub spelledFields : Format → List ℕ → Report → (first second third : Spelled) → List Field
+spelledFields f archive r first second third =
+    ownLayout (r .own) .header (r .count) (referenceOf (spelledPart f archive (r .first .table) first)) (referenceOf (spelledPart f archive (r .second .table) second))
+    (referenceOf (spelledPart f archive (r .third .table) third)) (length (streamOf archive r))
 
-abbrev pub spelledHeader : List ℕ → ℕ → Report → (first second third : Spelled) → List ℕ
-spelledHeader archive size r first second third =
-    reportHeader (r .own) size (r .count) (referenceOf (spelledPart archive (r .first .table) first))
-    (referenceOf (spelledPart archive (r .second .table) second)) (referenceOf (spelledPart archive (r .third .table) third)) (length (streamOf archive r))
+abbrev pub spelledHeader : Format → List ℕ → ℕ → Report → (first second third : Spelled) → List ℕ
+spelledHeader f archive size r first second third =
+    reportHeader f (r .own) size (r .count) (referenceOf (spelledPart f archive (r .first .table) first))
+    (referenceOf (spelledPart f archive (r .second .table) second)) (referenceOf (spelledPart f archive (r .third .table) third)) (length (streamOf archive r))
 
 -- how its three references are spelled, in a state
 abbrev pub firstSpelled : Format → (archive tables slots : List ℕ) → State → Report → Spelled
@@ -184,21 +184,21 @@ thirdSpelled f archive tables slots s r = spelledLookup f archive tables slots (
 -- its pieces, its header's fields, and all that stands behind the header
 abbrev pub reportPieces : Format → (archive tables slots : List ℕ) → State → Report → List Encoded
 reportPieces f archive tables slots s r =
-    spelledPieces archive r (firstSpelled f archive tables slots s r) (secondSpelled f archive tables slots s r) (thirdSpelled f archive tables slots s r)
+    spelledPieces f archive r (firstSpelled f archive tables slots s r) (secondSpelled f archive tables slots s r) (thirdSpelled f archive tables slots s r)
 
 abbrev pub reportFields : Format → (archive tables slots : List ℕ) → State → Report → List Field
 reportFields f archive tables slots s r =
-    spelledFields archive r (firstSpelled f archive tables slots s r) (secondSpelled f archive tables slots s r) (thirdSpelled f archive tables slots s r)
+    spelledFields f archive r (firstSpelled f archive tables slots s r) (secondSpelled f archive tables slots s r) (thirdSpelled f archive tables slots s r)
 
 unfoldable pub reportBody : Format → (archive tables slots : List ℕ) → State → Report → ℕ → List ℕ
 reportBody f archive tables slots s r next =
-    partsBytes (reportPieces f archive tables slots s r)
+    partsBytes f (reportPieces f archive tables slots s r)
     ++ (argumentsBytes f archive tables slots (s .current) (s .place) (argumentsTo f archive r next)
-    ++ wordsBytes (lastWords (ownLayout (r .own) .behind) (r .last)))
+    ++ wordsBytes f (lastWords (ownLayout (r .own) .behind) (r .last)))
 
 unfoldable pub reportBytes : Format → (archive tables slots : List ℕ) → State → Report → ℕ → List ℕ
 reportBytes f archive tables slots s r next =
-    recordBytes (ownLayout (r .own) .type) (reportFields f archive tables slots s r) (reportBody f archive tables slots s r next)
+    recordBytes f (ownLayout (r .own) .type) (reportFields f archive tables slots s r) (reportBody f archive tables slots s r next)
 
 abbrev pub reportIn : Format → (archive room : List ℕ) → State → Report → ℕ → List ℕ
 reportIn f archive room s r next = reportBytes f archive (tablesIn f room) (slotsIn f room) s r next
@@ -215,14 +215,14 @@ reportGivenBytes f archive tables slots s r next =
 -- ---- any record
 
 -- the record of an item that refers to nothing
-abbrev pub plainBytes : Option Item → List ℕ
-plainBytes none = []
-plainBytes (some i) = plainRecord i
+abbrev pub plainBytes : Format → Option Item → List ℕ
+plainBytes f none = []
+plainBytes f (some i) = plainRecord f i
 
 -- what is written for a record that ends at `next`, and the slots after it
 abbrev pub contentBytes : Format → (archive tables slots : List ℕ) → State → Content → ℕ → List ℕ
 contentBytes f archive tables slots s c next =
-    onReport c (plainBytes (plainItem archive c))
+    onReport c (plainBytes f (plainItem archive c))
     (λ r. reportGivenBytes f archive tables slots s r next ++ reportBytes f archive tables (reportGivenSlots f archive tables slots s r next) s r next)
 
 abbrev pub contentSlots : Format → (archive tables slots : List ℕ) → State → Content → ℕ → List ℕ

@@ -22,7 +22,7 @@ returns-2 c = sym (entry-behind _ _ _ _ _ _ (c .if2 .taken))
 add-end : tie.Need-add-end
 add-end c =
     let given′ = c .before .before .before .before .before .before .before .before .args in
-    let e = simp part-from at (sym (c .before .before .before .extent-of .ensures) ∙ c .before .extent .given .1) in let w = extent-read
+    let e = simp part-from at (sym (c .before .before .before .extent-of .ensures) ∙ c .before .extent .given .1) in let w = extent-read (given′ .f)
     (drop (given′ .entry) (given′ .archive .now)) (c .before .extent .given .0 .0) e in omega (
       arith,
       w .inside,
@@ -41,7 +41,7 @@ slice-aggregate-registration-at c =
     let given′ = c .before .before .before .before .before .before .before .before .before .before .args in
     let rest = drop (given′ .entry) (given′ .archive .now) in
     let e = simp part-from at (sym (extent-of .ensures) ∙ extent .given .1) in
-    let w = extent-read rest (extent .given .0 .0) e in
+    let w = extent-read (given′ .f) rest (extent .given .0 .0) e in
     simp part-from (sym (length-take-le (extent .given .0 .0) rest (w .inside)))
 
 registration-at-requires : tie.Need-registration-at-requires
@@ -51,7 +51,7 @@ registration-at-requires c κs =
     let given′ = c .before .before .before .before .before .before .before .before .before .before .args in
     let rest = drop (given′ .entry) (given′ .archive .now) in
     let e = simp part-from at (sym (extent-of .ensures) ∙ extent .given .1) in
-    let w = extent-read rest (extent .given .0 .0) e in
+    let w = extent-read (given′ .f) rest (extent .given .0 .0) e in
     let long = length-take-le (extent .given .0 .0) rest (w .inside) in
     simp part-from (omega (arith, w .some, w .inside, long, length-drop (given′ .entry) (given′ .archive .now)))
 

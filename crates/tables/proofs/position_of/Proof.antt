@@ -12,17 +12,20 @@ mul-start : tie.Need-mul-start
 mul-start c = omega (arith, c .before .pre .0 .indexes, mul-le-mul-right (c .before .args .f .highest + 257) (c .before .pre .1))
 
 add-result-2 : tie.Need-add-result-2
-add-result-2 c = omega (arith, c .before .before .before .pre .0 .indexes, mul-le-mul-right (c .before .before .before .args .f .highest + 257) (c .before .before .before .pre .1))
+add-result-2 c =
+    let start = c .before .before in
+    omega (arith, start .pre .0 .indexes, mul-le-mul-right (start .args .f .highest + 257) (start .pre .1))
 
 add-result-3 : tie.Need-add-result-3
 unfolding highestOf
 add-result-3 c =
-    let pre = c .before .before .before .pre in
-    let i = simp (eq-eqb _ _ (c .before .if1 .taken)) at (pre .2) in omega (arith, i, pre .0 .indexes, mul-le-mul-right (c .before .before .before .args .f .highest + 257) (pre .1))
+    let start = c .before .before in
+    let i = simp (eq-eqb _ _ (c .if1 .taken)) at (start .pre .2) in
+    omega (arith, i, start .pre .0 .indexes, mul-le-mul-right (start .args .f .highest + 257) (start .pre .1))
 
 returns : tie.Need-returns
 unfolding position
-returns c = simp (eq-eqb _ _ (c .before .if1 .taken))
+returns c = simp (eq-eqb _ _ (c .if1 .taken))
 
 add-result-4 : tie.Need-add-result-4
 unfolding highestOf
@@ -34,4 +37,5 @@ returns-2 c = simp (ne-eqb _ _ (c .if1 .left))
 
 pub position-of-spec : {M : Type 1} → statement M
 position-of-spec =
-    tie.close (tie.spec (λ c. search needs) mul-start (λ c. search needs) add-result-2 add-result-3 returns add-result-4 returns-2)
+    tie.close (tie.spec (λ c. search needs) (λ c. search needs) mul-start (λ c. search needs) add-result-2 add-result-3 returns add-result-4
+    returns-2)

@@ -18,8 +18,8 @@ pub record FormatFits (f : Format) : Type 0 where
 -- what the record that is `source`, whole, at a place registers: only string and thread records do
 unfoldable pub registrationAt : Format → List ℕ → ℕ → Registration
 registrationAt f source place =
-    pick (eqb (field 0 3 (wordAt source 0)) 2) (registrationOf (stringOf f source place))
-    (pick (eqb (field 0 3 (wordAt source 0)) 3) (registrationOf (threadOf f source place)) Nothing)
+    pick (eqb (field 0 3 (wordAt (f .order) source 0)) 2) (registrationOf (stringOf f source place))
+    (pick (eqb (field 0 3 (wordAt (f .order) source 0)) 3) (registrationOf (threadOf f source place)) Nothing)
 
 -- what a registration stands for where one of this table and index is wanted
 unfoldable pub belonging : ℕ → ℕ → Registration → Resolved

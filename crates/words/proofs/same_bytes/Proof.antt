@@ -29,7 +29,7 @@ returns-3 : tie.Need-returns-3 Inv-loop μ-loop
 returns-3 c =
     let a = c .before .before .before .before .before .before .before .before .before .args in
     let h = c .before .before .before .before .loop in
-    sym (words-differ (a .a .now) (a .b .now) (h .i) (λ e. c .if3 .taken (c .before .before .word .ensures ∙ e ∙ sym (c .before .word2 .ensures))))
+    sym (words-differ (a .a .now) (a .b .now) (h .i) (λ e. c .if3 .taken (c .before .before .little-word .ensures ∙ e ∙ sym (c .before .little-word2 .ensures))))
 
 loop-again : tie.Need-loop-again Inv-loop μ-loop
 loop-again c =
@@ -39,7 +39,7 @@ loop-again c =
     let q : AllBytes (a .b .now) = λ j. c .before .before .before .before .before .before .before .shared-slice-known2 .given j .fits in (
       omega arith,
       h .inv .1 ∙ words-same (a .a .now) (a .b .now) p q (h .i) (omega arith) (omega arith)
-          (sym (c .before .before .word .ensures) ∙ c .if3 .left ∙ c .before .word2 .ensures),
+          (sym (c .before .before .little-word .ensures) ∙ c .if3 .left ∙ c .before .little-word2 .ensures),
     )
 
 returns-4 : tie.Need-returns-4 Inv-loop μ-loop
@@ -48,7 +48,7 @@ returns-4 c =
     let h = c .before .before .before .loop in
     let p : AllBytes (a .a .now) = λ j. c .before .before .before .before .before .before .before .shared-slice-known .given j .fits in
     let q : AllBytes (a .b .now) = λ j. c .before .before .before .before .before .before .shared-slice-known2 .given j .fits in
-    rw (c .before .word3 .ensures, c .word4 .ensures)
+    rw (c .before .little-word3 .ensures, c .little-word4 .ensures)
     (last-decides (a .a .now) (a .b .now) p q (length (a .a .now) - 8) (h .i) (omega arith) (omega arith) (omega arith) (h .inv .1))
 
 pub same-bytes-spec : {M : Type 1} → statement M
