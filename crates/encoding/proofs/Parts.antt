@@ -18,7 +18,7 @@ use Rattle.records.specs.Item.{Key, textKey, threadKey, Thread, thread, known}
 use Rattle.encoding.specs.Encoded.{Encoded, textIndex, textInline, threadInline, referenceOf, partBytes, partsBytes, encodedArgument, encodedText, encodedThread}
 use Rattle.encoding.proofs.EncodedParts.{length-part}
 use Rattle.encoding.proofs.EncodedRecords.{length-record}
-use Rattle.encoding.specs.Models.Part.{textPart, threadPart, referentPart, argumentStart}
+use Rattle.encoding.specs.Models.Part.{textPart, textBytes, referentReference, threadPart, referentPart, argumentStart}
 
 -- a text with its key's index is what is written for it
 pub text-is : (index : Key → ℕ) (b : List ℕ) → encodedText index (known b) ≡ textPart (index (textKey b)) b
@@ -27,6 +27,10 @@ text-is index b = refl
 -- a thread with its key's index is what is written for it
 pub thread-is : (index : Key → ℕ) (t : Thread) → encodedThread index (known t) ≡ threadPart (index (threadKey t)) t
 thread-is index t = refl
+
+-- the bytes of a text, in any order
+pub text-bytes : (f : Format) (index : ℕ) (b : List ℕ) → partBytes f (textPart index b) ≡ textBytes index b
+text-bytes f index b = cases (eqb index 0) (λ e. rw e) (λ e. rw e)
 
 -- an empty text has the reference 0
 pub empty-reference : (b : List ℕ) → length b ≡ 0 → referenceOf (textInline b) ≡ 0
@@ -112,8 +116,8 @@ pub short-argument : (f : Format) (type half : ℕ) (name : Encoded) → argumen
 short-argument f type half name = sym (append-nil (argumentStart f type 0 half name)) ∙ argument-parts f type 0 half name [] refl
 
 -- a text of index 0 stands inline
-pub inline-text : (f : Format) (index : ℕ) (b : List ℕ) → index ≡ 0 → partBytes f (textPart index b) ≡ padded b
-inline-text f index b h = simp (eq-eqb _ _ h)
+pub inline-bytes : (index : ℕ) (b : List ℕ) → index ≡ 0 → textBytes index b ≡ padded b
+inline-bytes index b h = simp (eq-eqb _ _ h)
 
 -- a thread of index 0 stands inline
 pub inline-thread : (f : Format) (index : ℕ) (t : Thread) → index ≡ 0 → partBytes f (threadPart index t) ≡ partBytes f (threadInline t)
@@ -130,6 +134,13 @@ referent-text f table index b h = rw (ne-eqb table 3 h)
 -- the reference of a thread is its index
 pub thread-reference : (index : ℕ) (t : Thread) → referenceOf (threadPart index t) ≡ index
 thread-reference index t = cases (eqb index 0) (λ e. rw e (sym (eqb-true index 0 e))) (λ e. rw e)
+
+-- the reference of what a record refers to, in any order
+pub referent-reference : (f : Format) (table index : ℕ) (b : List ℕ) → referenceOf (referentPart f table index b) ≡ referentReference table index b
+referent-reference f table index b =
+    cases (eqb table 3)
+    (λ e. rw e (thread-reference index (thread (wordAt (f .order) b 0) (wordAt (f .order) b 8))))
+    (λ e. rw e)
 
 -- a thread of an index takes no bytes
 pub indexed-thread : (f : Format) (index : ℕ) (t : Thread) → (index ≡ 0 → ⊥) → partBytes f (threadPart index t) ≡ []

@@ -3,12 +3,12 @@ ghost use mathlib.Core.Path.{_≡_};
 ghost use Prim.Native.Nat.{_+_, _*_, _^_, _<_, _≤_};
 ghost use mathlib.Core.List.{[], _∷_};
 ghost use lib.ListN.{length};
-ghost use Rattle.words.specs.Stream.{streamWords, overwritten};
-ghost use Rattle.records.specs.Item.{thread as threadOf, magic, providerInfo, section, providerEvent, initialization, ownLayout};
-ghost use Rattle.encoding.specs.Encoded.{word as wordPart, stream as streamPart, referenceOf, wordsBytes, partBytes, encodedArgument, stringRecord, threadRecord};
+ghost use Rattle.words.specs.Stream.{streamWords, padded, overwritten, magic as magicBytes};
+ghost use Rattle.records.specs.Item.{thread as threadOf, providerInfo, section, providerEvent, initialization, ownLayout};
+ghost use Rattle.encoding.specs.Encoded.{word as wordPart, referenceOf, wordsBytes, partBytes, encodedArgument, stringRecord, threadRecord};
 ghost use Rattle.words.specs.Word.{unsigned, bit};
 ghost use Rattle.arguments.specs.Argument.{scalarType};
-ghost use Rattle.encoding.specs.Models.Part.{plainRecord, textPart, threadPart, referentPart, FieldsFit, reportHeader, argumentStart, textArgument, scalarArgument};
+ghost use Rattle.encoding.specs.Models.Part.{plainRecord, textPart, textBytes, referentReference, threadPart, referentPart, FieldsFit, reportHeader, argumentStart, textArgument, scalarArgument};
 use arguments::Scalar;
 use format::Format;
 use records::Event;
@@ -68,10 +68,10 @@ pub fn put_thread_record(
 }
 
 // The magic.
-pub fn put_magic(f: Format, out: &mut [u8], place: usize) -> usize
-    requires { ⌜ place + length (plainRecord f magic) ≤ length (now out) ⌝ }
-    ensures { λ _. ⌜ now (out .exit) ≡ overwritten (now (out .entry)) place (plainRecord f magic) ⌝ }
-    ensures { λ r. ⌜ r ≡ place + length (plainRecord f magic) ⌝ }
+pub fn put_magic(out: &mut [u8], place: usize) -> usize
+    requires { ⌜ place + 8 ≤ length (now out) ⌝ }
+    ensures { λ _. ⌜ now (out .exit) ≡ overwritten (now (out .entry)) place magicBytes ⌝ }
+    ensures { λ r. ⌜ r ≡ place + 8 ⌝ }
 {
     words::put_stream(out, place, b"\x10\x00\x04\x46\x78\x54\x16\x00");
     place + 8
@@ -154,8 +154,8 @@ pub fn text_reference(index: usize, bytes: &[u8]) -> u64
 }
 
 // The words that such a text takes in a body.
-pub fn text_words(f: Format, index: usize, bytes: &[u8]) -> usize
-    ensures { λ r. ⌜ r * 8 ≡ length (partBytes f (textPart index (now (bytes .entry)))) ⌝ }
+pub fn text_words(index: usize, bytes: &[u8]) -> usize
+    ensures { λ r. ⌜ r * 8 ≡ length (textBytes index (now (bytes .entry))) ⌝ }
 {
     if index != 0 {
         return 0;
@@ -164,10 +164,10 @@ pub fn text_words(f: Format, index: usize, bytes: &[u8]) -> usize
 }
 
 // Such a text, written in a body.
-pub fn put_text(f: Format, out: &mut [u8], place: usize, index: usize, bytes: &[u8]) -> usize
-    requires { ⌜ place + length (partBytes f (textPart index (now bytes))) ≤ length (now out) ⌝ }
-    ensures { λ _. ⌜ now (out .exit) ≡ overwritten (now (out .entry)) place (partBytes f (textPart index (now (bytes .entry)))) ⌝ }
-    ensures { λ r. ⌜ r ≡ place + length (partBytes f (textPart index (now (bytes .entry)))) ⌝ }
+pub fn put_text(out: &mut [u8], place: usize, index: usize, bytes: &[u8]) -> usize
+    requires { ⌜ place + length (textBytes index (now bytes)) ≤ length (now out) ⌝ }
+    ensures { λ _. ⌜ now (out .exit) ≡ overwritten (now (out .entry)) place (textBytes index (now (bytes .entry))) ⌝ }
+    ensures { λ r. ⌜ r ≡ place + length (textBytes index (now (bytes .entry))) ⌝ }
 {
     if index != 0 {
         return place;
@@ -199,8 +199,8 @@ pub fn put_thread(
 }
 
 // The reference of a text or a thread, by its table, that is written by its index, or inline where that is 0.
-pub fn referent_reference(f: Format, table: u64, index: usize, bytes: &[u8]) -> u64
-    ensures { λ r. ⌜ r ≡ referenceOf (referentPart f table index (now (bytes .entry))) ⌝ }
+pub fn referent_reference(table: u64, index: usize, bytes: &[u8]) -> u64
+    ensures { λ r. ⌜ r ≡ referentReference table index (now (bytes .entry)) ⌝ }
 {
     if table == 3 {
         return index as u64;
@@ -223,7 +223,7 @@ pub fn put_referent(
 {
     let order = f.order;
     if table != 3 {
-        return put_text(f, out, place, index, bytes);
+        return put_text(out, place, index, bytes);
     }
     if index != 0 {
         return place;
@@ -239,10 +239,10 @@ pub fn put_referent(
 }
 
 // A stream that is no reference, written in a body.
-pub fn put_stream(f: Format, out: &mut [u8], place: usize, bytes: &[u8]) -> usize
-    requires { ⌜ place + length (partBytes f (streamPart (now bytes))) ≤ length (now out) ⌝ }
-    ensures { λ _. ⌜ now (out .exit) ≡ overwritten (now (out .entry)) place (partBytes f (streamPart (now (bytes .entry)))) ⌝ }
-    ensures { λ r. ⌜ r ≡ place + length (partBytes f (streamPart (now (bytes .entry)))) ⌝ }
+pub fn put_stream(out: &mut [u8], place: usize, bytes: &[u8]) -> usize
+    requires { ⌜ place + length (padded (now bytes)) ≤ length (now out) ⌝ }
+    ensures { λ _. ⌜ now (out .exit) ≡ overwritten (now (out .entry)) place (padded (now (bytes .entry))) ⌝ }
+    ensures { λ r. ⌜ r ≡ place + length (padded (now (bytes .entry))) ⌝ }
 {
     words::put_stream(out, place, bytes);
     place + words::stream_words(bytes.len()) * 8
@@ -304,13 +304,13 @@ fn put_argument_start(
 {
     let order = f.order;
     let named = words::with_field(
-        header(variant, 1 + text_words(f, index, name) + more),
+        header(variant, 1 + text_words(index, name) + more),
         16,
         31,
         text_reference(index, name),
     );
     words::put_word(order, out, place, words::with_field(named, 32, 63, half));
-    put_text(f, out, place + 8, index, name)
+    put_text(out, place + 8, index, name)
 }
 
 // An argument whose value stands in its header.
@@ -367,7 +367,7 @@ pub fn put_text_argument(
     ensures { λ _. ⌜ now (out .exit) ≡ overwritten (now (out .entry)) place (textArgument f (textPart index (now (name .entry))) (textPart key (now (text .entry)))) ⌝ }
     ensures { λ r. ⌜ r ≡ place + length (textArgument f (textPart index (now (name .entry))) (textPart key (now (text .entry)))) ⌝ }
 {
-    let more = text_words(f, key, text);
+    let more = text_words(key, text);
     let behind = put_argument_start(
         f,
         out,
@@ -378,7 +378,7 @@ pub fn put_text_argument(
         index,
         name,
     );
-    put_text(f, out, behind, key, text)
+    put_text(out, behind, key, text)
 }
 
 // The bits of a signed number, as the high half of a header holds them.

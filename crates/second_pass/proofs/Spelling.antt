@@ -11,7 +11,7 @@ use borrow.Author.Tests.{eq-eqb, ne-eqb}
 use Rattle.tally.specs.Models.Tally.{Wide}
 use Rattle.tables.specs.Models.Entries.{FormatFits}
 use Rattle.encoding.specs.Encoded.{stream, referenceOf, wordsBytes, partBytes, partsBytes}
-use Rattle.encoding.specs.Models.Part.{textPart, FieldsFit, reportHeader, textArgument, scalarArgument}
+use Rattle.encoding.specs.Models.Part.{textPart, referentReference, FieldsFit, reportHeader, textArgument, scalarArgument}
 use Rattle.words.specs.Word.{wordBytes, Field, _of_, pack}
 use Rattle.words.specs.Stream.{overwritten}
 use Rattle.words.proofs.Words.{length-wordBytes}
@@ -27,6 +27,7 @@ use Rattle.records.specs.Item.{ownLayout, lastWords}
 use Rattle.records.specs.Lookups.{textLookup, argumentsTo}
 use Rattle.contexts.specs.declared.State.{State}
 use Rattle.tables.specs.Table.{tableWords}
+use Rattle.encoding.proofs.Parts.{referent-reference}
 use Rattle.second_pass.specs.declared.Spelled.{Spelled}
 use Rattle.second_pass.specs.Models.Write.{spelledBytes, spelledLookup, argumentBytes, argumentsBytes, spelledPart, streamOf, spelledPieces, spelledFields, spelledHeader, firstSpelled, secondSpelled, thirdSpelled, reportBody, reportBytes}
 use Rattle.second_pass.specs.Models.Fits.{ArgumentFits, ArgumentsFit, SpelledHeaderFits}
@@ -200,22 +201,18 @@ module _ (f : Format) (archive tables slots : List ℕ) (context until : ℕ) wh
 
 -- ---- records
 
--- the pieces of a record are still to be written: own words, three references and the stream
-pub pieces-start : (f : Format) (archive : List ℕ) (r : Report) (first second third : Spelled) (out : List ℕ) (at : ℕ)
-    → Writing out at (partsBytes f (spelledPieces f archive r first second third))
-    (wordsBytes f (ownLayout (r .own) .words)
-    ∷ partBytes f (spelledPart f archive (r .first .table) first)
-    ∷ partBytes f (spelledPart f archive (r .second .table) second)
-    ∷ partBytes f (spelledPart f archive (r .third .table) third)
-    ∷ partBytes f (stream (streamOf archive r))
-    ∷ []) out at
-pieces-start f archive r first second third out at =
-    writing-starts out at (partsBytes f (spelledPieces f archive r first second third)) _ refl
+-- the reference of what is spelled, by its table and its bytes alone
+pub reference-is : (f : Format) (archive : List ℕ) (table : ℕ) (p : Spelled) (n : ℕ) → n ≡ referentReference table (p .index) (spelledBytes archive p)
+    → n ≡ referenceOf (spelledPart f archive table p)
+reference-is f archive table p n e = e ∙ sym (referent-reference f table (p .index) (spelledBytes archive p))
 
 -- the header of a record, from the references as they are spelled and the length of its stream
-module _ (f : Format) (archive : List ℕ) (r : Report) (first second third : Spelled) (a b c long : ℕ) (one : a ≡ referenceOf (spelledPart f archive (r .first .table) first))
-    (two : b ≡ referenceOf (spelledPart f archive (r .second .table) second)) (three : c ≡ referenceOf (spelledPart f archive (r .third .table) third))
-    (is : long ≡ length (streamOf archive r)) where
+module _ (f : Format) (archive : List ℕ) (r : Report) (first second third : Spelled) (a b c : ℕ) (bytes : List ℕ)
+    (one : a ≡ referenceOf (spelledPart f archive (r .first .table) first)) (two : b ≡ referenceOf (spelledPart f archive (r .second .table) second))
+    (three : c ≡ referenceOf (spelledPart f archive (r .third .table) third)) (stream-is : bytes ≡ streamOf archive r) where
+  abbrev long : ℕ
+  long = length bytes
+
   fields-are : ownLayout (r .own) .header (r .count) a b c long ≡ spelledFields f archive r first second third
   fields-are =
       ap (λ (n : ℕ). ownLayout (r .own) .header (r .count) n b c long) one
@@ -223,7 +220,7 @@ module _ (f : Format) (archive : List ℕ) (r : Report) (first second third : Sp
       ∙ ap (λ (n : ℕ). ownLayout (r .own) .header (r .count) (referenceOf (spelledPart f archive (r .first .table) first))
       (referenceOf (spelledPart f archive (r .second .table) second)) n long) three
       ∙ ap (λ (n : ℕ). ownLayout (r .own) .header (r .count) (referenceOf (spelledPart f archive (r .first .table) first))
-      (referenceOf (spelledPart f archive (r .second .table) second)) (referenceOf (spelledPart f archive (r .third .table) third)) n) is
+      (referenceOf (spelledPart f archive (r .second .table) second)) (referenceOf (spelledPart f archive (r .third .table) third)) n) (ap length stream-is)
 
   pub header-is : (size : ℕ) → reportHeader f (r .own) size (r .count) a b c long ≡ spelledHeader f archive size r first second third
   header-is size = ap (λ (fields : List Field). wordBytes (f .order) (pack (ownLayout (r .own) .type of 4 ∷ size of 12 ∷ fields))) fields-are

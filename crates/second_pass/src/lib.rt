@@ -9,8 +9,8 @@ ghost use Rattle.passes.specs.Models.Codes.{Chosen};
 ghost use Rattle.passes.specs.Models.Last.{tablesOf};
 ghost use Rattle.passes.specs.Models.Item.{plainItem};
 ghost use Rattle.indexing.specs.Models.Indexes.{Settled};
-ghost use Rattle.encoding.specs.Encoded.{referenceOf, wordsBytes, partBytes, partsBytes};
-ghost use Rattle.encoding.specs.Models.Part.{reportHeader};
+ghost use Rattle.encoding.specs.Encoded.{wordsBytes, partBytes, partsBytes};
+ghost use Rattle.encoding.specs.Models.Part.{referentReference, reportHeader};
 ghost use Rattle.words.specs.Stream.{overwritten};
 ghost use Rattle.arguments.specs.Argument.{argumentsRead};
 ghost use Rattle.records.specs.Record.{recordAt};
@@ -21,7 +21,7 @@ ghost use Rattle.reader.specs.Shown.{shownStream};
 ghost use Rattle.reader.specs.Reads.{streamItem};
 ghost use Rattle.rule.specs.Rule.{rule as ruleOf};
 ghost use Rattle.rule.specs.Refusal.{runOf, itemsOf};
-ghost use Rattle.second_pass.specs.Models.Write.{tablesIn, slotsIn, registrationBytes, registeredRoom, registeredBytes, spelledIn, spelledPart, argumentIn, argumentsIn, spelledPieces, spelledHeader, reportIn, plainBytes, contentIn, contentRoom};
+ghost use Rattle.second_pass.specs.Models.Write.{tablesIn, slotsIn, registrationBytes, registeredRoom, registeredBytes, spelledIn, spelledPart, spelledBytes, argumentIn, argumentsIn, spelledPieces, spelledHeader, reportIn, plainBytes, contentIn, contentRoom};
 ghost use Rattle.second_pass.specs.Models.Fits.{RoomFits, RegistrationFits, LookupsFitIn, CanLookUp, SpelledThread, ArgumentFitsIn, ArgumentsFitIn, ReportAt, SpelledHeaderFits, ReportFitsIn, PlainFits, ContentFitsIn, Asks};
 ghost use Rattle.second_pass.specs.Models.Indexed.{SlotsIndexed};
 use arguments::Argued;
@@ -290,11 +290,11 @@ fn put_spelled(
 }
 
 // Its reference.
-fn spelled_reference(f: Format, archive: &[u8], table: u64, spelled: Spelled) -> u64
-    ensures { λ r. ⌜ r ≡ referenceOf (spelledPart f (now (archive .entry)) table spelled) ⌝ }
+fn spelled_reference(archive: &[u8], table: u64, spelled: Spelled) -> u64
+    ensures { λ r. ⌜ r ≡ referentReference table (spelled .index) (spelledBytes (now (archive .entry)) spelled) ⌝ }
 {
     let bytes = reader::text(archive, spelled.place, spelled.long);
-    encoding::referent_reference(f, table, spelled.index, bytes)
+    encoding::referent_reference(table, spelled.index, bytes)
 }
 
 // An argument.
@@ -429,7 +429,7 @@ fn put_pieces(
     let behind_first = put_spelled(f, archive, out, owned, one.table, first);
     let behind_second = put_spelled(f, archive, out, behind_first, two.table, second);
     let behind_third = put_spelled(f, archive, out, behind_second, three.table, third);
-    encoding::put_stream(f, out, behind_third, stream_bytes(archive, stream))
+    encoding::put_stream(out, behind_third, stream_bytes(archive, stream))
 }
 
 // The header of a record of this size in words.
@@ -459,9 +459,9 @@ fn put_header(
         report.own,
         size,
         report.count,
-        spelled_reference(f, archive, one.table, first),
-        spelled_reference(f, archive, two.table, second),
-        spelled_reference(f, archive, three.table, third),
+        spelled_reference(archive, one.table, first),
+        spelled_reference(archive, two.table, second),
+        spelled_reference(archive, three.table, third),
         stream_bytes(archive, stream).len(),
     )
 }
@@ -527,7 +527,7 @@ fn put_plain(f: Format, archive: &[u8], out: &mut [u8], at: usize, content: Cont
     ensures { λ r. ⌜ r ≡ at + length (plainBytes f (plainItem (now (archive .entry)) content)) ⌝ }
 {
     match content {
-        Content::Magic => encoding::put_magic(f, out, at),
+        Content::Magic => encoding::put_magic(out, at),
         Content::ProviderInfo { id, place, length } => {
             encoding::put_provider_info(f, out, at, id, reader::text(archive, place, length))
         }

@@ -5,18 +5,18 @@ use lib.ListN.{length}
 use Rattle.encoding.specs.Encoded.{partBytes}
 use Rattle.records.specs.Item.{thread}
 use Rattle.words.specs.Word.{wordAt}
-use Rattle.encoding.proofs.Parts.{referent-thread, referent-text, indexed-thread, inline-thread, nothing-written}
+use Rattle.encoding.proofs.Parts.{text-bytes, referent-thread, referent-text, indexed-thread, inline-thread, nothing-written}
 use borrow.Author.Needs.{needs}
 use Rattle.encoding.proofs.put_referent.Statement.{statement}
 use Rattle.encoding.proofs.put_referent.Tie as tie
 
 put-text-requires : tie.Need-put-text-requires
 put-text-requires c κs = let a = c .before .before .before .before .args in
-    omega (arith, ap (λ w. length (partBytes (a .f) w)) (referent-text (a .f) (a .table) (a .index) (a .bytes .now) (c .before .if1 .taken)))
+    omega (arith, ap length (text-bytes (a .f) (a .index) (a .bytes .now)), ap (λ w. length (partBytes (a .f) w)) (referent-text (a .f) (a .table) (a .index) (a .bytes .now) (c .before .if1 .taken)))
 
 returns : tie.Need-returns
 returns c = let a = c .before .before .before .before .before .before .before .args in
-    rw (referent-text (a .f) (a .table) (a .index) (a .bytes .now) (c .before .before .before .before .if1 .taken)) (c .before .before .put-text .ensures)
+    rw (referent-text (a .f) (a .table) (a .index) (a .bytes .now) (c .before .before .before .before .if1 .taken), text-bytes (a .f) (a .index) (a .bytes .now)) (c .before .before .put-text .ensures)
 
 returns-2 : tie.Need-returns-2
 returns-2 c = let a = c .before .before .before .before .args in

@@ -6,6 +6,7 @@ use lib.ListN.{length}
 use lib.Dec.{eqb}
 use Rattle.words.specs.Word.{pick, wordAt, wordBytes, Field, _of_, pack}
 use Rattle.format.specs.declared.Format.{Format}
+use Rattle.words.specs.Stream.{padded}
 use Rattle.arguments.specs.declared.Scalar.{Scalar}
 use Rattle.records.specs.declared.Event.{Event}
 use Rattle.records.specs.Item.{Thread, thread, Referent, textReferent, threadReferent, Item, ownLayout}
@@ -19,6 +20,13 @@ plainRecord f item = itemRecord f (λ key. 0) item
 -- a text, by its index, or inline where that is 0
 abbrev pub textPart : ℕ → List ℕ → Encoded
 textPart index b = pick (eqb index 0) (textInline b) (textIndex index)
+
+-- the bytes of such a text, and the reference of what a record refers to, by the table that it is looked up in: no byte order concerns them
+abbrev pub textBytes : ℕ → List ℕ → List ℕ
+textBytes index b = pick (eqb index 0) (padded b) []
+
+abbrev pub referentReference : (table index : ℕ) → List ℕ → ℕ
+referentReference table index b = pick (eqb table 3) index (referenceOf (textPart index b))
 
 -- a thread, by its index, or inline where that is 0
 abbrev pub threadPart : ℕ → Thread → Encoded

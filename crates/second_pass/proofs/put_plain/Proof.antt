@@ -1,6 +1,10 @@
 -- `second_pass::put_plain` meets its contract: content by content, the record is the one of its item, and nothing where it shows none. Assumes nothing.
 use native.Mathlib.Omega.{arith}
 use Rattle.passes.specs.Models.Item.{plainItem}
+use Rattle.words.specs.Stream.{magic as magicBytes}
+use Rattle.records.specs.Item.{magic}
+use Rattle.encoding.proofs.Headers.{length-plain}
+use Rattle.encoding.proofs.EncodedItems.{magic-record}
 use Rattle.encoding.proofs.Parts.{nothing-written}
 use borrow.Author.Needs.{needs}
 use Rattle.second_pass.proofs.put_plain.Statement.{statement}
@@ -9,8 +13,9 @@ use Rattle.second_pass.proofs.put_plain.Tie as tie
 put-magic-requires : tie.Need-put-magic-requires
 unfolding plainItem
 put-magic-requires c κs =
-    let p = c .before .before .before .before .before .pre in
-    rw (c .before .enum-told .given .1) at (p .1)
+    let start = c .before .before .before .before .before in
+    let room = rw (c .before .enum-told .given .1) at (start .pre .1) in
+    omega (arith, room, length-plain (start .args .f) magic)
 
 put-provider-info-requires : tie.Need-put-provider-info-requires
 unfolding plainItem
@@ -39,9 +44,10 @@ put-initialization-requires c κs =
     rw (c .before .before .content4 .given .1) at (p .1)
 
 returns : tie.Need-returns
-unfolding plainItem
+unfolding plainItem magicBytes
 returns c =
-    rw (c .before .before .before .before .enum-told .given .1) (c .before .before .put-magic .ensures)
+    let a = c .before .before .before .before .before .before .before .before .args in
+    rw (c .before .before .before .before .enum-told .given .1, magic-record (a .f) (λ key. 0)) (c .before .before .put-magic .ensures)
 
 returns-2 : tie.Need-returns-2
 unfolding plainItem
