@@ -39,7 +39,7 @@ use Rattle.records.specs.declared.Content.the-variants.{Refused, Magic, 
 use Rattle.records.specs.Layout.{isEvent, layoutOf, layoutParts, ownOf, fieldsOf, takeFields, lastWord, reportRead}
 use Rattle.records.specs.Record.{contentOf, onExtent, recordOf, recordAt}
 use Rattle.records.specs.Item.{ownLayout}
-use Rattle.records.specs.Models.Layouts.{ReferenceFits, StreamFits}
+use Rattle.records.specs.Models.Layouts.{ReferenceFits}
 use Rattle.records.proofs.Layouts.{layout-fits}
 use Rattle.records.proofs.Contents.{ReportIs, ContentIs, refused as isRefused, magic as isMagic, providerInfo as isProviderInfo, section as isSection, providerEvent as isProviderEvent}
 use Rattle.records.proofs.Contents.{initialization as isInitialization, string as isString, thread as isThread, report as isReportRead, ignored as isIgnored, skipped as isSkipped, content-is}
@@ -120,7 +120,7 @@ parts-short f (p ∷ ps) place source start = go (takePart f p place source star
 
 abbrev FieldsBound : Format → Layout → Fields → Type 0
 FieldsBound f l (FieldsRefused number) = Unit {0}
-FieldsBound f l (FieldsRead a b c s next) = PartShort f (l .first) a × PartShort f (l .second) b × PartShort f (l .third) c × PartShort f (l .stream) s
+FieldsBound f l (FieldsRead a b c s next) = PartShort f (l .first) a × PartShort f (l .second) b × PartShort f (l .third) c × PartShort f (stream (l .stream)) s
 
 fields-bound : (f : Format) (l : Layout) (source : List ℕ) (place : ℕ) → FieldsBound f l (takeFields f l source place)
 unfolding takeFields
@@ -158,17 +158,10 @@ pub record OwnSuits (own : Event) (a b c long count : ℕ) : Type 0 where
   pub stream : long ≡ 0
   pub few : count ≤ 15
 
--- the length that a layout says of its stream
-abbrev StreamLong : Part → ℕ → Type 0
-StreamLong (words n) long = ⊥
-StreamLong (stream n) long = long ≡ n
-StreamLong (text r) long = ⊥
-StreamLong (thread r) long = ⊥
-
 -- what a kind has to show of a record that is read: it suits, with a stream of the length that its layout says, and its own words, and those behind
 -- its arguments, are as many as its layout says
 pub record OwnRead (f : Format) (source : List ℕ) (l : Layout) (own : Event) : Type 0 where
-  pub suits : AllBytes source → (long : ℕ) → StreamLong (l .stream) long
+  pub suits : AllBytes source → (long : ℕ) → long ≡ l .stream
       → OwnSuits own (tableOf (l .first)) (tableOf (l .second)) (tableOf (l .third)) long (l .count)
   pub words : length (ownLayout own .words) ≡ l .words
   pub behind : ownLayout own .behind ≡ l .behind
@@ -295,13 +288,6 @@ text-reference f (stream n) x h k e = absurd h
 text-reference f (text r) x h k e = k .0
 text-reference f (thread r) x h k e = absurd (omega (arith, e))
 
--- a stream that is read has the length that its layout says, and is short enough
-stream-read : (f : Format) (p : Part) (x : Reference) → StreamFits p → PartShort f p x → StreamLong p (lengthOf x) × (lengthOf x ≤ f .longest)
-stream-read f (words n) x h k = absurd h
-stream-read f (stream n) x h k = (k .0, omega (arith, k))
-stream-read f (text r) x h k = absurd h
-stream-read f (thread r) x h k = absurd h
-
 report-bound : (f : Format) (source : List ℕ) (place : ℕ) → AllBytes source → (a b c s : Reference) (first at last : ℕ) (list : List Argument)
     → ReportIs f source place a b c s first at last list → ReportBound f (reportRead f (layoutOf (wordAt (f .order) source 0)) source a b c s first last)
 report-bound f source place bytes a b c s first at last list is =
@@ -309,14 +295,13 @@ report-bound f source place bytes a b c s first at last list is =
     let fits = layout-fits (wordAt (f .order) source 0) in
     let own = own-read f source (is .is-report) in
     let k = subst (FieldsBound f l) (is .fields) (fields-bound f l source place) in
-    let read = stream-read f (l .stream) s (fits .stream) (k .3) in
     let z = subst (LastBound (l .behind)) (is .last-is) (last-bound f source place at (l .behind) bytes) in
     record {
-      suits = own .suits bytes (lengthOf s) (read .0);
+      suits = own .suits bytes (lengthOf s) (k .3 .0);
       first = text-reference f (l .first) a (fits .first) (k .0);
       second = text-reference f (l .second) b (fits .second) (k .1);
       third = text-reference f (l .third) c (fits .third) (k .2);
-      stream = read .1;
+      stream = omega (arith, k .3);
       last = z .0;
       no-last = λ e. z .1 (sym (own .behind) ∙ e);
     }

@@ -14,7 +14,7 @@ use Rattle.format.specs.declared.Reference.the-variants.{Inline}
 use Rattle.format.specs.declared.Part.{Part}
 use Rattle.format.specs.declared.Part.the-variants.{Words as words, Stream as stream, Text as text, Thread as thread}
 use Rattle.format.specs.declared.Taken.the-variants.{Part as PartRead, Refused as PartRefused}
-use Rattle.format.specs.Part.{takePart, takeWords, Body, refused, body, prepend, onTaken, takeParts, inlineBytes}
+use Rattle.format.specs.Part.{takePart, takeWords, takeStream, Body, refused, body, prepend, onTaken, takeParts, inlineBytes}
 use Rattle.format.specs.Models.Bounds.{PartFits, Inside}
 use Rattle.format.proofs.Parts.{inside-wider, Moves, part-taken, Ends, parts-end, Counted, parts-counted}
 use Rattle.arguments.specs.declared.Walked.{Walked}
@@ -29,7 +29,7 @@ use Rattle.records.specs.declared.Fields.the-variants.{Refused as Fields
 use Rattle.records.specs.declared.Last.the-variants.{Word}
 use Rattle.records.specs.declared.Content.the-variants.{Report as ReportRead}
 use Rattle.records.specs.Layout.{hasExtra, extraWords, layoutOf, fieldsOf, takeFields, lastWord, reportRead, reportOf}
-use Rattle.records.specs.Models.Layouts.{ReferenceFits, StreamFits, LayoutFits, takePair, onPair, pairOf}
+use Rattle.records.specs.Models.Layouts.{ReferenceFits, LayoutFits, takePair, onPair, pairOf}
 
 -- an event has at most one word behind its arguments
 pub extra-few : (type : ℕ) → extraWords type ≤ 1
@@ -59,13 +59,6 @@ reference-fits (stream n) h = absurd h
 reference-fits (text r) h = h
 reference-fits (thread r) h = h
 
--- and so is a stream that fits
-pub stream-fits : (p : Part) → StreamFits p → PartFits p
-stream-fits (words n) h = absurd h
-stream-fits (stream n) h = h
-stream-fits (text r) h = absurd h
-stream-fits (thread r) h = absurd h
-
 -- the parts of a layout from `place` to `end`: where its arguments start, behind its words and what its parts have inline
 pub record Stand (l : Layout) (place end : ℕ) (a b c s : Reference) (next : ℕ) : Type 0 where
   pub starts : next ≡ place + 8 * l .words + inlineBytes a + inlineBytes b + inlineBytes c + inlineBytes s
@@ -94,7 +87,7 @@ fields-stand f l source place h =
     from = place + 8 + 8 * l .words
 
     rest : List Part
-    rest = l .first ∷ l .second ∷ l .third ∷ l .stream ∷ []
+    rest = l .first ∷ l .second ∷ l .third ∷ stream (l .stream) ∷ []
 
     next : Reference → ℕ → Body
     next x n = prepend x (takeParts f rest n source place)
@@ -118,6 +111,11 @@ fields-stand f l source place h =
           in-stream = inside-wider (place + 8) end s (omega arith) (omega arith) (e .2 .1 .1 .1 .0);
         }
     go (body (a ∷ b ∷ c ∷ s ∷ x ∷ xs) n) e k = absurd (omega (arith, k))
+
+-- a part that is a stream is taken as one
+pub stream-part : (f : Format) (n place : ℕ) (source : List ℕ) (start : ℕ) → takePart f (stream n) place source start ≡ takeStream f n place source start
+unfolding takePart
+stream-part f n place source start = refl
 
 -- leading words that are known to be taken
 pub words-taken : (f : Format) (n place : ℕ) (source : List ℕ) (start : ℕ) (x : Reference) (next : ℕ) → place ≤ start + length source
@@ -156,7 +154,7 @@ pub fields-by-pairs : (f : Format) (l : Layout) (source : List ℕ) (place : ℕ
     → takeFields f l source place
     ≡ onWords (takeWords (l .words) (place + 8) source place)
     (λ start. onPair (takePair f (l .first) (l .second) start source place) FieldsRefused
-    (λ a b middle. onPair (takePair f (l .third) (l .stream) middle source place) FieldsRefused (λ c s next. FieldsRead a b c s next)))
+    (λ a b middle. onPair (takePair f (l .third) (stream (l .stream)) middle source place) FieldsRefused (λ c s next. FieldsRead a b c s next)))
 unfolding takeFields takeParts takePart takePair
 fields-by-pairs f l source place = of-words (takeWords (l .words) (place + 8) source place)
   where
@@ -170,29 +168,29 @@ fields-by-pairs f l source place = of-words (takeWords (l .words) (place + 8) so
     of-stream w a b c (PartRead s n) = refl
 
     of-third : (w a b : Reference) (t : Taken)
-        → fieldsOf (prepend w (prepend a (prepend b (onTaken t (λ c n. prepend c (last (takePart f (l .stream) n source place)))))))
-        ≡ onPair (pairOf (onTaken t (λ c n. prepend c (last (takePart f (l .stream) n source place))))) FieldsRefused (λ c s next. FieldsRead a b c s next)
+        → fieldsOf (prepend w (prepend a (prepend b (onTaken t (λ c n. prepend c (last (takePart f (stream (l .stream)) n source place)))))))
+        ≡ onPair (pairOf (onTaken t (λ c n. prepend c (last (takePart f (stream (l .stream)) n source place))))) FieldsRefused (λ c s next. FieldsRead a b c s next)
     of-third w a b (PartRefused number) = refl
-    of-third w a b (PartRead c n) = of-stream w a b c (takePart f (l .stream) n source place)
+    of-third w a b (PartRead c n) = of-stream w a b c (takePart f (stream (l .stream)) n source place)
 
     of-second : (w a : Reference) (t : Taken)
-        → fieldsOf (prepend w (prepend a (onTaken t (λ b n. prepend b (takeParts f (l .third ∷ l .stream ∷ []) n source place)))))
+        → fieldsOf (prepend w (prepend a (onTaken t (λ b n. prepend b (takeParts f (l .third ∷ stream (l .stream) ∷ []) n source place)))))
         ≡ onPair (pairOf (prepend a (last t))) FieldsRefused
-        (λ a b middle. onPair (takePair f (l .third) (l .stream) middle source place) FieldsRefused (λ c s next. FieldsRead a b c s next))
+        (λ a b middle. onPair (takePair f (l .third) (stream (l .stream)) middle source place) FieldsRefused (λ c s next. FieldsRead a b c s next))
     of-second w a (PartRefused number) = refl
     of-second w a (PartRead b n) = of-third w a b (takePart f (l .third) n source place)
 
     of-first : (w : Reference) (t : Taken)
-        → fieldsOf (prepend w (onTaken t (λ a n. prepend a (takeParts f (l .second ∷ l .third ∷ l .stream ∷ []) n source place))))
+        → fieldsOf (prepend w (onTaken t (λ a n. prepend a (takeParts f (l .second ∷ l .third ∷ stream (l .stream) ∷ []) n source place))))
         ≡ onPair (pairOf (onTaken t (λ a n. prepend a (last (takePart f (l .second) n source place))))) FieldsRefused
-        (λ a b middle. onPair (takePair f (l .third) (l .stream) middle source place) FieldsRefused (λ c s next. FieldsRead a b c s next))
+        (λ a b middle. onPair (takePair f (l .third) (stream (l .stream)) middle source place) FieldsRefused (λ c s next. FieldsRead a b c s next))
     of-first w (PartRefused number) = refl
     of-first w (PartRead a n) = of-second w a (takePart f (l .second) n source place)
 
     of-words : (t : Taken)
-        → fieldsOf (onTaken t (λ w n. prepend w (takeParts f (l .first ∷ l .second ∷ l .third ∷ l .stream ∷ []) n source place)))
+        → fieldsOf (onTaken t (λ w n. prepend w (takeParts f (l .first ∷ l .second ∷ l .third ∷ stream (l .stream) ∷ []) n source place)))
         ≡ onWords t (λ start. onPair (takePair f (l .first) (l .second) start source place) FieldsRefused
-        (λ a b middle. onPair (takePair f (l .third) (l .stream) middle source place) FieldsRefused (λ c s next. FieldsRead a b c s next)))
+        (λ a b middle. onPair (takePair f (l .third) (stream (l .stream)) middle source place) FieldsRefused (λ c s next. FieldsRead a b c s next)))
     of-words (PartRefused number) = refl
     of-words (PartRead w n) = of-first w (takePart f (l .first) n source place)
 

@@ -50,7 +50,7 @@ layoutOf header =
       first = thread (field 24 31 header);
       second = text (field 32 47 header);
       third = text (field 48 63 header);
-      stream = stream 0;
+      stream = 0;
       count = field 20 23 header;
       behind = extraWords (field 16 19 header);
       reserved = 0;
@@ -63,7 +63,7 @@ ownOf f source = record { variant = field 16 19 (wordAt (f .order) source 0); ti
 -- ---- any kind
 
 abbrev pub layoutParts : Layout → List Part
-layoutParts l = words (l .words) ∷ l .first ∷ l .second ∷ l .third ∷ l .stream ∷ []
+layoutParts l = words (l .words) ∷ l .first ∷ l .second ∷ l .third ∷ stream (l .stream) ∷ []
 
 abbrev pub fieldsOf : Body → Fields
 fieldsOf (refused number) = FieldsRefused number

@@ -48,14 +48,15 @@ pub struct Report {
     pub last: u64,
 }
 
-// Whether a record is read so, and how it is laid out: words, three references and a stream, arguments, and words behind them; its reserved bits.
+// Whether a record is read so, and how it is laid out: words, three references and a stream of so many bytes, arguments, and words behind them; its
+// reserved bits.
 pub struct Layout {
     pub read: bool,
     pub words: usize,
     pub first: Part,
     pub second: Part,
     pub third: Part,
-    pub stream: Part,
+    pub stream: usize,
     pub count: usize,
     pub behind: usize,
     pub reserved: u64,
@@ -190,7 +191,7 @@ pub fn layout_of(header: u64) -> Layout
         first: Part::Thread(words::field(header, 24, 31)),
         second: Part::Text(words::field(header, 32, 47)),
         third: Part::Text(words::field(header, 48, 63)),
-        stream: Part::Stream(0),
+        stream: 0,
         count: words::field(header, 20, 23) as usize,
         behind: extra_words(words::field(header, 16, 19)),
         reserved: 0,
@@ -237,6 +238,34 @@ fn take_pair(f: Format, one: Part, two: Part, place: usize, source: &[u8], start
     }
 }
 
+// A part and a stream of so many bytes behind it. By itself, so that each of the two has one caller and is read in place.
+fn take_tail(f: Format, part: Part, long: usize, place: usize, source: &[u8], start: usize) -> Pair
+    requires { ⌜ PartFits part × (long < 2 ^ 32) × (place ≤ start + length (now source)) × (start + length (now source) < 2 ^ 63) ⌝ }
+    ensures { λ r. ⌜ r ≡ takePair f part (Part.Stream long) place (now (source .entry)) start ⌝ }
+{
+    let taken = format::take_part(f, part, place, source, start);
+    match taken {
+        Taken::Refused(number) => Pair::Refused(number),
+        Taken::Part {
+            reference: first,
+            next: at,
+        } => {
+            let behind = format::take_stream(f, long, at, source, start);
+            match behind {
+                Taken::Refused(number) => Pair::Refused(number),
+                Taken::Part {
+                    reference: second,
+                    next,
+                } => Pair::Pair {
+                    first,
+                    second,
+                    next,
+                },
+            }
+        }
+    }
+}
+
 // The references and the stream of the record that is `source`, whole, at a place of the archive.
 fn take_fields(f: Format, layout: Layout, source: &[u8], place: usize) -> Fields
     requires { ⌜ LayoutFits layout × (8 ≤ length (now source)) × (place + length (now source) < 2 ^ 63) ⌝ }
@@ -245,7 +274,6 @@ fn take_fields(f: Format, layout: Layout, source: &[u8], place: usize) -> Fields
     let one = layout.first;
     let two = layout.second;
     let three = layout.third;
-    let four = layout.stream;
     let leading = format::take_words(layout.words, place + 8, source, place);
     match leading {
         Taken::Refused(number) => Fields::Refused(number),
@@ -261,7 +289,7 @@ fn take_fields(f: Format, layout: Layout, source: &[u8], place: usize) -> Fields
                     second,
                     next: middle,
                 } => {
-                    let rest = take_pair(f, three, four, middle, source, place);
+                    let rest = take_tail(f, three, layout.stream, middle, source, place);
                     match rest {
                         Pair::Refused(number) => Fields::Refused(number),
                         Pair::Pair {

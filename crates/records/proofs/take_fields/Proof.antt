@@ -2,7 +2,7 @@
 use native.Mathlib.Omega.{arith}
 use mathlib.Core.Path.{sym, _∙_}
 use Prim.Native.Nat.{_+_}
-use Rattle.records.proofs.Layouts.{reference-fits, stream-fits, words-taken, fields-by-pairs, pair-moves}
+use Rattle.records.proofs.Layouts.{reference-fits, words-taken, fields-by-pairs, pair-moves}
 use borrow.Author.Needs.{needs}
 use Rattle.records.proofs.take_fields.Statement.{statement}
 use Rattle.records.proofs.take_fields.Tie as tie
@@ -20,8 +20,8 @@ take-pair-requires c κs =
     (sym (c .before .before .before .take-words .ensures) ∙ leading .1) in
     (reference-fits (a .layout .first) (p .0 .first), reference-fits (a .layout .second) (p .0 .second), omega (arith, moved .1), p .2)
 
-take-pair-requires-2 : tie.Need-take-pair-requires-2
-take-pair-requires-2 c κs =
+take-tail-requires : tie.Need-take-tail-requires
+take-tail-requires c κs =
     let words = c .before .before .before .before .before in
     let start = words .before .before .before in
     let a = start .before .args in
@@ -32,7 +32,7 @@ take-pair-requires-2 c κs =
     (sym (words .before .before .take-words .ensures) ∙ leading .1) in
     let behind = pair-moves (a .f) (a .layout .first) (a .layout .second) (leading .0 .1 .0) (a .source .now) (a .place) (pair .0 .0) (pair .0 .1 .0) (pair .0 .1 .1 .0)
     (omega (arith, moved .1)) (sym (c .before .before .before .take-pair .ensures) ∙ pair .1) in
-    (reference-fits (a .layout .third) (p .0 .third), stream-fits (a .layout .stream) (p .0 .stream), behind, p .2)
+    (reference-fits (a .layout .third) (p .0 .third), p .0 .stream, behind, p .2)
 
 returns : tie.Need-returns
 returns c =
@@ -59,7 +59,7 @@ returns-3 c =
       words .leading2 .given .1,
       ← pair .before .before .take-pair .ensures,
       pair .pair2 .given .1,
-      ← c .before .before .before .take-pair2 .ensures,
+      ← c .before .before .before .take-tail .ensures,
       c .before .rest .given .1,
     )
 
@@ -73,11 +73,11 @@ returns-4 c =
       words .leading2 .given .1,
       ← pair .before .before .take-pair .ensures,
       pair .pair2 .given .1,
-      ← c .before .before .before .take-pair2 .ensures,
+      ← c .before .before .before .take-tail .ensures,
       c .before .rest2 .given .1,
     )
 
 pub take-fields-spec : {M : Type 1} → statement M
 take-fields-spec =
     tie.close (tie.spec (λ c. search needs) take-words-requires (λ c. search needs) (λ c. search needs) take-pair-requires (λ c. search needs)
-    (λ c. search needs) take-pair-requires-2 (λ c. search needs) (λ c. search needs) returns returns-2 returns-3 returns-4)
+    (λ c. search needs) take-tail-requires (λ c. search needs) (λ c. search needs) returns returns-2 returns-3 returns-4)

@@ -22,20 +22,13 @@ ReferenceFits (stream n) = ⊥
 ReferenceFits (text reference) = reference < 2 ^ 16
 ReferenceFits (thread reference) = reference < 2 ^ 8
 
--- a part that is a stream, and fits its field
-abbrev pub StreamFits : Part → Type 0
-StreamFits (words n) = ⊥
-StreamFits (stream n) = n < 2 ^ 32
-StreamFits (text reference) = ⊥
-StreamFits (thread reference) = ⊥
-
 -- the numbers of a layout fit the fields of a header
 pub record LayoutFits (l : Layout) : Type 0 where
   pub words : l .words < 2 ^ 32
   pub first : ReferenceFits (l .first)
   pub second : ReferenceFits (l .second)
   pub third : ReferenceFits (l .third)
-  pub stream : StreamFits (l .stream)
+  pub stream : l .stream < 2 ^ 32
   pub few : l .count ≤ 15
   pub behind : l .behind ≤ 1
 
