@@ -5,7 +5,7 @@ ghost use lib.ListN.{length};
 ghost use Rattle.words.specs.Word.{wordAt};
 ghost use Rattle.format.specs.Models.Bounds.{PartFits};
 ghost use Rattle.words.specs.Stream.{streamWords};
-ghost use Rattle.records.specs.Layout.{hasExtra, extraWords, isEvent, layoutOf, ownOf, takeFields, lastWord, reportOf};
+ghost use Rattle.records.specs.Layout.{hasExtra, extraWords, isEvent, layoutOf, ownOf, takeFields, lastWord, lookupOf, reportOf};
 ghost use Rattle.records.specs.Models.Layouts.{LayoutFits, takePair};
 ghost use Rattle.records.specs.Record.{providerInfoOf, metadataOf, initializationOf, stringOf, threadOf, contentOf, recordAt};
 ghost use Rattle.records.specs.Effect.{effectOf};
@@ -326,6 +326,16 @@ fn last_word(f: Format, source: &[u8], place: usize, at: usize, behind: usize) -
     Last::Word(words::word(order, source, at - place))
 }
 
+// A reference that was taken for a part, with the table that it is looked up in.
+fn lookup_of(part: Part, reference: Reference) -> Lookup
+    ensures { λ r. ⌜ r ≡ lookupOf part reference ⌝ }
+{
+    Lookup {
+        table: format::table_of(part),
+        reference,
+    }
+}
+
 // A record that refers to texts and threads.
 fn report_of(f: Format, source: &[u8], place: usize) -> Content
     requires { ⌜ (8 ≤ length (now source)) × (place + length (now source) < 2 ^ 63) ⌝ }
@@ -358,18 +368,9 @@ fn report_of(f: Format, source: &[u8], place: usize) -> Content
                             let three = layout.third;
                             Content::Report(Report {
                                 own: own_of(f, source),
-                                first: Lookup {
-                                    table: format::table_of(one),
-                                    reference: first,
-                                },
-                                second: Lookup {
-                                    table: format::table_of(two),
-                                    reference: second,
-                                },
-                                third: Lookup {
-                                    table: format::table_of(three),
-                                    reference: third,
-                                },
+                                first: lookup_of(one, first),
+                                second: lookup_of(two, second),
+                                third: lookup_of(three, third),
                                 stream,
                                 count,
                                 arguments: next,

@@ -134,7 +134,7 @@ returns-4 c =
     let layout-of′ = c .before .before .before .before .before .before .before .before .before .before .before .before .before .before .before .before .before .layout-of in
     let word = c .before .before .before .before .before .before .before .before .before .before .before .before .before .before .before .before .before .before .word in
     let given′ = c .before .before .before .before .before .before .before .before .before .before .before .before .before .before .before .before .before .before .before .before .args in
-    rw (c .before .before .before .own-of .ensures, c .before .before .table-of .ensures, c .before .table-of2 .ensures, c .table-of3 .ensures)
+    rw (c .before .before .before .own-of .ensures, c .before .before .lookup-of .ensures, c .before .lookup-of2 .ensures, c .lookup-of3 .ensures)
     (sym (report-is (given′ .f) (given′ .source .now) (given′ .place) (layout-of′ .result) (sym (layout-of′ .ensures ∙ ap layoutOf (word .ensures)))
     (sym (take-fields .ensures) ∙ fields2 .given .1) (simp part-from at (sym (walk .ensures) ∙ walk3 .given .1)) (sym (last-word .ensures)
     ∙ more2 .given .1)))

@@ -9,26 +9,7 @@ use Rattle.second_pass.proofs.Spelling.{scalar-argument, text-argument}
 use borrow.Author.Needs.{needs}
 use Rattle.second_pass.proofs.put_argument.Statement.{statement}
 use Rattle.second_pass.proofs.put_argument.Tie as tie
-use Rattle.second_pass.proofs.put_argument.Reads as reads
-use Rattle.second_pass.proofs.put_argument.Lts as lts
-use Rattle.encoding.proofs.put_scalar_argument.Reads as put-scalar-argument-reads
-use Rattle.encoding.proofs.put_text_argument.Reads as put-text-argument-reads
-use Rattle.reader.proofs.text.Reads as text-reads
-use Rattle.second_pass.proofs.spell.Reads as spell-reads
 
--- src/lib.rt:296:9
-spell-requires : tie.Need-spell-requires
-spell-requires c κs = search needs
-
--- src/lib.rt:297:9
-text-requires : tie.Need-text-requires
-text-requires c κs = search needs
-
--- src/lib.rt:299:23
-enum-known-value : tie.Need-enum-known-value
-enum-known-value c = search needs
-
--- src/lib.rt:299:34
 put-scalar-argument-requires : tie.Need-put-scalar-argument-requires
 put-scalar-argument-requires c κs =
     let a = c .before .before .before .before .before .before .before .before .before .args in
@@ -46,22 +27,12 @@ put-scalar-argument-requires c κs =
       (omega (arith, ap length whole, fit .size), omega (arith, ap length whole, p .1)),
     )
 
--- src/lib.rt:300:21
-enum-known-value-2 : tie.Need-enum-known-value-2
-enum-known-value-2 c = search needs
-
--- src/lib.rt:305:17
 spell-requires-2 : tie.Need-spell-requires-2
 spell-requires-2 c κs =
     let p = c .before .before .before .before .before .before .before .before .pre in
     let value2′ = c .before .value2 in
     (p .0 .0, (rw (value2′ .given .1) at (p .0 .1 .text)) .can)
 
--- src/lib.rt:306:17
-text-requires-2 : tie.Need-text-requires-2
-text-requires-2 c κs = search needs
-
--- src/lib.rt:307:13
 put-text-argument-requires : tie.Need-put-text-argument-requires
 put-text-argument-requires c κs =
     let deep = c .before .before .before .before .before .before .before .before .before .before in
@@ -84,11 +55,6 @@ put-text-argument-requires c κs =
       (omega (arith, ap length whole, fit .size), omega (arith, ap length whole, p .1)),
     )
 
--- src/lib.rt:278:1
-same-length : tie.Need-same-length
-same-length c = search needs
-
--- src/lib.rt:278:1
 returns : tie.Need-returns
 returns c =
     let deep = c .before .before .before .before .before .before .before .before .before .before in
@@ -103,11 +69,6 @@ returns c =
     (text′ .result .now) (value′ .given .0 .0) (spell′ .ensures) (text′ .ensures) (value′ .given .1))
     (put-scalar-argument′ .ensures)
 
--- src/lib.rt:278:1
-same-length-2 : tie.Need-same-length-2
-same-length-2 c = search needs
-
--- src/lib.rt:278:1
 returns-2 : tie.Need-returns-2
 returns-2 c =
     let deep = c .before .before .before .before .before .before .before .before .before .before in
@@ -127,17 +88,5 @@ returns-2 c =
 
 pub put-argument-spec : {M : Type 1} → statement M
 put-argument-spec =
-    tie.close
-    (tie.spec
-    spell-requires
-    text-requires
-    enum-known-value
-    put-scalar-argument-requires
-    enum-known-value-2
-    spell-requires-2
-    text-requires-2
-    put-text-argument-requires
-    same-length
-    returns
-    same-length-2
-    returns-2)
+    tie.close (tie.spec (λ c κs. search needs) (λ c κs. search needs) (λ c. search needs) put-scalar-argument-requires (λ c. search needs) spell-requires-2
+    (λ c κs. search needs) put-text-argument-requires (λ c. search needs) returns (λ c. search needs) returns-2)

@@ -12,10 +12,6 @@ use Rattle.second_pass.proofs.Spelling.{Walk, walk-starts, walk-as, wal
 use borrow.Author.Needs.{needs}
 use Rattle.second_pass.proofs.put_arguments.Statement.{statement}
 use Rattle.second_pass.proofs.put_arguments.Tie as tie
-use Rattle.second_pass.proofs.put_arguments.Reads as reads
-use Rattle.second_pass.proofs.put_arguments.Lts as lts
-use Rattle.arguments.proofs.argument_of.Reads as argument-of-reads
-use Rattle.second_pass.proofs.put_argument.Reads as put-argument-reads
 
 abbrev Inv-loop : tie.InvT-loop
 Inv-loop f archive room out₀ start context until part place count rest₀ from₀ left₀ at₀ out rest from left at =
@@ -25,7 +21,6 @@ Inv-loop f archive room out₀ start context until part place count rest₀ from
 abbrev μ-loop : tie.MeasureT-loop
 μ-loop f archive room out₀ start context until part place count rest₀ from₀ left₀ at₀ out rest from left at = left
 
--- src/lib.rt:334:5
 loop-holds : tie.Need-loop-holds Inv-loop μ-loop
 loop-holds c =
     let a = c .before .before .before .before .args in
@@ -35,24 +30,17 @@ loop-holds c =
       refl,
     )
 
--- src/lib.rt:335:13
 argument-of-requires : tie.Need-argument-of-requires Inv-loop μ-loop
 argument-of-requires c κs =
     let loop′ = c .before .loop in
     let p = c .before .before .before .before .before .before .pre in
     omega (arith, loop′ .inv .1, p .1 .0)
 
--- src/lib.rt:338:17
-enum-told : tie.Need-enum-told Inv-loop μ-loop
-enum-told c = search needs
-
--- src/lib.rt:338:17
 same-length : tie.Need-same-length Inv-loop μ-loop
 same-length c =
     let loop′ = c .before .before .before .before .loop in
     loop′ .inv .0 .long
 
--- src/lib.rt:338:17
 returns : tie.Need-returns Inv-loop μ-loop
 returns c =
     let a = c .before .before .before .before .before .before .before .before .before .args in
@@ -63,11 +51,6 @@ returns c =
     let none = argument-refused (a .f) (loop′ .left) (loop′ .rest .now) (loop′ .from) _ (loop-test′ .taken) (sym (argument-of′ .ensures) ∙ enum-told′ .given .1) in
     walk-ends _ _ _ _ _ _ (walk-as _ _ _ _ _ _ none (loop′ .inv .0))
 
--- src/lib.rt:340:32
-enum-known-argued : tie.Need-enum-known-argued Inv-loop μ-loop
-enum-known-argued c = search needs
-
--- src/lib.rt:341:17
 put-argument-requires : tie.Need-put-argument-requires Inv-loop μ-loop
 put-argument-requires c κs =
     let deep = c .before .before .before .before .before .before .before .before .before .before in
@@ -84,7 +67,6 @@ put-argument-requires c κs =
     let w = walk-as _ _ _ _ _ _ turn (loop′ .inv .0) in
     ((p .0 .0, w .fit .0), walk-fits _ _ _ _ _ _ w)
 
--- src/lib.rt:342:24
 sub-rest : tie.Need-sub-rest Inv-loop μ-loop
 sub-rest c =
     let deep = c .before .before .before .before .before .before .before .before .before .before in
@@ -94,7 +76,6 @@ sub-rest c =
     let argument-of′ = c .before .before .before .before .before .before .before .argument-of in
     argument-read (a .f) (loop′ .rest .now) (loop′ .from) (argued′ .given .0 .0) (argued′ .given .0 .1 .0) (sym (argument-of′ .ensures) ∙ argued′ .given .1) .inside
 
--- src/lib.rt:342:24
 part-rest-start : tie.Need-part-rest-start Inv-loop μ-loop
 part-rest-start c =
     let deep = c .before .before .before .before .before .before .before .before .before .before in
@@ -104,11 +85,6 @@ part-rest-start c =
     let argument-of′ = c .before .before .before .before .before .before .before .argument-of in
     argument-read (a .f) (loop′ .rest .now) (loop′ .from) (argued′ .given .0 .0) (argued′ .given .0 .1 .0) (sym (argument-of′ .ensures) ∙ argued′ .given .1) .inside
 
--- src/lib.rt:342:24
-part-rest-end : tie.Need-part-rest-end Inv-loop μ-loop
-part-rest-end c = search needs
-
--- src/lib.rt:343:17
 add-from : tie.Need-add-from Inv-loop μ-loop
 add-from c =
     let deep = c .before .before .before .before .before .before .before .before .before .before in
@@ -120,15 +96,6 @@ add-from c =
     let read = argument-read (a .f) (loop′ .rest .now) (loop′ .from) (argued′ .given .0 .0) (argued′ .given .0 .1 .0) (sym (argument-of′ .ensures) ∙ argued′ .given .1) in
     omega (arith, read .inside, loop′ .inv .1, p .1 .0)
 
--- src/lib.rt:344:17
-sub-left : tie.Need-sub-left Inv-loop μ-loop
-sub-left c = search needs
-
--- src/lib.rt:334:5
-loop-less : tie.Need-loop-less Inv-loop μ-loop
-loop-less c = search needs
-
--- src/lib.rt:334:5
 loop-again : tie.Need-loop-again Inv-loop μ-loop
 loop-again c =
     let deep = c .before .before .before .before .before .before .before .before .before .before in
@@ -149,13 +116,11 @@ loop-again c =
       omega (arith, inside, loop′ .inv .1, length-drop size (loop′ .rest .now)),
     )
 
--- src/lib.rt:313:1
 same-length-2 : tie.Need-same-length-2 Inv-loop μ-loop
 same-length-2 c =
     let loop′ = c .before .loop in
     loop′ .inv .0 .long
 
--- src/lib.rt:313:1
 returns-2 : tie.Need-returns-2 Inv-loop μ-loop
 returns-2 c =
     let a = c .before .before .before .before .before .before .args in
@@ -165,23 +130,5 @@ returns-2 c =
 
 pub put-arguments-spec : {M : Type 1} → statement M
 put-arguments-spec =
-    tie.close
-    (tie.spec
-    Inv-loop
-    μ-loop
-    loop-holds
-    argument-of-requires
-    enum-told
-    same-length
-    returns
-    enum-known-argued
-    put-argument-requires
-    sub-rest
-    part-rest-start
-    part-rest-end
-    add-from
-    sub-left
-    loop-less
-    loop-again
-    same-length-2
-    returns-2)
+    tie.close (tie.spec Inv-loop μ-loop loop-holds argument-of-requires (λ c. search needs) same-length returns (λ c. search needs) put-argument-requires
+    sub-rest part-rest-start (λ c. search needs) add-from (λ c. search needs) (λ c. search needs) loop-again same-length-2 returns-2)

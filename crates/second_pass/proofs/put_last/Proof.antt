@@ -9,16 +9,7 @@ use Rattle.second_pass.proofs.Spelling.{last-none, last-word}
 use borrow.Author.Needs.{needs}
 use Rattle.second_pass.proofs.put_last.Statement.{statement}
 use Rattle.second_pass.proofs.put_last.Tie as tie
-use Rattle.second_pass.proofs.put_last.Reads as reads
-use Rattle.second_pass.proofs.put_last.Lts as lts
-use Rattle.records.proofs.own_behind.Reads as own-behind-reads
-use Rattle.words.proofs.put_word.Reads as put-word-reads
 
--- src/lib.rt:359:8
-own-behind-requires : tie.Need-own-behind-requires
-own-behind-requires c κs = search needs
-
--- src/lib.rt:360:9
 returns : tie.Need-returns
 returns c =
     let a = c .before .before .before .args in
@@ -27,7 +18,6 @@ returns c =
     rw (last-none (a .f) (ownLayout (a .own) .behind) (a .last) (sym (own-behind′ .ensures) ∙ if1′ .taken))
     (nothing-written (a .out .now) (a .at), omega arith)
 
--- src/lib.rt:362:5
 put-word-requires : tie.Need-put-word-requires
 put-word-requires c κs =
     let a = c .before .before .before .before .args in
@@ -37,15 +27,6 @@ put-word-requires c κs =
     let one = last-word (a .f) (ownLayout (a .own) .behind) (a .last) (λ z. if1′ .left (own-behind′ .ensures ∙ z)) in
     omega (arith, ap length one, length-wordBytes (a .f .order) (a .last), p)
 
--- src/lib.rt:363:5
-add-result : tie.Need-add-result
-add-result c = search needs
-
--- src/lib.rt:354:1
-same-length : tie.Need-same-length
-same-length c = search needs
-
--- src/lib.rt:354:1
 returns-2 : tie.Need-returns-2
 returns-2 c =
     let a = c .before .before .before .before .before .before .before .args in
@@ -57,5 +38,4 @@ returns-2 c =
 
 pub put-last-spec : {M : Type 1} → statement M
 put-last-spec =
-    tie.close
-    (tie.spec own-behind-requires returns put-word-requires add-result same-length returns-2)
+    tie.close (tie.spec (λ c κs. search needs) returns put-word-requires (λ c. search needs) (λ c. search needs) returns-2)

@@ -7,13 +7,7 @@ use Rattle.second_pass.proofs.Registering.{registration-none, registrat
 use borrow.Author.Needs.{needs}
 use Rattle.second_pass.proofs.put_registration.Statement.{statement}
 use Rattle.second_pass.proofs.put_registration.Tie as tie
-use Rattle.second_pass.proofs.put_registration.Reads as reads
-use Rattle.second_pass.proofs.put_registration.Lts as lts
-use Rattle.encoding.proofs.put_string_record.Reads as put-string-record-reads
-use Rattle.encoding.proofs.put_thread_record.Reads as put-thread-record-reads
-use Rattle.words.proofs.word.Reads as word-reads
 
--- src/lib.rt:55:9
 returns : tie.Need-returns
 returns c =
     let a = c .before .before .before .args in
@@ -21,7 +15,6 @@ returns c =
     let none = registration-none (a .f) (a .table) (a .index) (a .bytes .now) (if1′ .taken) in
     (rw none (nothing-written (a .out .now) (a .at)), omega (arith, ap length none))
 
--- src/lib.rt:62:13
 word-requires : tie.Need-word-requires
 word-requires c κs =
     let p = c .before .before .before .before .before .pre in
@@ -29,7 +22,6 @@ word-requires c κs =
     let if1′ = c .before .before .if1 in
     omega (arith, p .0 .thread-long (if2′ .taken) (if1′ .left))
 
--- src/lib.rt:63:13
 word-requires-2 : tie.Need-word-requires-2
 word-requires-2 c κs =
     let p = c .before .before .before .before .before .before .pre in
@@ -37,7 +29,6 @@ word-requires-2 c κs =
     let if1′ = c .before .before .before .if1 in
     omega (arith, p .0 .thread-long (if2′ .taken) (if1′ .left))
 
--- src/lib.rt:58:9
 put-thread-record-requires : tie.Need-put-thread-record-requires
 put-thread-record-requires c κs =
     let a = c .before .before .before .before .before .before .before .args in
@@ -50,11 +41,6 @@ put-thread-record-requires c κs =
     (word′ .ensures) (word2′ .ensures) in
     omega (arith, p .0 .thread-low (if2′ .taken), p .1, ap length is)
 
--- src/lib.rt:58:9
-same-length : tie.Need-same-length
-same-length c = search needs
-
--- src/lib.rt:58:9
 returns-2 : tie.Need-returns-2
 returns-2 c =
     let deep = c .before .before .before .before .before .before .before .before .before .before in
@@ -67,7 +53,6 @@ returns-2 c =
     rw (registration-thread (a .f) (a .table) (a .index) (a .bytes .now) (word′ .result) (word2′ .result) (if1′ .left) (if2′ .taken)
     (word′ .ensures) (word2′ .ensures)) (put-thread-record′ .ensures)
 
--- src/lib.rt:66:5
 put-string-record-requires : tie.Need-put-string-record-requires
 put-string-record-requires c κs =
     let p = c .before .before .before .before .before .pre in
@@ -82,11 +67,6 @@ put-string-record-requires c κs =
       ap length (registration-text (a .f) (a .table) (a .index) (a .bytes .now) (if1′ .left) (if2′ .left)),
     )
 
--- src/lib.rt:48:1
-same-length-2 : tie.Need-same-length-2
-same-length-2 c = search needs
-
--- src/lib.rt:48:1
 returns-3 : tie.Need-returns-3
 returns-3 c =
     let a = c .before .before .before .before .before .before .before .before .args in
@@ -97,14 +77,5 @@ returns-3 c =
 
 pub put-registration-spec : {M : Type 1} → statement M
 put-registration-spec =
-    tie.close
-    (tie.spec
-    returns
-    word-requires
-    word-requires-2
-    put-thread-record-requires
-    same-length
-    returns-2
-    put-string-record-requires
-    same-length-2
-    returns-3)
+    tie.close (tie.spec returns word-requires word-requires-2 put-thread-record-requires (λ c. search needs) returns-2 put-string-record-requires
+    (λ c. search needs) returns-3)

@@ -13,10 +13,6 @@ use Rattle.second_pass.proofs.Registering.{Registering, registering-sta
 use borrow.Author.Needs.{needs}
 use Rattle.second_pass.proofs.register_arguments.Statement.{statement}
 use Rattle.second_pass.proofs.register_arguments.Tie as tie
-use Rattle.second_pass.proofs.register_arguments.Reads as reads
-use Rattle.second_pass.proofs.register_arguments.Lts as lts
-use Rattle.arguments.proofs.texts_of.Reads as texts-of-reads
-use Rattle.second_pass.proofs.register_lookup.Reads as register-lookup-reads
 
 abbrev Inv-loop : tie.InvT-loop
 Inv-loop f archive room₀ out₀ start context until part place count rest₀ from₀ left₀ at₀ room out rest from left at =
@@ -27,7 +23,6 @@ Inv-loop f archive room₀ out₀ start context until part place count rest₀ f
 abbrev μ-loop : tie.MeasureT-loop
 μ-loop f archive room₀ out₀ start context until part place count rest₀ from₀ left₀ at₀ room out rest from left at = left
 
--- src/lib.rt:127:5
 loop-holds : tie.Need-loop-holds Inv-loop μ-loop
 loop-holds c =
     let a = c .before .before .before .before .args in
@@ -37,30 +32,22 @@ loop-holds c =
       refl,
     )
 
--- src/lib.rt:128:13
 texts-of-requires : tie.Need-texts-of-requires Inv-loop μ-loop
 texts-of-requires c κs =
     let loop′ = c .before .loop in
     let p = c .before .before .before .before .before .before .pre in
     omega (arith, loop′ .inv .1, p .1 .0)
 
--- src/lib.rt:131:17
-enum-told : tie.Need-enum-told Inv-loop μ-loop
-enum-told c = search needs
-
--- src/lib.rt:131:17
 same-length : tie.Need-same-length Inv-loop μ-loop
 same-length c =
     let loop′ = c .before .before .before .before .loop in
     loop′ .inv .0 .long
 
--- src/lib.rt:131:17
 same-length-2 : tie.Need-same-length-2 Inv-loop μ-loop
 same-length-2 c =
     let loop′ = c .before .before .before .before .loop in
     loop′ .inv .0 .out-long
 
--- src/lib.rt:131:17
 returns : tie.Need-returns Inv-loop μ-loop
 returns c =
     let a = c .before .before .before .before .before .before .before .before .before .args in
@@ -71,11 +58,6 @@ returns c =
     let stop = texts-refused (a .f) (loop′ .left) (loop′ .rest .now) (loop′ .from) _ (loop-test′ .taken) (sym (texts-of′ .ensures) ∙ enum-told′ .given .1) in
     registering-done _ _ _ _ _ _ _ _ (registering-as _ _ _ _ _ _ _ _ stop (loop′ .inv .0))
 
--- src/lib.rt:133:28
-enum-known-texts : tie.Need-enum-known-texts Inv-loop μ-loop
-enum-known-texts c = search needs
-
--- src/lib.rt:142:17
 register-lookup-requires : tie.Need-register-lookup-requires Inv-loop μ-loop
 register-lookup-requires c κs =
     let deep = c .before .before .before .before .before .before .before .before .before .before in
@@ -94,7 +76,6 @@ register-lookup-requires c κs =
     let fit = next-fits _ _ _ _ _ _ _ _ (registering-as _ _ _ _ _ _ _ _ turn (loop′ .inv .0)) in
     ((record { limits = fits .limits; short = fits .short; wide = omega (arith, fits .wide, loop′ .inv .0 .long); low = fits .low }, fit .0), fit .1)
 
--- src/lib.rt:143:17
 register-lookup-requires-2 : tie.Need-register-lookup-requires-2 Inv-loop μ-loop
 register-lookup-requires-2 c κs =
     let deep = c .before .before .before .before .before .before .before .before .before .before in
@@ -117,7 +98,6 @@ register-lookup-requires-2 c κs =
     let fit = next-fits _ _ _ _ _ _ _ _ named in
     ((record { limits = fits .limits; short = fits .short; wide = omega (arith, fits .wide, named .long); low = fits .low }, fit .0), fit .1)
 
--- src/lib.rt:144:24
 sub-rest : tie.Need-sub-rest Inv-loop μ-loop
 sub-rest c =
     let deep = c .before .before .before .before .before .before .before .before .before .before in
@@ -129,7 +109,6 @@ sub-rest c =
     texts-inside (a .f) (loop′ .rest .now) (loop′ .from) (texts′ .given .0 .0) (texts′ .given .0 .1 .0) (texts′ .given .0 .1 .1 .0)
     (sym (texts-of′ .ensures) ∙ texts′ .given .1)
 
--- src/lib.rt:144:24
 part-rest-start : tie.Need-part-rest-start Inv-loop μ-loop
 part-rest-start c =
     let deep = c .before .before .before .before .before .before .before .before .before .before in
@@ -141,11 +120,6 @@ part-rest-start c =
     texts-inside (a .f) (loop′ .rest .now) (loop′ .from) (texts′ .given .0 .0) (texts′ .given .0 .1 .0) (texts′ .given .0 .1 .1 .0)
     (sym (texts-of′ .ensures) ∙ texts′ .given .1)
 
--- src/lib.rt:144:24
-part-rest-end : tie.Need-part-rest-end Inv-loop μ-loop
-part-rest-end c = search needs
-
--- src/lib.rt:145:17
 add-from : tie.Need-add-from Inv-loop μ-loop
 add-from c =
     let deep = c .before .before .before .before .before .before .before .before .before .before in
@@ -159,15 +133,6 @@ add-from c =
     (sym (texts-of′ .ensures) ∙ texts′ .given .1) in
     omega (arith, inside, loop′ .inv .1, p .1 .0)
 
--- src/lib.rt:146:17
-sub-left : tie.Need-sub-left Inv-loop μ-loop
-sub-left c = search needs
-
--- src/lib.rt:127:5
-loop-less : tie.Need-loop-less Inv-loop μ-loop
-loop-less c = search needs
-
--- src/lib.rt:127:5
 loop-again : tie.Need-loop-again Inv-loop μ-loop
 loop-again c =
     let deep = c .before .before .before .before .before .before .before .before .before .before in
@@ -195,19 +160,16 @@ loop-again c =
       omega (arith, inside, loop′ .inv .1, length-drop size (loop′ .rest .now)),
     )
 
--- src/lib.rt:105:1
 same-length-3 : tie.Need-same-length-3 Inv-loop μ-loop
 same-length-3 c =
     let loop′ = c .before .loop in
     loop′ .inv .0 .long
 
--- src/lib.rt:105:1
 same-length-4 : tie.Need-same-length-4 Inv-loop μ-loop
 same-length-4 c =
     let loop′ = c .before .loop in
     loop′ .inv .0 .out-long
 
--- src/lib.rt:105:1
 returns-2 : tie.Need-returns-2 Inv-loop μ-loop
 returns-2 c =
     let a = c .before .before .before .before .before .before .args in
@@ -217,26 +179,6 @@ returns-2 c =
 
 pub register-arguments-spec : {M : Type 1} → statement M
 register-arguments-spec =
-    tie.close
-    (tie.spec
-    Inv-loop
-    μ-loop
-    loop-holds
-    texts-of-requires
-    enum-told
-    same-length
-    same-length-2
-    returns
-    enum-known-texts
-    register-lookup-requires
-    register-lookup-requires-2
-    sub-rest
-    part-rest-start
-    part-rest-end
-    add-from
-    sub-left
-    loop-less
-    loop-again
-    same-length-3
-    same-length-4
-    returns-2)
+    tie.close (tie.spec Inv-loop μ-loop loop-holds texts-of-requires (λ c. search needs) same-length same-length-2 returns (λ c. search needs)
+    register-lookup-requires register-lookup-requires-2 sub-rest part-rest-start (λ c. search needs) add-from (λ c. search needs)
+    (λ c. search needs) loop-again same-length-3 same-length-4 returns-2)

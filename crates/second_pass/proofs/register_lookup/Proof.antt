@@ -18,24 +18,7 @@ use Rattle.second_pass.proofs.Registering.{given-bad, given-unresolved,
 use borrow.Author.Needs.{needs}
 use Rattle.second_pass.proofs.register_lookup.Statement.{statement}
 use Rattle.second_pass.proofs.register_lookup.Tie as tie
-use Rattle.second_pass.proofs.register_lookup.Reads as reads
-use Rattle.second_pass.proofs.register_lookup.Lts as lts
-use Rattle.indexing.proofs.give_index.Reads as give-index-reads
-use Rattle.reader.proofs.text.Reads as text-reads
-use Rattle.second_pass.proofs.put_registration.Reads as put-registration-reads
-use Rattle.tables.proofs.resolve.Reads as resolve-reads
-use Rattle.tables.proofs.table_words.Reads as table-words-reads
-use Rattle.tally.proofs.label_of.Reads as label-of-reads
 
--- src/lib.rt:86:9
-table-words-requires : tie.Need-table-words-requires
-table-words-requires c κs = search needs
-
--- src/lib.rt:89:48
-slice-reshare-prefix-resolve : tie.Need-slice-reshare-prefix-resolve
-slice-reshare-prefix-resolve c = search needs
-
--- src/lib.rt:89:48
 slice-aggregate-resolve : tie.Need-slice-aggregate-resolve
 slice-aggregate-resolve c =
     let table-words′ = c .before .table-words in
@@ -43,7 +26,6 @@ slice-aggregate-resolve c =
     let p = c .before .before .before .before .before .pre in
     sym (length-take-le (table-words′ .result) (a .room .now) (omega (arith, table-words′ .ensures, p .0 .0 .wide)))
 
--- src/lib.rt:89:9
 resolve-requires : tie.Need-resolve-requires
 resolve-requires c κs =
     let p = c .before .before .before .before .before .pre in
@@ -57,23 +39,6 @@ resolve-requires c κs =
       fits .low,
     )
 
--- src/lib.rt:91:26
-enum-told : tie.Need-enum-told
-enum-told c = search needs
-
--- src/lib.rt:92:46
-enum-told-2 : tie.Need-enum-told-2
-enum-told-2 c = search needs
-
--- src/lib.rt:93:27
-enum-known-resolved : tie.Need-enum-known-resolved
-enum-known-resolved c = search needs
-
--- src/lib.rt:95:17
-same-length : tie.Need-same-length
-same-length c = search needs
-
--- src/lib.rt:95:17
 returns : tie.Need-returns
 returns c =
     let deep = c .before .before .before .before .before .before .before .before .before .before in
@@ -88,7 +53,6 @@ returns c =
     (given-empty (a .f) (a .archive .now) (a .room .now) (a .out .now) (a .at) (a .context) (l .table) r (resolved′ .given .0 .0)
     (resolved′ .given .0 .1 .0) (rw (table-words′ .ensures) at (sym (resolve′ .ensures) ∙ resolved′ .given .1)) (if1′ .taken))
 
--- src/lib.rt:97:17
 label-of-requires : tie.Need-label-of-requires
 label-of-requires c κs =
     let deep = c .before .before .before .before .before .before .before .before .before .before in
@@ -104,23 +68,6 @@ label-of-requires c κs =
     (a .lookup .reference) (can .reference) (fits .short)) in
     (fits .low, can .low, can .high, known .1)
 
--- src/lib.rt:98:55
-mul-give-index : tie.Need-mul-give-index
-mul-give-index c = search needs
-
--- src/lib.rt:98:55
-sub-give-index : tie.Need-sub-give-index
-sub-give-index c = search needs
-
--- src/lib.rt:98:55
-part-give-index-start : tie.Need-part-give-index-start
-part-give-index-start c = search needs
-
--- src/lib.rt:98:55
-part-give-index-end : tie.Need-part-give-index-end
-part-give-index-end c = search needs
-
--- src/lib.rt:98:17
 give-index-requires : tie.Need-give-index-requires
 unfolding labelOf
 give-index-requires c κs =
@@ -140,11 +87,6 @@ give-index-requires c κs =
       omega (arith, label-of′ .ensures, known .1, fits .low, can .low, can .high),
     )
 
--- src/lib.rt:99:53
-text-requires : tie.Need-text-requires
-text-requires c κs = search needs
-
--- src/lib.rt:99:13
 put-registration-requires : tie.Need-put-registration-requires
 put-registration-requires c κs =
     let deep = c .before .before .before .before .before .before .before .before .before .before in
@@ -172,11 +114,6 @@ put-registration-requires c κs =
       is = text′ .ensures;
     }) (a .at) (length (a .out .now)) (p .0 .1 .0 .1) (rw (append-nil bytes) at (p .1))
 
--- src/lib.rt:70:1
-same-length-2 : tie.Need-same-length-2
-same-length-2 c = search needs
-
--- src/lib.rt:70:1
 returns-2 : tie.Need-returns-2
 returns-2 c =
     let a = c .before .before .before .before .before .before .before .before .args in
@@ -189,11 +126,6 @@ returns-2 c =
     (given-bad (a .f) (a .archive .now) (a .room .now) (a .out .now) (a .at) (a .context) (l .table) r
     (rw (table-words′ .ensures) at (sym (resolve′ .ensures) ∙ enum-told′ .given .1)))
 
--- src/lib.rt:70:1
-same-length-3 : tie.Need-same-length-3
-same-length-3 c = search needs
-
--- src/lib.rt:70:1
 returns-3 : tie.Need-returns-3
 returns-3 c =
     let a = c .before .before .before .before .before .before .before .before .args in
@@ -206,15 +138,6 @@ returns-3 c =
     (given-unresolved (a .f) (a .archive .now) (a .room .now) (a .out .now) (a .at) (a .context) (l .table) r _
     (rw (table-words′ .ensures) at (sym (resolve′ .ensures) ∙ enum-told2′ .given .1)))
 
--- src/lib.rt:70:1
-same-length-4 : tie.Need-same-length-4
-same-length-4 c = search needs
-
--- src/lib.rt:70:1
-same-length-5 : tie.Need-same-length-5
-same-length-5 c = search needs
-
--- src/lib.rt:70:1
 returns-4 : tie.Need-returns-4
 returns-4 c =
     let deep = c .before .before .before .before .before .before .before .before .before .before in
@@ -248,29 +171,7 @@ returns-4 c =
 
 pub register-lookup-spec : {M : Type 1} → statement M
 register-lookup-spec =
-    tie.close
-    (tie.spec
-    table-words-requires
-    slice-reshare-prefix-resolve
-    slice-aggregate-resolve
-    resolve-requires
-    enum-told
-    enum-told-2
-    enum-known-resolved
-    same-length
-    returns
-    label-of-requires
-    mul-give-index
-    sub-give-index
-    part-give-index-start
-    part-give-index-end
-    give-index-requires
-    text-requires
-    put-registration-requires
-    same-length-2
-    returns-2
-    same-length-3
-    returns-3
-    same-length-4
-    same-length-5
-    returns-4)
+    tie.close (tie.spec (λ c κs. search needs) (λ c. search needs) slice-aggregate-resolve resolve-requires (λ c. search needs) (λ c. search needs)
+    (λ c. search needs) (λ c. search needs) returns label-of-requires (λ c. search needs) (λ c. search needs) (λ c. search needs)
+    (λ c. search needs) give-index-requires (λ c κs. search needs) put-registration-requires (λ c. search needs) returns-2
+    (λ c. search needs) returns-3 (λ c. search needs) (λ c. search needs) returns-4)

@@ -11,12 +11,7 @@ use Rattle.second_pass.proofs.Registering.{registering-starts, register
 use borrow.Author.Needs.{needs}
 use Rattle.second_pass.proofs.register_report.Statement.{statement}
 use Rattle.second_pass.proofs.register_report.Tie as tie
-use Rattle.second_pass.proofs.register_report.Reads as reads
-use Rattle.second_pass.proofs.register_report.Lts as lts
-use Rattle.second_pass.proofs.register_arguments.Reads as register-arguments-reads
-use Rattle.second_pass.proofs.register_lookup.Reads as register-lookup-reads
 
--- src/lib.rt:177:9
 register-lookup-requires : tie.Need-register-lookup-requires
 register-lookup-requires c κs =
     let a = c .before .before .before .before .before .before .before .before .args in
@@ -26,7 +21,6 @@ register-lookup-requires c κs =
     let fit = next-fits _ _ _ _ _ _ _ _ starts in
     ((p .0 .0, fit .0), fit .1)
 
--- src/lib.rt:178:9
 register-lookup-requires-2 : tie.Need-register-lookup-requires-2
 register-lookup-requires-2 c κs =
     let deep = c .before .before .before .before .before .before .before .before .before .before in
@@ -42,7 +36,6 @@ register-lookup-requires-2 c κs =
     let fit = next-fits _ _ _ _ _ _ _ _ first in
     ((record { limits = fits .limits; short = fits .short; wide = omega (arith, fits .wide, first .long); low = fits .low }, fit .0), fit .1)
 
--- src/lib.rt:179:9
 register-lookup-requires-3 : tie.Need-register-lookup-requires-3
 register-lookup-requires-3 c κs =
     let deep = c .before .before .before .before .before .before .before .before .before .before in
@@ -62,7 +55,6 @@ register-lookup-requires-3 c κs =
     let fit = next-fits _ _ _ _ _ _ _ _ second in
     ((record { limits = fits .limits; short = fits .short; wide = omega (arith, fits .wide, second .long); low = fits .low }, fit .0), fit .1)
 
--- src/lib.rt:188:9
 sub-register-arguments : tie.Need-sub-register-arguments
 sub-register-arguments c =
     let deep = c .before .before .before .before .before .before .before .before .before .before in
@@ -71,7 +63,6 @@ sub-register-arguments c =
     let p = deeper .before .before .before .before .before .before .before .before .before .pre in
     report-bounds (a .f) (a .archive .now) (a .s .place) (a .report) (a .next) (p .0 .1 .inside) (p .0 .1 .is) .first
 
--- src/lib.rt:188:9
 part-register-arguments-start : tie.Need-part-register-arguments-start
 part-register-arguments-start c =
     let deep = c .before .before .before .before .before .before .before .before .before .before in
@@ -80,7 +71,6 @@ part-register-arguments-start c =
     let p = deeper .before .before .before .before .before .before .before .before .before .pre in
     report-bounds (a .f) (a .archive .now) (a .s .place) (a .report) (a .next) (p .0 .1 .inside) (p .0 .1 .is) .first
 
--- src/lib.rt:188:9
 part-register-arguments-end : tie.Need-part-register-arguments-end
 part-register-arguments-end c =
     let deep = c .before .before .before .before .before .before .before .before .before .before in
@@ -89,7 +79,6 @@ part-register-arguments-end c =
     let p = deeper .before .before .before .before .before .before .before .before .before .pre in
     report-bounds (a .f) (a .archive .now) (a .s .place) (a .report) (a .next) (p .0 .1 .inside) (p .0 .1 .is) .last
 
--- src/lib.rt:180:5
 register-arguments-requires : tie.Need-register-arguments-requires
 register-arguments-requires c κs =
     let deep = c .before .before .before .before .before .before .before .before .before .before in
@@ -114,15 +103,6 @@ register-arguments-requires c κs =
       (omega (arith, bounds .part, bounds .last, fits .short), third .space),
     )
 
--- src/lib.rt:154:1
-same-length : tie.Need-same-length
-same-length c = search needs
-
--- src/lib.rt:154:1
-same-length-2 : tie.Need-same-length-2
-same-length-2 c = search needs
-
--- src/lib.rt:154:1
 returns : tie.Need-returns
 returns c =
     let deep = c .before .before .before .before .before .before .before .before .before .before in
@@ -146,15 +126,5 @@ returns c =
 
 pub register-report-spec : {M : Type 1} → statement M
 register-report-spec =
-    tie.close
-    (tie.spec
-    register-lookup-requires
-    register-lookup-requires-2
-    register-lookup-requires-3
-    sub-register-arguments
-    part-register-arguments-start
-    part-register-arguments-end
-    register-arguments-requires
-    same-length
-    same-length-2
-    returns)
+    tie.close (tie.spec register-lookup-requires register-lookup-requires-2 register-lookup-requires-3 sub-register-arguments part-register-arguments-start
+    part-register-arguments-end register-arguments-requires (λ c. search needs) (λ c. search needs) returns)

@@ -4,27 +4,7 @@ use Rattle.second_pass.proofs.Settled.{settled-registered}
 use borrow.Author.Needs.{needs}
 use Rattle.second_pass.proofs.register_waiting.Statement.{statement}
 use Rattle.second_pass.proofs.register_waiting.Tie as tie
-use Rattle.second_pass.proofs.register_waiting.Reads as reads
-use Rattle.second_pass.proofs.register_waiting.Lts as lts
-use Rattle.second_pass.proofs.register_report.Reads as register-report-reads
 
--- src/lib.rt:215:9
-register-report-requires : tie.Need-register-report-requires
-register-report-requires c κs = search needs
-
--- src/lib.rt:215:9
-same-length : tie.Need-same-length
-same-length c = search needs
-
--- src/lib.rt:215:9
-same-length-2 : tie.Need-same-length-2
-same-length-2 c = search needs
-
--- src/lib.rt:215:9
-returns : tie.Need-returns
-returns c = search needs
-
--- src/lib.rt:195:1
 returns-2 : tie.Need-returns-2
 returns-2 c =
     let a = c .before .before .before .before .args in
@@ -35,4 +15,4 @@ returns-2 c =
 
 pub register-waiting-spec : {M : Type 1} → statement M
 register-waiting-spec =
-    tie.close (tie.spec register-report-requires same-length same-length-2 returns returns-2)
+    tie.close (tie.spec (λ c κs. search needs) (λ c. search needs) (λ c. search needs) (λ c. search needs) returns-2)

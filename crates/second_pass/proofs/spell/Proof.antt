@@ -12,18 +12,7 @@ use Rattle.second_pass.proofs.Spelling.{slots-wide}
 use borrow.Author.Needs.{needs}
 use Rattle.second_pass.proofs.spell.Statement.{statement}
 use Rattle.second_pass.proofs.spell.Tie as tie
-use Rattle.second_pass.proofs.spell.Reads as reads
-use Rattle.second_pass.proofs.spell.Lts as lts
-use Rattle.indexing.proofs.index_of.Reads as index-of-reads
-use Rattle.tables.proofs.resolve.Reads as resolve-reads
-use Rattle.tables.proofs.table_words.Reads as table-words-reads
-use Rattle.tally.proofs.label_of.Reads as label-of-reads
 
--- src/lib.rt:232:9
-table-words-requires : tie.Need-table-words-requires
-table-words-requires c κs = search needs
-
--- src/lib.rt:235:48
 slice-aggregate-resolve : tie.Need-slice-aggregate-resolve
 slice-aggregate-resolve c =
     let table-words′ = c .before .table-words in
@@ -31,7 +20,6 @@ slice-aggregate-resolve c =
     let p = c .before .before .before .before .pre in
     sym (length-take-le (table-words′ .result) (a .room .now) (omega (arith, table-words′ .ensures, p .0 .wide)))
 
--- src/lib.rt:235:9
 resolve-requires : tie.Need-resolve-requires
 resolve-requires c κs =
     let p = c .before .before .before .before .pre in
@@ -41,19 +29,6 @@ resolve-requires c κs =
     let long = length-take-le (table-words′ .result) (a .room .now) (omega (arith, table-words′ .ensures, fits .wide)) in
     (fits .limits, omega (arith, fits .short), omega (arith, long, table-words′ .ensures), fits .low)
 
--- src/lib.rt:237:26
-enum-told : tie.Need-enum-told
-enum-told c = search needs
-
--- src/lib.rt:242:32
-enum-known-resolved : tie.Need-enum-known-resolved
-enum-known-resolved c = search needs
-
--- src/lib.rt:247:27
-enum-known-resolved-2 : tie.Need-enum-known-resolved-2
-enum-known-resolved-2 c = search needs
-
--- src/lib.rt:248:17
 label-of-requires : tie.Need-label-of-requires
 label-of-requires c κs =
     let p = c .before .before .before .before .before .before .before .before .pre in
@@ -67,23 +42,6 @@ label-of-requires c κs =
     (a .lookup .reference) (can .reference) (fits .short) in
     (fits .low, can .low, can .high, subst KnownFits (sym (resolve′ .ensures) ∙ resolved2′ .given .1) known .1)
 
--- src/lib.rt:249:53
-mul-index-of : tie.Need-mul-index-of
-mul-index-of c = search needs
-
--- src/lib.rt:249:53
-sub-index-of : tie.Need-sub-index-of
-sub-index-of c = search needs
-
--- src/lib.rt:249:53
-part-index-of-start : tie.Need-part-index-of-start
-part-index-of-start c = search needs
-
--- src/lib.rt:249:53
-part-index-of-end : tie.Need-part-index-of-end
-part-index-of-end c = search needs
-
--- src/lib.rt:249:17
 index-of-requires : tie.Need-index-of-requires
 unfolding labelOf
 index-of-requires c κs =
@@ -103,7 +61,6 @@ index-of-requires c κs =
       omega (arith, label-of′ .ensures, low, fits .low, can .low, can .high),
     )
 
--- src/lib.rt:221:1
 returns : tie.Need-returns
 unfolding spelledOf
 returns c =
@@ -112,7 +69,6 @@ returns c =
     let enum-told′ = c .enum-told in
     rw (← table-words′ .ensures, ← resolve′ .ensures, enum-told′ .given .1)
 
--- src/lib.rt:221:1
 returns-2 : tie.Need-returns-2
 unfolding spelledOf
 returns-2 c =
@@ -121,7 +77,6 @@ returns-2 c =
     let resolved′ = c .before .resolved in
     rw (← table-words′ .ensures, ← resolve′ .ensures, resolved′ .given .1)
 
--- src/lib.rt:221:1
 returns-3 : tie.Need-returns-3
 unfolding spelledOf
 returns-3 c =
@@ -137,20 +92,6 @@ returns-3 c =
 
 pub spell-spec : {M : Type 1} → statement M
 spell-spec =
-    tie.close
-    (tie.spec
-    table-words-requires
-    slice-aggregate-resolve
-    resolve-requires
-    enum-told
-    enum-known-resolved
-    enum-known-resolved-2
-    label-of-requires
-    mul-index-of
-    sub-index-of
-    part-index-of-start
-    part-index-of-end
-    index-of-requires
-    returns
-    returns-2
+    tie.close (tie.spec (λ c κs. search needs) slice-aggregate-resolve resolve-requires (λ c. search needs) (λ c. search needs) (λ c. search needs)
+    label-of-requires (λ c. search needs) (λ c. search needs) (λ c. search needs) (λ c. search needs) index-of-requires returns returns-2
     returns-3)
