@@ -9,7 +9,7 @@ ghost use Rattle.format.specs.Models.Bounds.{PartFits, Inside};
 use words::Order;
 
 // The limits of an archive, the longest text in bytes and the highest index of a string record, and the byte order of its
-// words. Its fields are small, so that it travels in one register.
+// words. Its fields are small, so that a copy of it is one word.
 pub struct Format {
     pub longest: u16,
     pub highest: u16,
