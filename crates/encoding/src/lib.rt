@@ -267,11 +267,16 @@ pub fn put_report_header(
     ensures { λ r. ⌜ r ≡ place + 8 ⌝ }
 {
     let order = f.order;
-    let varied = words::with_field(header(4, size), 16, 19, own.variant as u64);
-    let counted = words::with_field(varied, 20, 23, count as u64);
-    let threaded = words::with_field(counted, 24, 31, first);
-    let sorted = words::with_field(threaded, 32, 47, second);
-    words::put_word(order, out, place, words::with_field(sorted, 48, 63, third));
+    let with_variant = words::with_field(header(4, size), 16, 19, own.variant as u64);
+    let with_count = words::with_field(with_variant, 20, 23, count as u64);
+    let with_first = words::with_field(with_count, 24, 31, first);
+    let with_second = words::with_field(with_first, 32, 47, second);
+    words::put_word(
+        order,
+        out,
+        place,
+        words::with_field(with_second, 48, 63, third),
+    );
     place + 8
 }
 
