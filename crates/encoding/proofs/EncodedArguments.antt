@@ -17,7 +17,6 @@ use Rattle.words.specs.Stream.{streamWords}
 use Rattle.words.proofs.Words.{At, at-left, at-right, word-is}
 use Rattle.words.proofs.Signed.{unsigned-lt, signed-unsigned}
 use Rattle.format.specs.declared.Format.{Format}
-use Rattle.format.specs.Limits.{smallFormat}
 use Rattle.format.specs.declared.Part.the-variants.{Text as textPart}
 use Rattle.format.specs.Part.{part}
 use Rattle.arguments.specs.declared.Scalar.{Scalar}
@@ -317,10 +316,6 @@ pub argument-words : (f : Format) (index : Key → ℕ) (a : Argument) → Argum
     → argumentWords index a ≤ 1 + streamWords (f .longest) + mostWords f
 argument-words f index a fit =
     omega (arith, text-encoded f index (a .name) (fit .name) .words, value-encoded f index (a .value) (fit .value) .words)
-
--- so with strings of at most 256 bytes it has at most 65 words
-pub small-argument : (index : Key → ℕ) (a : Argument) → ArgumentFits smallFormat index a → argumentWords index a ≤ 65
-small-argument index a fit = argument-words smallFormat index a fit
 
 -- ---- all arguments
 

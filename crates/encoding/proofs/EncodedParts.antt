@@ -1,6 +1,6 @@
 -- The parts of a body as they are written: how long they are, that reading takes each of them, and that what it takes is what was written.
 -- Assumes nothing.
-use Prim.Native.Nat.{ℕ, _+_, _*_, _%_, _^_, _<_, _≤_}
+use Prim.Native.Nat.{ℕ, _+_, _*_, _^_, _<_, _≤_}
 use mathlib.Core.Path.{_≡_, refl}
 use mathlib.Core.List.{List, [], _∷_, map}
 use native.Mathlib.Omega.{arith}
@@ -104,10 +104,6 @@ length-part f (threadInline (thread p t)) =
 pub length-parts : (f : Format) (ws : List Encoded) → length (partsBytes f ws) ≡ 8 * partsWords ws
 length-parts f [] = refl
 length-parts f (w ∷ ws) = omega (arith, length-append (partBytes f w) (partsBytes f ws), length-part f w, length-parts f ws)
-
--- parts are a whole number of words
-pub parts-whole : (f : Format) (ws : List Encoded) → length (partsBytes f ws) % 8 ≡ 0
-parts-whole f ws = omega (arith, length-parts f ws)
 
 -- ---- reading takes what is written
 

@@ -14,19 +14,11 @@ use Rattle.words.proofs.Words.{length-wordBytes}
 use Rattle.words.proofs.Tests.{cases}
 use Rattle.words.proofs.Streams.{overwritten-twice, none-overwritten}
 use Rattle.format.specs.declared.Format.{Format}
-use Rattle.records.specs.Item.{Key, textKey, threadKey, Thread, thread, known}
-use Rattle.encoding.specs.Encoded.{Encoded, textIndex, textInline, threadInline, referenceOf, partBytes, partsBytes, encodedArgument, encodedText, encodedThread}
+use Rattle.records.specs.Item.{Thread, thread}
+use Rattle.encoding.specs.Encoded.{Encoded, textIndex, textInline, threadInline, referenceOf, partBytes, partsBytes, encodedArgument}
 use Rattle.encoding.proofs.EncodedParts.{length-part}
 use Rattle.encoding.proofs.EncodedRecords.{length-record}
 use Rattle.encoding.specs.Models.Part.{textPart, textBytes, referentReference, threadPart, referentPart, argumentStart}
-
--- a text with its key's index is what is written for it
-pub text-is : (index : Key → ℕ) (b : List ℕ) → encodedText index (known b) ≡ textPart (index (textKey b)) b
-text-is index b = refl
-
--- a thread with its key's index is what is written for it
-pub thread-is : (index : Key → ℕ) (t : Thread) → encodedThread index (known t) ≡ threadPart (index (threadKey t)) t
-thread-is index t = refl
 
 -- the bytes of a text, in any order
 pub text-bytes : (f : Format) (index : ℕ) (b : List ℕ) → partBytes f (textPart index b) ≡ textBytes index b

@@ -6,6 +6,5 @@ pub mod Counts
 pub mod Findings
 pub mod Checked
 pub mod Counting
-pub mod Plain
 pub mod Laws
 pub mod Rooms

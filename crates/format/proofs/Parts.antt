@@ -66,10 +66,6 @@ pub text-taken : (f : Format) (r place : ℕ) (source : List ℕ) (start : ℕ) 
     → Moves place (start + length source) (Read x next)
 text-taken f r place source start x next h e = subst (Moves place (start + length source)) e (text-moves f r place source start h)
 
-pub thread-taken : (r place : ℕ) (source : List ℕ) (start : ℕ) (x : Reference) (next : ℕ) → place ≤ (start + length source) → takeThread r place source start ≡ Read x next
-    → Moves place (start + length source) (Read x next)
-thread-taken r place source start x next h e = subst (Moves place (start + length source)) e (thread-moves r place source start h)
-
 -- what references have inline, all together
 abbrev pub inlineAll : List Reference → ℕ
 inlineAll [] = 0

@@ -1,7 +1,7 @@
 -- The cheapest way to spell a list of uses: no choice of registrations is cheaper, and the repacking rule attains it. Assumes of the test of
 -- sameness, where it is named, that what it calls the same is the same, and a key the same as itself.
 use Prim.Native.Nat.{ℕ, _+_, _*_, _≤_, min}
-use mathlib.Core.Path.{_≡_, refl, ap, _∙_}
+use mathlib.Core.Path.{_≡_, refl, ap}
 use mathlib.Core.Bool.{Bool, true, false, cond}
 use mathlib.Core.List.{[], List, _∷_, _++_}
 use native.Mathlib.Omega.{arith}
@@ -9,7 +9,7 @@ use lib.Dec.{ltb}
 use borrow.Author.Tests.{ltb-true, ltb-false}
 use Rattle.words.proofs.Tests.{cases}
 use Rattle.registering.specs.Counting.{sumBy, count, member, keys}
-use Rattle.registering.proofs.Counting.{fresh, seenAfter, sum-add, same-sym, seen-again, split, keys-mono, keys-cong, by-keys, keys-ext, keys-counts}
+use Rattle.registering.proofs.Counting.{fresh, seenAfter, sum-add, same-sym, seen-again, split, keys-mono, keys-cong, by-keys, keys-ext}
 
 module _ {K : Type 0} (same : K → K → Bool) where
   -- the least that the uses of one key cost: all of them inline, or one registration
@@ -44,14 +44,6 @@ module _ {K : Type 0} (same : K → K → Bool) where
 
 module _ {K : Type 0} (same : K → K → Bool) (same-eq : (a b : K) → same a b ≡ true → a ≡ b)
     (same-refl : (a : K) → same a a ≡ true) where
-  -- the best depends only on how often each key is used
-  pub best-counts : (inline register : K → ℕ) (us vs : List K) → ((k : K) → count same k us ≡ count same k vs)
-      → best same inline register us ≡ best same inline register vs
-  best-counts inline register us vs h =
-      keys-counts same same-eq same-refl (price same inline register us) us vs h
-      ∙ keys-cong same same-eq same-refl (price same inline register us) (price same inline register vs) [] vs
-      (λ k m. ap (λ (c : ℕ). min (c * inline k) (register k)) (h k))
-
   member-count : (f : K → ℕ) (k : K) (us : List K) → cond (member same k us) (f k) 0 ≤ count same k us * f k
   member-count f k [] = omega arith
   member-count f k (u ∷ us) =

@@ -51,11 +51,6 @@ module _ {K : Type 0} (same : K → K → Bool) where
   count-append k [] vs = omega arith
   count-append k (u ∷ us) vs = omega (arith, count-append k us vs)
 
-  -- a member of two lists, one behind the other, is a member of one of them
-  pub member-append : (k : K) (us vs : List K) → member same k (us ++ vs) ≡ (member same k us || member same k vs)
-  member-append k [] vs = refl
-  member-append k (u ∷ us) vs = cases (same k u) (λ e. rw e) (λ e. rw e (member-append k us vs))
-
   -- what is seen after some uses is what was seen before and the uses
   pub member-after : (k : K) (seen us : List K) → member same k (seenAfter seen us) ≡ (member same k us || member same k seen)
   member-after k seen [] = refl
@@ -74,14 +69,6 @@ module _ {K : Type 0} (same : K → K → Bool) (same-eq : (a b : K) → same a 
   -- and so does its opposite
   pub differ-sym : (a b : K) → same a b ≡ false → same b a ≡ false
   differ-sym a b h = cases (same b a) (λ e. absurd (true≢false (sym (same-sym b a e) ∙ h))) (λ e. e)
-
-  -- the same keys count as often
-  pub count-same : (a b : K) (us : List K) → same a b ≡ true → count same a us ≡ count same b us
-  count-same a b us e = ap (λ (k : K). count same k us) (same-eq a b e)
-
-  -- and are members alike
-  pub member-same : (a b : K) (us : List K) → same a b ≡ true → member same a us ≡ member same b us
-  member-same a b us e = ap (λ (k : K). member same k us) (same-eq a b e)
 
   -- a member is used
   pub member-used : (k : K) (us : List K) → member same k us ≡ true → 0 < count same k us

@@ -76,11 +76,6 @@ pub context-later : (s s′ : State) → Grown s s′ → (provider : Option ℕ
 context-later s s′ g none c h = h
 context-later s s′ g (some id) c h = (h .0, omega (arith, h .1, g .count), g .ids (c - 1) (omega (arith, h .0, h .1)) ∙ h .2)
 
--- a context is one of nine
-pub context-low : (s : State) (n : ℕ) → s .count ≤ n → (provider : Option ℕ) (c : ℕ) → ContextIs s provider c → c ≤ n
-context-low s n h none c k = omega arith
-context-low s n h (some id) c k = omega (arith, k .1)
-
 -- ---- the record of a key
 
 -- a key that can be registered under an index

@@ -55,13 +55,6 @@ same-use-eq a b e =
 pub same-use-refl : (a : Use) → sameUse a a ≡ true
 same-use-refl a = rw (same-provider-refl (a .provider), same-key-refl (a .key))
 
--- the same keys are of one table
-pub same-key-table : (a b : Key) → sameKey a b ≡ true → sameTable a b ≡ true
-same-key-table (textKey a) (textKey b) e = refl
-same-key-table (textKey a) (threadKey t) e = cc
-same-key-table (threadKey t) (textKey b) e = cc
-same-key-table (threadKey t) (threadKey u) e = refl
-
 -- a key is of its own table
 pub same-table-refl : (a : Key) → sameTable a a ≡ true
 same-table-refl (textKey a) = refl

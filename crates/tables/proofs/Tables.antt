@@ -11,7 +11,6 @@ use lib.Arith.{digits-div, digits-mod}
 use lib.Dec.{eqb, ltb, lit<}
 use lib.ListN.{length, drop, getD, replicate, length-append, length-drop, length-replicate, getD-replicate, List·getD-append}
 use Rattle.words.specs.Word.{pick}
-use Rattle.words.specs.Stream.{streamWords}
 use Rattle.words.proofs.Tests.{on-pick}
 use Rattle.format.specs.declared.Format.{Format}
 use Rattle.format.specs.declared.Reference.the-variants.{Inline, Index}
@@ -143,12 +142,6 @@ entry-means f archive table index entry until =
         (λ t. tt))
         (λ s. tt)
 
--- a known entry is so
-pub entry-known : (f : Format) (archive : List ℕ) (table index entry until place long : ℕ)
-    → entryAt f archive table index entry until ≡ Known place long → EntryKnown f archive table index entry until place long
-entry-known f archive table index entry until place long e =
-    subst (EntryMeans f archive table index entry until) e (entry-means f archive table index entry until)
-
 -- what a record registers stands inside it
 abbrev RegistrationInside : ℕ → ℕ → Registration → Type 0
 RegistrationInside from to Nothing = Unit {0}
@@ -218,11 +211,3 @@ pub resolved-known : (f : Format) (archive tables : List ℕ) (context table ind
     → IndexKnown f archive tables context table index until place long
 resolved-known f archive tables context table index until place long e =
     subst (IndexMeans f archive tables context table index until) e (index-means f archive tables context table index until)
-
--- and its bytes, with their padding, end at or before `until`
-pub resolved-inside : (f : Format) (archive tables : List ℕ) (context table index until place long : ℕ)
-    → resolved f archive tables context table until (Index index) ≡ Known place long → place + 8 * streamWords long ≤ until
-resolved-inside f archive tables context table index until place long e =
-    let k = resolved-known f archive tables context table index until place long e .known in
-    let i = registered-inside f archive (getD tables (position f context table index) 0) table index place long (k .registers) in
-    omega (arith, k .ends, i .1)

@@ -1,7 +1,7 @@
 -- Sums over the slots of a table and over marks, and the distinct keys of a mark. Assumes nothing.
 use Prim.Native.Nat.{ℕ, zero, suc, _+_, _<_, _≤_, min}
 use mathlib.Core.Path.{_≡_, refl, sym, ap, _∙_}
-use mathlib.Core.List.{[], List, _∷_, _++_}
+use mathlib.Core.List.{[], List, _∷_}
 use mathlib.Core.Bool.{Bool, true, false, cond, _||_}
 use native.Mathlib.Omega.{arith}
 use lib.Dec.{eqb}
@@ -12,7 +12,7 @@ use Rattle.words.specs.Stream.{sameBytes}
 use Rattle.words.proofs.Same.{same-true, same-refl}
 use Rattle.words.proofs.Tests.{cases}
 use Rattle.registering.specs.Counting.{sumBy, count, member, keys}
-use Rattle.registering.proofs.Counting.{cover, keys-more, keys-counts, keys-prefix, member-used, keys-member, seen-head}
+use Rattle.registering.proofs.Counting.{cover, keys-more, keys-counts, member-used, keys-member, seen-head}
 use Rattle.tally.specs.Models.Slots.{keyMark, sumTo}
 use Rattle.tally.specs.Models.Tally.{distinct}
 
@@ -153,10 +153,6 @@ distinct-other mark key us h n =
 pub distinct-alike : (mark : ℕ) (us vs : List (List ℕ)) → ((key : List ℕ) → count sameBytes key us ≡ count sameBytes key vs)
     → distinct mark us ≡ distinct mark vs
 distinct-alike mark us vs h = keys-counts sameBytes same-true same-refl (λ key. cond (eqb (keyMark key) mark) 1 0) us vs h
-
--- more uses have as many distinct keys or more
-pub distinct-more : (mark : ℕ) (us vs : List (List ℕ)) → distinct mark us ≤ distinct mark (us ++ vs)
-distinct-more mark us vs = keys-prefix sameBytes same-true same-refl (λ key. cond (eqb (keyMark key) mark) 1 0) [] us vs
 
 -- keys counted by marks are all keys
 by-marks : (n : ℕ) (ks : List (List ℕ)) → ((key : List ℕ) → member sameBytes key ks ≡ true → keyMark key < n)

@@ -108,15 +108,6 @@ pub zero-zeros : (n : ℕ) → allZero (replicate n 0) ≡ true
 zero-zeros zero = refl
 zero-zeros (suc n) = zero-zeros n
 
--- what is all zero is zeros
-pub zero-true : (bytes : List ℕ) → allZero bytes ≡ true → bytes ≡ replicate (length bytes) 0
-zero-true [] e = refl
-zero-true (b ∷ bs) e =
-    let both = both-true (eqb b 0) (allZero bs) e in
-    let first = eqb-true b 0 (both .0) in
-    let others = zero-true bs (both .1) in
-    cc
-
 -- a loop that tests from the front: byte i, then the bytes behind it
 pub zero-turn : (bytes : List ℕ) (i : ℕ) → i < length bytes
     → allZero (drop i bytes) ≡ (eqb (getD bytes i 0) 0 && allZero (drop (i + 1) bytes))

@@ -17,10 +17,6 @@ use Rattle.words.proofs.Same.{zero-zeros}
 pub padding-whole : (n : ℕ) → n + paddingOf n ≡ 8 * streamWords n
 padding-whole n = omega arith
 
--- the padding is less than a word
-pub padding-lt : (n : ℕ) → paddingOf n < 8
-padding-lt n = omega arith
-
 -- a padded stream is as long as its words
 pub length-padded : (b : List ℕ) → length (padded b) ≡ 8 * streamWords (length b)
 length-padded b = rw (length-append b, length-replicate) (padding-whole (length b))
@@ -75,12 +71,6 @@ overwritten-twice out place a b h =
       append-assoc (take place out) a,
       append-assoc a b,
     )
-
--- what is written stands where it was written
-pub read-written : (out : List ℕ) (place : ℕ) (bytes : List ℕ) → place ≤ length out → At (overwritten out place bytes) place bytes
-read-written out place bytes h =
-    let rest = drop (place + length bytes) out in
-    (rest, drop-at (take place out) (bytes ++ rest) place (length-take-le place out h))
 
 -- stores of bytes one behind the other are one writing
 pub stores-written : (out : List ℕ) (place : ℕ) (bytes : List ℕ) → place + length bytes ≤ length out
