@@ -19,7 +19,6 @@ use Rattle.records.specs.Record.{metadataOf, stringOf, contentOf, recordOf}
 use Rattle.records.specs.Effect.{effectOf}
 use Rattle.contexts.specs.Context.{belongsTo, findId, entering, providerOf}
 use Rattle.tables.specs.Table.{highestOf, position, registrationOf, entryAt, resolved}
-use Rattle.tables.specs.Models.Entries.{registrationAt, belonging}
 use Rattle.reader.specs.declared.ShownText.the-variants.{Unresolved}
 use Rattle.reader.specs.declared.ShownThread.the-variants.{Unresolved as ThreadUnresolved}
 use Rattle.reader.specs.Shown.{isBad, shownText, shownThread, shownReferent, shownStream, shownReport, shownValue, noneBad}
@@ -77,7 +76,7 @@ pub table : Table
 unfolding little littleAt wordAt wordBytes bytesOf magic startsWithMagic recordWords extentOf takeWords takeStream takeText takeThread tableOf takePart takeParts
     headerScalar holdsWord wordScalar takeValue argumentBody argumentOf textsOf valueText argumentsOf numberedOf
     hasExtra extraWords isEvent layoutOf ownOf takeFields lastWord reportOf metadataOf stringOf contentOf recordOf
-    belongsTo providerOf highestOf position registrationOf registrationAt belonging entryAt resolved
+    belongsTo providerOf highestOf position registrationOf entryAt resolved
     isBad shownText shownThread shownReferent shownStream shownReport noneBad shownValue
     openingNumber archiveNumber stopping reportAnswer plainAnswer effectDecision contentDecision followed followedEntered changeOf effectOf argumentsRead
     placeDecision decisionOf changed shownArgument askedReport askedPlace argumentReply partOf

@@ -33,7 +33,7 @@ use Rattle.records.specs.declared.Content.{Content}
 use Rattle.records.specs.declared.Content.the-variants.{Refused, Magic, ProviderInfo, Section, ProviderEvent, Initialization, String, Thread, Report as ReportRead, Ignored, Skipped}
 use Rattle.records.specs.Record.{recordAt}
 use Rattle.records.proofs.Contents.{RecordStands, record-read}
-use Rattle.tables.specs.declared.Registration.the-variants.{Nothing, Entry}
+use Rattle.tables.specs.Table.{Nothing, Entry}
 use Rattle.tables.specs.declared.Resolved.{Resolved}
 use Rattle.tables.specs.declared.Resolved.the-variants.{Bad, Known, Unresolved}
 use Rattle.tables.specs.Table.{position, registrationOf, resolved}

@@ -27,7 +27,7 @@ use Rattle.contexts.specs.declared.Entered.{Entered}
 use Rattle.contexts.specs.declared.Found.{Found}
 use Rattle.contexts.specs.declared.Found.the-variants.{At, Nothing as NotFound}
 use Rattle.contexts.specs.Context.{belongsTo, findId, moved, rated, inContext, withId, onFound, entering}
-use Rattle.tables.specs.declared.Registration.the-variants.{Entry}
+use Rattle.tables.specs.Table.{Entry}
 use Rattle.tables.proofs.Tables.{position-apart}
 use Rattle.tables.specs.Table.{tableWords, highestOf, position, registrationOf}
 use Rattle.effects.specs.declared.Change.the-variants.{Keep, Set}

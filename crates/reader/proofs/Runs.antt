@@ -19,7 +19,7 @@ use Rattle.contexts.specs.declared.State.{State}
 use Rattle.contexts.specs.declared.Found.the-variants.{Nothing as NotFound}
 use Rattle.contexts.specs.Context.{opening, findId, moved, withId}
 use Rattle.contexts.proofs.Contexts.{found-lt, found-none}
-use Rattle.tables.specs.declared.Registration.the-variants.{Nothing as NoEntry, Entry}
+use Rattle.tables.specs.Table.{Nothing as NoEntry, Entry}
 use Rattle.tables.specs.Table.{tableWords, highestOf, position, cleared, registrationOf}
 use Rattle.reader.specs.declared.Answer.the-variants.{End, Nothing}
 use Rattle.reader.specs.declared.Decision.{Decision}

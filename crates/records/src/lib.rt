@@ -456,7 +456,7 @@ fn initialization_of(f: Format, source: &[u8], place: usize) -> Content
 }
 
 // A string record.
-pub fn string_of(f: Format, source: &[u8], place: usize) -> Content
+fn string_of(f: Format, source: &[u8], place: usize) -> Content
     requires { ⌜ (8 ≤ length (now source)) × (place + length (now source) < 2 ^ 62) ⌝ }
     ensures { λ r. ⌜ r ≡ stringOf f (now (source .entry)) place ⌝ }
 {
@@ -485,7 +485,7 @@ pub fn string_of(f: Format, source: &[u8], place: usize) -> Content
 }
 
 // A thread record.
-pub fn thread_of(f: Format, source: &[u8], place: usize) -> Content
+fn thread_of(f: Format, source: &[u8], place: usize) -> Content
     requires { ⌜ (8 ≤ length (now source)) × (place + length (now source) < 2 ^ 62) ⌝ }
     ensures { λ r. ⌜ r ≡ threadOf f (now (source .entry)) place ⌝ }
 {

@@ -25,7 +25,7 @@ use Rattle.encoding.specs.Encoded.{threadInline, partBytes}
 use Rattle.encoding.proofs.EncodedRecords.{StringFits, string-fits, string-read, thread-fits, thread-read, record-at, length-record}
 use Rattle.contexts.specs.declared.State.{State}
 use Rattle.contexts.specs.Context.{providerOf}
-use Rattle.tables.specs.declared.Registration.the-variants.{Entry as Registered}
+use Rattle.tables.specs.Table.{Entry as Registered}
 use Rattle.tables.specs.declared.Resolved.the-variants.{Known}
 use Rattle.tables.specs.Table.{highestOf, position, registrationOf, entryAt, resolved}
 use Rattle.tables.proofs.Tables.{position-apart}

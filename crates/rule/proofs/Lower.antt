@@ -43,7 +43,7 @@ use Rattle.records.proofs.Bounds.{SizeShown, size-shown}
 use Rattle.encoding.proofs.EncodedReports.{length-last, behind-few}
 use Rattle.contexts.specs.declared.State.{State}
 use Rattle.contexts.specs.Context.{opening, belongsTo, providerOf, moved, rated, inContext, withId, entering}
-use Rattle.tables.specs.declared.Registration.the-variants.{Entry}
+use Rattle.tables.specs.Table.{Entry}
 use Rattle.tables.specs.Table.{tableWords, highestOf, position, registrationOf, resolved}
 use Rattle.tables.proofs.Tables.{position-lt}
 use Rattle.reader.specs.declared.Answer.{Answer}

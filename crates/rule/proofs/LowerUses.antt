@@ -38,7 +38,7 @@ use Rattle.records.specs.Models.Fixed.{valueWords, argumentsWords}
 use Rattle.contexts.specs.declared.State.{State}
 use Rattle.contexts.specs.declared.Provider.the-variants.{None, Id}
 use Rattle.contexts.specs.Context.{belongsTo}
-use Rattle.tables.specs.declared.Registration.the-variants.{Entry}
+use Rattle.tables.specs.Table.{Entry}
 use Rattle.tables.specs.declared.Resolved.{Resolved}
 use Rattle.tables.specs.declared.Resolved.the-variants.{Bad, Known, Unresolved}
 use Rattle.tables.specs.Table.{highestOf, position, registrationOf, resolved}

@@ -21,8 +21,8 @@ use Rattle.records.specs.declared.Content.the-variants.{Refused, Magic, Provide
 use Rattle.records.specs.Record.{recordAt}
 use Rattle.records.specs.Models.Bounds.{ContentInside}
 use Rattle.records.proofs.Contents.{on-record}
-use Rattle.tables.specs.declared.Registration.{Registration}
-use Rattle.tables.specs.declared.Registration.the-variants.{Nothing, Entry}
+use Rattle.tables.specs.Table.{Registration}
+use Rattle.tables.specs.Table.{Nothing, Entry}
 use Rattle.tables.specs.declared.Resolved.{Resolved}
 use Rattle.tables.specs.declared.Resolved.the-variants.{Bad, Known, Unresolved}
 use Rattle.tables.specs.Table.{tableWords, highestOf, position, cleared, registrationOf, onRegistration, entryAt, resolved}

@@ -13,8 +13,6 @@ use Rattle.records.specs.declared.Effect.{Effect}
 use Rattle.records.specs.declared.Effect.the-variants.{Stop, Pass, Enter, SetRate, Register}
 use Rattle.records.specs.Effect.{effectOf}
 use Rattle.records.specs.Record.{recordAt}
-use Rattle.tables.specs.declared.Registration.{Registration}
-use Rattle.tables.specs.declared.Registration.the-variants.{Nothing, Entry}
 use Rattle.tables.specs.declared.Resolved.{Resolved}
 use Rattle.tables.specs.declared.Resolved.the-variants.{Bad, Known, Unresolved}
 
@@ -39,6 +37,10 @@ abbrev pub cleared : ℕ → List ℕ → List ℕ
 cleared n tables = replicate n 0 ++ drop n tables
 
 -- what a record registers: the table, the index, and the place and length of its bytes
+pub data Registration : Type 0 where
+  Nothing : Registration
+  Entry : (table index place length : ℕ) → Registration
+
 abbrev pub registering : Effect → Registration
 registering (Stop number) = Nothing
 registering Pass = Nothing

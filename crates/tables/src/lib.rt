@@ -3,24 +3,10 @@
 ghost use mathlib.Core.Path.{_≡_};
 ghost use Prim.Native.Nat.{_+_, _*_, _^_, _<_, _≤_};
 ghost use lib.ListN.{length};
-ghost use Rattle.tables.specs.Table.{tableWords, highestOf, position, cleared, registrationOf, entryAt, resolved};
-ghost use Rattle.tables.specs.Models.Entries.{FormatFits, registrationAt, belonging};
-use format::Extent;
+ghost use Rattle.tables.specs.Table.{tableWords, highestOf, position, cleared, entryAt, resolved};
+ghost use Rattle.tables.specs.Models.Entries.{FormatFits, headerEntry};
 use format::Format;
 use format::Reference;
-use records::Content;
-use records::Effect;
-
-// What a string or thread record registers: its table, 2 for texts and 3 for threads, its index, and where its bytes stand.
-pub enum Registration {
-    Nothing,
-    Entry {
-        table: u64,
-        index: usize,
-        place: usize,
-        length: usize,
-    },
-}
 
 // What a reference stands for; bad where its entry does not belong.
 pub enum Resolved {
@@ -72,71 +58,37 @@ pub fn clear(tables: &mut [u32], n: usize)
     }
 }
 
-// What a record registers.
-pub fn registration_of(content: Content) -> Registration
-    ensures { λ r. ⌜ r ≡ registrationOf content ⌝ }
+// What the header of a record of this table at the place `entry` stands for where this index is wanted. Both tables are one
+// way through it, which keeps a lookup small enough to be put where it is made.
+fn header_entry(f: Format, table: u64, header: u64, index: usize, entry: usize) -> Resolved
+    requires { ⌜ entry < 2 ^ 32 ⌝ }
+    ensures { λ r. ⌜ r ≡ headerEntry f table header index entry ⌝ }
 {
-    let effect = records::effect_of(content);
-    match effect {
-        Effect::Register {
-            table,
-            index,
-            place,
-            length,
-        } => Registration::Entry {
-            table,
-            index,
-            place,
-            length,
-        },
-        Effect::Stop(_) => Registration::Nothing,
-        Effect::Pass => Registration::Nothing,
-        Effect::Enter { id: _ } => Registration::Nothing,
-        Effect::SetRate { rate: _ } => Registration::Nothing,
+    let mut own = words::field(header, 16, 30) as usize;
+    let mut length = words::field(header, 32, 46) as usize;
+    let mut longest = f.longest as usize;
+    if table == 3 {
+        own = words::field(header, 16, 23) as usize;
+        length = 16;
+        longest = 16;
     }
-}
-
-// What the record that is `source`, whole, at a place of the archive registers.
-fn registration_at(f: Format, source: &[u8], place: usize) -> Registration
-    requires { ⌜ (8 ≤ length (now source)) × (place + length (now source) < 2 ^ 62) ⌝ }
-    ensures { λ r. ⌜ r ≡ registrationAt f (now (source .entry)) place ⌝ }
-{
-    let order = f.order;
-    let record_type = words::field(words::word(order, source, 0), 0, 3);
-    if record_type == 2 {
-        return registration_of(records::string_of(f, source, place));
+    if own != index {
+        return Resolved::Bad;
     }
-    if record_type == 3 {
-        return registration_of(records::thread_of(f, source, place));
+    if longest < length {
+        return Resolved::Bad;
     }
-    Registration::Nothing
-}
-
-// What a registration stands for where one of this table and index is wanted.
-fn belonging(registration: Registration, table: u64, index: usize) -> Resolved
-    ensures { λ r. ⌜ r ≡ belonging table index registration ⌝ }
-{
-    match registration {
-        Registration::Nothing => Resolved::Bad,
-        Registration::Entry {
-            table: k,
-            index: i,
-            place,
-            length,
-        } => {
-            if k != table {
-                return Resolved::Bad;
-            }
-            if i != index {
-                return Resolved::Bad;
-            }
-            Resolved::Known { place, length }
-        }
+    if words::field(header, 4, 15) as usize <= words::stream_words(length) {
+        return Resolved::Bad;
+    }
+    Resolved::Known {
+        place: entry + 8,
+        length,
     }
 }
 
 // What a set entry stands for: the registration of this table and index at its place, which ends at or before `until`.
-// Only string and thread records register, so nothing but the extent of another record is read.
+// Its header says it all; only the tables of texts and threads have entries.
 fn entry_at(
     f: Format,
     archive: &[u8],
@@ -145,28 +97,34 @@ fn entry_at(
     entry: usize,
     until: usize,
 ) -> Resolved
-    requires { ⌜ length (now archive) < 2 ^ 62 ⌝ }
+    requires { ⌜ (entry < 2 ^ 32) × (index ≤ highestOf f table) ⌝ }
     ensures { λ r. ⌜ r ≡ entryAt f (now (archive .entry)) table index entry until ⌝ }
 {
     if entry % 8 != 0 {
         return Resolved::Bad;
     }
-    if archive.len() < entry {
+    if archive.len() < entry + 8 {
         return Resolved::Bad;
     }
-    let rest = &archive[entry..];
-    let extent = format::extent_of(f, rest);
-    match extent {
-        Extent::Refused(_) => Resolved::Bad,
-        Extent::Bytes(size) => {
-            let end = entry + size;
-            if until < end {
-                return Resolved::Bad;
-            }
-            let registration = registration_at(f, &rest[..size], entry);
-            belonging(registration, table, index)
-        }
+    let order = f.order;
+    let header = words::word(order, archive, entry);
+    if words::field(header, 0, 3) != table {
+        return Resolved::Bad;
     }
+    let end = entry + 8 * words::field(header, 4, 15) as usize;
+    if until < end {
+        return Resolved::Bad;
+    }
+    if archive.len() < end {
+        return Resolved::Bad;
+    }
+    if table / 2 != 1 {
+        return Resolved::Bad;
+    }
+    if index == 0 {
+        return Resolved::Bad;
+    }
+    header_entry(f, table, header, index, entry)
 }
 
 // What a reference into this table stands for in a context.

@@ -1,13 +1,9 @@
--- Limits for which tables can be addressed, and what the record of an entry registers, as functions ask for it: models of code.
-use Prim.Native.Nat.{ℕ, _^_, _<_}
-use lib.Dec.{eqb}
-use mathlib.Core.List.{List}
-use Rattle.words.specs.Word.{pick, wordAt, field}
+-- Limits for which tables can be addressed, and what the header of an entry's record says, as functions ask for it: models of code.
+use Prim.Native.Nat.{ℕ, _+_, _^_, _<_}
+use lib.Dec.{eqb, leb, ltb}
+use Rattle.words.specs.Word.{pick, field}
+use Rattle.words.specs.Stream.{streamWords}
 use Rattle.format.specs.declared.Format.{Format}
-use Rattle.records.specs.Record.{stringOf, threadOf}
-use Rattle.tables.specs.Table.{registrationOf, onRegistration}
-use Rattle.tables.specs.declared.Registration.{Registration}
-use Rattle.tables.specs.declared.Registration.the-variants.{Nothing}
 use Rattle.tables.specs.declared.Resolved.{Resolved}
 use Rattle.tables.specs.declared.Resolved.the-variants.{Bad, Known}
 
@@ -15,13 +11,20 @@ use Rattle.tables.specs.declared.Resolved.the-variants.{Bad, Known}
 pub record FormatFits (f : Format) : Type 0 where
   pub indexes : f .highest < 2 ^ 15
 
--- what the record that is `source`, whole, at a place registers: only string and thread records do
-unfoldable pub registrationAt : Format → List ℕ → ℕ → Registration
-registrationAt f source place =
-    pick (eqb (field 0 3 (wordAt (f .order) source 0)) 2) (registrationOf (stringOf f source place))
-    (pick (eqb (field 0 3 (wordAt (f .order) source 0)) 3) (registrationOf (threadOf f source place)) Nothing)
+-- what the header of a record of this table has: its index, and the length of the bytes that it registers, with the most that this may be
+unfoldable pub headerIndex : (table header : ℕ) → ℕ
+headerIndex table header = pick (eqb table 3) (field 16 23 header) (field 16 30 header)
 
--- what a registration stands for where one of this table and index is wanted
-unfoldable pub belonging : ℕ → ℕ → Registration → Resolved
-belonging table index r =
-    onRegistration r Bad (λ k i place length. pick (eqb k table) (pick (eqb i index) (Known place length) Bad) Bad)
+unfoldable pub headerLength : (table header : ℕ) → ℕ
+headerLength table header = pick (eqb table 3) 16 (field 32 46 header)
+
+unfoldable pub longestOf : Format → (table : ℕ) → ℕ
+longestOf f table = pick (eqb table 3) 16 (f .longest)
+
+-- what the header of a record of this table at the place `entry` stands for where this index is wanted
+unfoldable pub headerEntry : Format → (table header index entry : ℕ) → Resolved
+headerEntry f table header index entry =
+    pick (eqb (headerIndex table header) index)
+    (pick (ltb (longestOf f table) (headerLength table header)) Bad
+    (pick (leb (field 4 15 header) (streamWords (headerLength table header))) Bad (Known (entry + 8) (headerLength table header))))
+    Bad
