@@ -31,12 +31,12 @@ use Rattle.contexts.proofs.Contexts.{entered-belongs}
 use Rattle.tables.specs.Table.{position, resolved, entryAt, highestOf}
 use Rattle.reader.specs.declared.Answer.the-variants.{End}
 use Rattle.reader.specs.declared.Asked.the-variants.{Refused as AskRefused}
-use Rattle.reader.specs.declared.Decision.{Decision}
+use Rattle.reader.specs.Step.{Decision}
 use Rattle.reader.specs.Shown.{shownReport, shownValue, noneBad, isBad}
 use Rattle.reader.specs.Step.{openingNumber, stopping, contentDecision, decisionOf, stepReply, stepTables, plainAnswer, effectDecision, reportAnswer, contentAnswer}
 use Rattle.reader.specs.Ask.{shownArgument, argumentReply}
 use Rattle.reader.specs.Reads.{prepend as prependItem, argumentItems, itemOf}
-use Rattle.reader.proofs.Lookups.{ContentFits, record-whole, index-fits, report-fits}
+use Rattle.reader.proofs.Lookups.{ContentFits, record-whole, index-fits, report-fits, report-arguments}
 use Rattle.reader.proofs.Runs.{Sound, step-sound, Grown, step-grows}
 use Rattle.rule.specs.Refusal.{Run, ended, passed, keepsAt, onAnswer, runFrom}
 use Rattle.rule.proofs.Events.{asked-is}
@@ -44,7 +44,7 @@ use Rattle.rule.proofs.Items.{decision-is, end-is}
 use Rattle.rule.proofs.WholeRuns.{run-ends}
 use Rattle.records.specs.Effect.{effectOf}
 use Rattle.records.proofs.Contents.{RecordStands, record-read}
-use Rattle.reader.proofs.NeverFour.{none-bad, report-arguments, argument-tables, never-bad}
+use Rattle.reader.proofs.NeverFour.{none-bad, argument-tables, never-bad}
 use Rattle.records.specs.Lookups.{contentLookups, argumentLookups, reportLookups, argumentsTo}
 use Rattle.format.specs.declared.Reference.{Reference}
 use Rattle.format.specs.declared.Reference.the-variants.{Inline, Index}

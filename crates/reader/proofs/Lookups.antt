@@ -1,14 +1,14 @@
 -- Laws that a step's code rests on: what any record holds, where it ends, and where a thread that is looked up stands. Assumes nothing.
-use Prim.Native.Nat.{ℕ, _+_, _-_, _*_, _%_, _≤_, _<_}
-use mathlib.Core.Path.{_≡_, refl, subst}
-use mathlib.Core.List.{List}
+use Prim.Native.Nat.{ℕ, zero, suc, _+_, _-_, _*_, _%_, _≤_, _<_}
+use mathlib.Core.Path.{_≡_, refl, sym, ap, subst, _∙_}
+use mathlib.Core.List.{[], List, _∷_}
 use mathlib.Core.Logic.{_⊎_, inl, inr}
 use native.Mathlib.Omega.{arith}
 use native.Mathlib.Nat.{add-sub-cancel-left}
 use borrow.Author.Tests.{ltb-false}
 use lib.Dec.{eqb, ltb}
 use lib.ListN.{length, take, drop, getD}
-use lib.Seq.{length-take-le}
+use lib.Seq.{length-take-le, drop-drop, take-nil}
 use Rattle.words.specs.Word.{pick, wordAt}
 use Rattle.words.proofs.Tests.{on-pick}
 use Rattle.format.specs.declared.Format.{Format}
@@ -255,3 +255,47 @@ referents-inside f archive tables context until place r h l k =
       referent-inside f archive tables context until place next (r .second) l (fit .second) (i .second) (whole .before h),
       referent-inside f archive tables context until place next (r .third) l (fit .third) (i .third) (whole .before h),
     )
+
+-- ---- arguments, from the bytes of their record and from the archive
+
+-- what is left of a part behind its first elements
+pub drop-take : (k n : ℕ) (l : List ℕ) → drop k (take n l) ≡ take (n - k) (drop k l)
+drop-take zero n l = let e : n - 0 ≡ n = omega arith in rw e
+drop-take (suc k) zero l = let e : 0 - suc k ≡ 0 = omega arith in rw e
+drop-take (suc k) (suc n) [] = sym (take-nil (suc n - suc k))
+drop-take (suc k) (suc n) (x ∷ xs) = let e : suc n - suc k ≡ n - k = omega arith in rw e (drop-take k n xs)
+
+-- the part of a record from a place of it on is the part of the archive from there to the record's end
+pub part-behind : (archive : List ℕ) (place at next : ℕ) → place ≤ at
+    → drop (at - place) (take (next - place) (drop place archive)) ≡ take (next - at) (drop at archive)
+part-behind archive place at next h =
+    drop-take (at - place) (next - place) (drop place archive)
+    ∙ rw (drop-drop (at - place) place archive, there, left)
+  where
+    there : place + (at - place) ≡ at
+    there = omega arith
+
+    left : next - place - (at - place) ≡ next - at
+    left = omega arith
+
+-- the part of a record that is `source`, whole, from a place of it on
+pub source-behind : (archive source : List ℕ) (place at : ℕ) → place ≤ at → source ≡ take (length source) (drop place archive)
+    → drop (at - place) source ≡ take (place + length source - at) (drop at archive)
+source-behind archive source place at h e =
+    let n : place + length source - place ≡ length source = omega arith in
+    ap (drop (at - place)) e ∙ (rw n at (part-behind archive place at (place + length source) h))
+
+-- the arguments of an event that is read are all read, from the part of the archive that a step and an asking take them from
+pub report-arguments : (f : Format) (archive : List ℕ) (place : ℕ) (e : Report) → recordAt f archive place .content ≡ ReportRead e
+    → AllRead (argumentsOf f (e .count) (take (recordAt f archive place .next - e .arguments) (drop (e .arguments) archive)) (e .arguments))
+report-arguments f archive place e k =
+    rw (part-behind archive place (e .arguments) next (inside .behind)) at (holds .read)
+  where
+    next : ℕ
+    next = recordAt f archive place .next
+
+    inside : ContentInside place next (ReportRead e)
+    inside = subst (ContentInside place next) k (record-whole f archive place .inside)
+
+    holds : ReportFits f (take (next - place) (drop place archive)) place e
+    holds = report-fits f archive place e k

@@ -9,7 +9,6 @@ use native.Mathlib.Omega.{arith}
 use borrow.Author.Tests.{ltb-false, le-ltb, lt-leb, eqb-true, eqb-false, eq-eqb}
 use lib.Dec.{eqb, ltb}
 use lib.ListN.{length, take, drop, getD}
-use lib.Seq.{drop-drop, take-nil}
 use Rattle.words.proofs.Tests.{on-pick, cases}
 use Rattle.format.specs.declared.Format.{Format}
 use Rattle.format.specs.declared.Reference.{Reference}
@@ -36,13 +35,13 @@ use Rattle.reader.specs.declared.Answer.the-variants.{End, Report as Rep
 use Rattle.reader.specs.declared.ShownReport.{ShownReport}
 use Rattle.reader.specs.declared.Asked.{Asked}
 use Rattle.reader.specs.declared.Asked.the-variants.{Refused, Argument as ArgumentShown}
-use Rattle.reader.specs.declared.Decision.{Decision}
+use Rattle.reader.specs.Step.{Decision}
 use Rattle.reader.specs.Shown.{isBad, shownReport, noneBad}
 use Rattle.effects.specs.Follow.{changed, followed, changeOf}
 use Rattle.reader.specs.Step.{openingNumber, stopping, decisionOf, stepReply, stepTables, reportAnswer, effectDecision, contentDecision}
 use Rattle.reader.specs.Ask.{shownArgument, askedReport, askedPlace, argumentReply}
 use Rattle.reader.specs.Reads.{prepend as prependItem, argumentItems, reportItem, itemOf}
-use Rattle.reader.proofs.Lookups.{record-whole, ReportFits, report-fits}
+use Rattle.reader.proofs.Lookups.{record-whole, ReportFits, report-fits, report-arguments}
 use Rattle.reader.proofs.Changes.{Plain, Names, IsTable, on-decision, on-entering, showing, registering}
 use Rattle.reader.proofs.Runs.{Held, Sound, step-sound, Run, run-sound}
 
@@ -100,41 +99,6 @@ none-bad f archive tables s (l ∷ more) h k =
     rw (never-bad f archive tables s (l .table) (l .reference) h (k .0)) (none-bad f archive tables s more h (k .1))
 
 -- ---- an event in a sound state is shown
-
--- what is left of a part behind its first elements
-pub drop-take : (k n : ℕ) (l : List ℕ) → drop k (take n l) ≡ take (n - k) (drop k l)
-drop-take zero n l = let e : n - 0 ≡ n = omega arith in rw e
-drop-take (suc k) zero l = let e : 0 - suc k ≡ 0 = omega arith in rw e
-drop-take (suc k) (suc n) [] = sym (take-nil (suc n - suc k))
-drop-take (suc k) (suc n) (x ∷ xs) = let e : suc n - suc k ≡ n - k = omega arith in rw e (drop-take k n xs)
-
--- the part of a record from a place of it on is the part of the archive from there to the record's end
-pub part-behind : (archive : List ℕ) (place at next : ℕ) → place ≤ at
-    → drop (at - place) (take (next - place) (drop place archive)) ≡ take (next - at) (drop at archive)
-part-behind archive place at next h =
-    drop-take (at - place) (next - place) (drop place archive)
-    ∙ rw (drop-drop (at - place) place archive, there, left)
-  where
-    there : place + (at - place) ≡ at
-    there = omega arith
-
-    left : next - place - (at - place) ≡ next - at
-    left = omega arith
-
--- the arguments of an event that is read are all read, from the part of the archive that a step and an asking take them from
-pub report-arguments : (f : Format) (archive : List ℕ) (place : ℕ) (e : Report) → recordAt f archive place .content ≡ ReportRead e
-    → AllRead (argumentsOf f (e .count) (take (recordAt f archive place .next - e .arguments) (drop (e .arguments) archive)) (e .arguments))
-report-arguments f archive place e k =
-    rw (part-behind archive place (e .arguments) next (inside .behind)) at (holds .read)
-  where
-    next : ℕ
-    next = recordAt f archive place .next
-
-    inside : ContentInside place next (ReportRead e)
-    inside = subst (ContentInside place next) k (record-whole f archive place .inside)
-
-    holds : ReportFits f (take (next - place) (drop place archive)) place e
-    holds = report-fits f archive place e k
 
 -- the event that a step from a sound state shows
 abbrev shownAt : Format → List ℕ → List ℕ → State → Report → ShownReport

@@ -30,7 +30,7 @@ use Rattle.reader.specs.declared.Answer.{Answer}
 use Rattle.reader.specs.declared.Answer.the-variants.{End, Nothing, Magic as MagicShown, ProviderInfo as ProviderInfoShown, Section as SectionShown, ProviderEvent as ProviderEventShown, Initialization as InitializationShown, Report as ReportShown, Skipped as SkippedShown}
 use Rattle.reader.specs.declared.Asked.{Asked}
 use Rattle.reader.specs.declared.Asked.the-variants.{Refused as AskedRefused, Argument as ArgumentShown}
-use Rattle.reader.specs.declared.Decision.{Decision}
+use Rattle.reader.specs.Step.{Decision}
 use Rattle.effects.specs.Follow.{changed, followed, changeOf}
 use Rattle.reader.specs.Step.{openingNumber, stopping, contentDecision, placeDecision, decisionOf, openReply, openTables, stepReply, stepTables, effectDecision, plainAnswer}
 use Rattle.reader.specs.Ask.{shownArgument, askedReport, askedPlace, argumentReply}

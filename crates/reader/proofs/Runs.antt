@@ -22,7 +22,7 @@ use Rattle.contexts.proofs.Contexts.{found-lt, found-none}
 use Rattle.tables.specs.Table.{Nothing as NoEntry, Entry}
 use Rattle.tables.specs.Table.{tableWords, highestOf, position, cleared, registrationOf}
 use Rattle.reader.specs.declared.Answer.the-variants.{End, Nothing}
-use Rattle.reader.specs.declared.Decision.{Decision}
+use Rattle.reader.specs.Step.{Decision}
 use Rattle.effects.specs.Follow.{changed}
 use Rattle.reader.specs.Step.{openingNumber, stopping, stepReply, stepTables, openTables}
 use Rattle.reader.specs.Reads.{itemOf, Reads, ends, passes, shows}

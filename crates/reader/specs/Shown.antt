@@ -11,6 +11,7 @@ use Rattle.arguments.specs.declared.Value.{Value}
 use Rattle.arguments.specs.declared.Value.the-variants.{Scalar, Text as ValueText}
 use Rattle.records.specs.declared.Lookup.{Lookup}
 use Rattle.records.specs.declared.Report.{Report}
+use Rattle.contexts.specs.declared.Provider.{Provider}
 use Rattle.contexts.specs.declared.State.{State}
 use Rattle.contexts.specs.Context.{providerOf}
 use Rattle.tables.specs.declared.Resolved.{Resolved}
@@ -56,12 +57,12 @@ shownStream (Index index) = record { place = 0; length = 0 }
 
 -- "An event item holds its provider id or none, type, timestamp, the rate in force, process and thread (or unresolved), category, name,
 -- arguments, and extra word."
-unfoldable pub shownReport : Format → List ℕ → State → Report → Resolved → Resolved → Resolved → ShownReport
-shownReport f archive s r a b c =
+abbrev pub shownAt : Format → List ℕ → (place : ℕ) → Provider → (rate : ℕ) → Report → Resolved → Resolved → Resolved → ShownReport
+shownAt f archive place provider rate r a b c =
     record {
-      place = s .place;
-      provider = providerOf s;
-      rate = s .rate;
+      place = place;
+      provider = provider;
+      rate = rate;
       own = r .own;
       first = shownReferent f archive (r .first .table) a;
       second = shownReferent f archive (r .second .table) b;
@@ -70,6 +71,9 @@ shownReport f archive s r a b c =
       count = r .count;
       last = r .last;
     }
+
+unfoldable pub shownReport : Format → List ℕ → State → Report → Resolved → Resolved → Resolved → ShownReport
+shownReport f archive s r a b c = shownAt f archive (s .place) (providerOf s) (s .rate) r a b c
 
 -- whether no entry that a record is looked up in is bad
 unfoldable pub noneBad : Format → List ℕ → List ℕ → ℕ → ℕ → List Lookup → Bool

@@ -16,17 +16,23 @@ use Rattle.records.specs.Lookups.{onReport, contentLookups}
 use Rattle.contexts.specs.declared.State.{State}
 use Rattle.contexts.specs.Context.{opening, belongsTo}
 use Rattle.tables.specs.Table.{tableWords, cleared, lookedUp}
+use Rattle.effects.specs.declared.Change.{Change}
 use Rattle.effects.specs.declared.Change.the-variants.{Keep}
 use Rattle.effects.specs.Follow.{followed, changeOf, changed}
 use Rattle.reader.specs.declared.Answer.{Answer}
 use Rattle.reader.specs.declared.Answer.the-variants.{End, Nothing, Magic as MagicShown, ProviderInfo as ProviderInfoShown, Section as SectionShown, ProviderEvent as ProviderEventShown, Initialization as InitializationShown, Report as ReportShown, Skipped as SkippedShown}
 use Rattle.reader.specs.declared.Reply.{Reply}
-use Rattle.reader.specs.declared.Decision.{Decision}
 use Rattle.reader.specs.Shown.{noneBad, shownReport}
 
 -- "checks 2, 1, 3": the number that archive and tables are refused by, or 0.
 unfoldable pub openingNumber : Format → List ℕ → ℕ → ℕ
 openingNumber f archive room = archiveNumber archive 3 (tableWords f) room
+
+-- what a step does: its answer, the state to go on from, and what becomes of the tables
+pub record Decision : Type 0 where
+  pub answer : Answer
+  pub state : State
+  pub change : Change
 
 -- a step that ends or is refused: "A step that is refused, or at the end, changes nothing."
 unfoldable pub stopping : State → ℕ → ℕ → Decision
@@ -83,8 +89,11 @@ decisionOf f archive tables s =
     (stopping s (openingNumber f archive (length tables)) 0)
 
 -- a step: its answer with the state to go on from, and the tables after it
+abbrev pub replyOf : Decision → Reply
+replyOf d = record { answer = d .answer; state = d .state }
+
 abbrev pub stepReply : Format → List ℕ → List ℕ → State → Reply
-stepReply f archive tables s = record { answer = decisionOf f archive tables s .answer; state = decisionOf f archive tables s .state }
+stepReply f archive tables s = replyOf (decisionOf f archive tables s)
 
 abbrev pub stepTables : Format → List ℕ → List ℕ → State → List ℕ
 stepTables f archive tables s = changed tables (decisionOf f archive tables s .change)

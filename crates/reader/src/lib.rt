@@ -2,19 +2,22 @@
 ghost use mathlib.Core.Path.{_≡_};
 ghost use Prim.Native.Nat.{_+_, _-_, _^_, _<_, _≤_};
 ghost use mathlib.Core.Bool.{true};
-ghost use lib.ListN.{length};
+ghost use lib.ListN.{length, take, drop};
 ghost use Rattle.words.specs.Stream.{partOf};
 ghost use Rattle.format.specs.Limits.{smallFormat};
 ghost use Rattle.tables.specs.Table.{tableWords};
 ghost use Rattle.tables.specs.Models.Entries.{FormatFits};
 ghost use Rattle.contexts.specs.Context.{belongsTo};
-ghost use Rattle.arguments.specs.Argument.{argumentsRead};
-ghost use Rattle.records.specs.Record.{recordAt};
-ghost use Rattle.records.specs.Lookups.{argumentLookups};
+ghost use Rattle.arguments.specs.Argument.{argumentsOf};
+ghost use Rattle.records.specs.Layout.{reportOf};
+ghost use Rattle.records.specs.Record.{contentOf, recordAt};
+ghost use Rattle.records.specs.Effect.{effectOf};
 ghost use Rattle.effects.specs.Models.Bounds.{EffectFits};
-ghost use Rattle.reader.specs.Shown.{isBad, shownText, shownThread, shownReferent, shownStream, shownReport, noneBad};
+ghost use Rattle.effects.specs.Follow.{changed};
+ghost use Rattle.reader.specs.Shown.{isBad, shownText, shownThread, shownReferent, shownStream, shownAt};
 ghost use Rattle.reader.specs.Models.Bounds.{ThreadInside, ReferentInside};
-ghost use Rattle.reader.specs.Step.{openingNumber, stopping, plainAnswer, effectDecision, contentDecision, placeDecision, decisionOf, openReply, openTables, stepReply, stepTables};
+ghost use Rattle.reader.specs.Models.Seen.{searchedOf, seenFound, seenOf, seenReply};
+ghost use Rattle.reader.specs.Step.{openingNumber, stopping, plainAnswer, effectDecision, contentDecision, placeDecision, replyOf, openReply, openTables, stepReply, stepTables};
 ghost use Rattle.reader.specs.Ask.{shownArgument, askedReport, askedPlace, argumentReply};
 use arguments::Argued;
 use arguments::Argument;
@@ -23,12 +26,13 @@ use arguments::Texts;
 use arguments::Value;
 use contexts::Provider;
 use contexts::State;
-use effects::Change;
+use format::Extent;
 use format::Format;
 use format::Reference;
 use records::Content;
-use records::Effect;
 use records::Event;
+use records::Fields;
+use records::Last;
 use records::Report;
 use tables::Resolved;
 
@@ -122,11 +126,16 @@ pub enum Asked {
     Argument(ShownArgument),
 }
 
-// What a step does: its answer, the state to go on from, and what becomes of the tables.
-pub struct Decision {
-    pub answer: Answer,
-    pub state: State,
-    pub change: Change,
+// What a step sees at a record that refers to texts and threads: the number that it is refused by, or the record as it is shown.
+pub enum Seen {
+    Refused(u8),
+    Report(ShownReport),
+}
+
+// Where so many arguments end, and whether every entry that they are looked up in belongs.
+pub enum Searched {
+    Refused(u8),
+    End { at: usize, found: bool },
 }
 
 // The number that archive and tables are refused by, or 0.
@@ -175,8 +184,9 @@ fn shown_thread(f: Format, archive: &[u8], r: Resolved) -> ShownThread
     }
 }
 
-// Whether every entry that so many arguments are looked up in belongs.
-fn arguments_found(
+// Where so many arguments end, and whether every entry that they are looked up in belongs. One that does not is no reason
+// to stop: what an argument behind it is refused by comes before it.
+fn search_arguments(
     f: Format,
     archive: &[u8],
     tables: &[u32],
@@ -185,25 +195,26 @@ fn arguments_found(
     part: &[u8],
     place: usize,
     count: usize,
-) -> bool
+) -> Searched
     requires { ⌜ FormatFits f × (length (now archive) < 2 ^ 62) × (tableWords f ≤ length (now tables)) × (context ≤ 8) × (place + length (now part) < 2 ^ 63) ⌝ }
-    ensures { λ r. ⌜ r ≡ noneBad f (now (archive .entry)) (now (tables .entry)) context until (argumentLookups (argumentsRead f count (now (part .entry)) place)) ⌝ }
+    ensures { λ r. ⌜ r ≡ searchedOf f (now (archive .entry)) (now (tables .entry)) context until (argumentsOf f count (now (part .entry)) place) ⌝ }
 {
     let mut rest = part;
     let mut at = place;
     let mut left = count;
+    let mut found = true;
     while 0 < left {
         let texts = arguments::texts_of(f, rest, at);
         match texts {
-            Texts::Refused(_) => {
-                return true;
+            Texts::Refused(number) => {
+                return Searched::Refused(number);
             }
             Texts::Texts { name, value, size } => {
                 if is_bad(tables::resolve(f, archive, tables, context, 2, name, until)) {
-                    return false;
+                    found = false;
                 }
                 if is_bad(tables::resolve(f, archive, tables, context, 2, value, until)) {
-                    return false;
+                    found = false;
                 }
                 rest = &rest[size..];
                 at += size;
@@ -211,18 +222,7 @@ fn arguments_found(
             }
         }
     }
-    true
-}
-
-// A step that ends or is refused.
-fn stop(s: State, number: u8, place: usize) -> Decision
-    ensures { λ r. ⌜ r ≡ stopping s number place ⌝ }
-{
-    Decision {
-        answer: Answer::End { number, place },
-        state: s,
-        change: Change::Keep,
-    }
+    Searched::End { at, found }
 }
 
 // What a record refers to, as it is shown, by its table.
@@ -253,14 +253,16 @@ fn shown_stream(stream: Reference) -> ShownStream
 fn shown_report(
     f: Format,
     archive: &[u8],
-    s: State,
+    place: usize,
+    provider: Provider,
+    rate: u64,
     report: Report,
     a: Resolved,
     b: Resolved,
     c: Resolved,
 ) -> ShownReport
-    requires { ⌜ (s .current ≤ 8) × ReferentInside (length (now archive)) (report .first .table) a × ReferentInside (length (now archive)) (report .second .table) b × ReferentInside (length (now archive)) (report .third .table) c ⌝ }
-    ensures { λ r. ⌜ r ≡ shownReport f (now (archive .entry)) s report a b c ⌝ }
+    requires { ⌜ ReferentInside (length (now archive)) (report .first .table) a × ReferentInside (length (now archive)) (report .second .table) b × ReferentInside (length (now archive)) (report .third .table) c ⌝ }
+    ensures { λ r. ⌜ r ≡ shownAt f (now (archive .entry)) place provider rate report a b c ⌝ }
 {
     let own = report.own;
     let first = report.first;
@@ -268,9 +270,9 @@ fn shown_report(
     let third = report.third;
     let stream = report.stream;
     ShownReport {
-        place: s.place,
-        provider: contexts::provider_of(s),
-        rate: s.rate,
+        place,
+        provider,
+        rate,
         own,
         first: shown_referent(f, archive, first.table, a),
         second: shown_referent(f, archive, second.table, b),
@@ -281,20 +283,21 @@ fn shown_report(
     }
 }
 
-// A step at a record that refers to texts and threads and ends at `next`.
-fn decide_report(
+// What a step sees at a record in which this was read, whose arguments' entries all belong if `found`.
+fn see_referents(
     f: Format,
     archive: &[u8],
     tables: &[u32],
-    s: State,
+    context: usize,
+    place: usize,
+    provider: Provider,
+    rate: u64,
     report: Report,
-    next: usize,
-) -> Decision
-    requires { ⌜ FormatFits f × (length (now archive) < 2 ^ 62) × (tableWords f ≤ length (now tables)) × (s .current ≤ 8) × (s .place ≤ length (now archive)) × (recordAt f (now archive) (s .place) ≡ record { content = Content.Report report; next = next }) ⌝ }
-    ensures { λ r. ⌜ r ≡ contentDecision f (now (archive .entry)) (now (tables .entry)) s (Content.Report report) next ⌝ }
+    found: bool,
+) -> Seen
+    requires { ⌜ FormatFits f × (length (now archive) < 2 ^ 62) × (tableWords f ≤ length (now tables)) × (context ≤ 8) × (place ≤ length (now archive)) × (recordAt f (now archive) place .content ≡ Content.Report report) ⌝ }
+    ensures { λ r. ⌜ r ≡ seenFound f (now (archive .entry)) (now (tables .entry)) context place provider rate report found ⌝ }
 {
-    let place = s.place;
-    let context = s.current;
     let first = report.first;
     let second = report.second;
     let third = report.third;
@@ -305,33 +308,93 @@ fn decide_report(
     let b = tables::resolve(f, archive, tables, context, second.table, two, place);
     let c = tables::resolve(f, archive, tables, context, third.table, three, place);
     if is_bad(a) {
-        return stop(s, 4, place);
+        return Seen::Refused(4);
     }
     if is_bad(b) {
-        return stop(s, 4, place);
+        return Seen::Refused(4);
     }
     if is_bad(c) {
-        return stop(s, 4, place);
+        return Seen::Refused(4);
     }
-    let from = report.arguments;
-    let count = report.count;
-    if arguments_found(
-        f,
-        archive,
-        tables,
-        context,
-        place,
-        &archive[from..next],
-        from,
-        count,
-    ) {
-        return Decision {
-            answer: Answer::Report(shown_report(f, archive, s, report, a, b, c)),
-            state: contexts::move_to(s, next),
-            change: Change::Keep,
-        };
+    if found {
+        return Seen::Report(shown_report(f, archive, place, provider, rate, report, a, b, c));
     }
-    stop(s, 4, place)
+    Seen::Refused(4)
+}
+
+// What a step sees at the record that is `source`, whole, at a place, and refers to texts and threads. Its arguments are
+// walked over once.
+fn see_report(
+    f: Format,
+    archive: &[u8],
+    tables: &[u32],
+    context: usize,
+    place: usize,
+    provider: Provider,
+    rate: u64,
+    source: &[u8],
+) -> Seen
+    requires { ⌜ FormatFits f × (length (now archive) < 2 ^ 62) × (tableWords f ≤ length (now tables)) × (context ≤ 8) × (place ≤ length (now archive)) × (8 ≤ length (now source)) × (place + length (now source) < 2 ^ 62) × (recordAt f (now archive) place ≡ record { content = reportOf f (now source) place; next = place + length (now source) }) × (now source ≡ take (length (now source)) (drop place (now archive))) ⌝ }
+    ensures { λ r. ⌜ r ≡ seenOf f (now (archive .entry)) (now (tables .entry)) context place provider rate (reportOf f (now (source .entry)) place) (place + length (now (source .entry))) ⌝ }
+{
+    let order = f.order;
+    let layout = records::layout_of(words::word(order, source, 0));
+    let fields = records::take_fields(f, layout, source, place);
+    match fields {
+        Fields::Refused(number) => Seen::Refused(number),
+        Fields::Fields {
+            first,
+            second,
+            third,
+            stream,
+            next,
+        } => {
+            let from = next - place;
+            let searched = search_arguments(
+                f,
+                archive,
+                tables,
+                context,
+                place,
+                &source[from..],
+                next,
+                layout.count,
+            );
+            match searched {
+                Searched::Refused(number) => Seen::Refused(number),
+                Searched::End { at, found } => {
+                    let more = records::last_word(f, source, place, at, layout.behind);
+                    match more {
+                        Last::Refused(number) => Seen::Refused(number),
+                        Last::Word(last) => {
+                            let report = records::report_read(
+                                f,
+                                layout,
+                                source,
+                                first,
+                                second,
+                                third,
+                                stream,
+                                next,
+                                last,
+                            );
+                            see_referents(
+                                f,
+                                archive,
+                                tables,
+                                context,
+                                place,
+                                provider,
+                                rate,
+                                report,
+                                found,
+                            )
+                        }
+                    }
+                }
+            }
+        }
+    }
 }
 
 // What a record that refers to nothing is shown as.
@@ -357,75 +420,91 @@ fn plain_answer(content: Content) -> Answer
     }
 }
 
-// A step at a record of this effect that ends at `next` and is shown as this.
-fn decide_effect(f: Format, s: State, effect: Effect, next: usize, answer: Answer) -> Decision
-    requires { ⌜ FormatFits f × (s .count ≤ 8) × (s .current ≤ 8) × (s .place < 2 ^ 32) × EffectFits f effect ⌝ }
-    ensures { λ r. ⌜ r ≡ effectDecision f s effect next answer ⌝ }
+// A step that ends or is refused.
+fn stop(s: State, number: u8, place: usize) -> Reply
+    ensures { λ r. ⌜ r ≡ replyOf (stopping s number place) ⌝ }
 {
+    Reply {
+        answer: Answer::End { number, place },
+        state: s,
+    }
+}
+
+// A step at a record that refers to texts and threads, ends at `next` and is seen as this.
+fn show_seen(s: State, seen: Seen, next: usize) -> Reply
+    ensures { λ r. ⌜ r ≡ seenReply s seen next ⌝ }
+{
+    match seen {
+        Seen::Refused(number) => stop(s, number, s.place),
+        Seen::Report(report) => Reply {
+            answer: Answer::Report(report),
+            state: contexts::move_to(s, next),
+        },
+    }
+}
+
+// A step at a record that refers to nothing, ends at `next` and in which this was read.
+fn step_plain(f: Format, tables: &mut [u32], s: State, content: Content, next: usize) -> Reply
+    requires { ⌜ FormatFits f × (s .count ≤ 8) × (s .current ≤ 8) × (s .place < 2 ^ 32) × EffectFits f (effectOf content) ⌝ }
+    ensures { λ r. ⌜ r ≡ replyOf (effectDecision f s (effectOf content) next (plainAnswer content)) ⌝ }
+    ensures { λ _. ⌜ now (tables .exit) ≡ changed (now (tables .entry)) (effectDecision f s (effectOf content) next (plainAnswer content) .change) ⌝ }
+{
+    let effect = records::effect_of(content);
     let followed = effects::follow(s, effect, next);
     let number = followed.number;
     if number != 0 {
         return stop(s, number, s.place);
     }
+    effects::apply(tables, effects::change_of(f, s, effect));
     let state = followed.state;
-    Decision {
-        answer,
+    Reply {
+        answer: plain_answer(content),
         state,
-        change: effects::change_of(f, s, effect),
     }
 }
 
-// A step at a record that ends at `next` and in which this was read.
-fn decide_content(
-    f: Format,
-    archive: &[u8],
-    tables: &[u32],
-    s: State,
-    content: Content,
-    next: usize,
-) -> Decision
-    requires { ⌜ FormatFits f × (length (now archive) < 2 ^ 31) × (tableWords f ≤ length (now tables)) × (s .count ≤ 8) × (s .current ≤ 8) × (s .place ≤ length (now archive)) × (recordAt f (now archive) (s .place) ≡ record { content = content; next = next }) ⌝ }
-    ensures { λ r. ⌜ r ≡ contentDecision f (now (archive .entry)) (now (tables .entry)) s content next ⌝ }
+// A step at the record that is `source`, whole.
+fn step_record(f: Format, archive: &[u8], tables: &mut [u32], s: State, source: &[u8]) -> Reply
+    requires { ⌜ FormatFits f × (length (now archive) < 2 ^ 31) × (tableWords f ≤ length (now tables)) × (s .count ≤ 8) × (s .current ≤ 8) × (s .place ≤ length (now archive)) × (8 ≤ length (now source)) × (s .place + length (now source) ≤ length (now archive)) × (recordAt f (now archive) (s .place) ≡ record { content = contentOf f (now source) (s .place); next = s .place + length (now source) }) × (now source ≡ take (length (now source)) (drop (s .place) (now archive))) ⌝ }
+    ensures { λ r. ⌜ r ≡ replyOf (contentDecision f (now (archive .entry)) (now (tables .entry)) s (contentOf f (now (source .entry)) (s .place)) (s .place + length (now (source .entry)))) ⌝ }
+    ensures { λ _. ⌜ now (tables .exit) ≡ changed (now (tables .entry)) (contentDecision f (now (archive .entry)) (now (tables .entry)) s (contentOf f (now (source .entry)) (s .place)) (s .place + length (now (source .entry))) .change) ⌝ }
 {
-    match content {
-        Content::Report(report) => decide_report(f, archive, tables, s, report, next),
-        _ => decide_effect(
+    let order = f.order;
+    let place = s.place;
+    let next = place + source.len();
+    let layout = records::layout_of(words::word(order, source, 0));
+    if layout.read {
+        let seen = see_report(
             f,
-            s,
-            records::effect_of(content),
-            next,
-            plain_answer(content),
-        ),
+            archive,
+            tables,
+            s.current,
+            place,
+            contexts::provider_of(s),
+            s.rate,
+            source,
+        );
+        return show_seen(s, seen, next);
     }
+    step_plain(f, tables, s, records::content_of(f, source, place), next)
 }
 
 // A step from a state that belongs.
-fn decide_place(f: Format, archive: &[u8], tables: &[u32], s: State) -> Decision
+fn step_place(f: Format, archive: &[u8], tables: &mut [u32], s: State) -> Reply
     requires { ⌜ FormatFits f × (length (now archive) < 2 ^ 31) × (tableWords f ≤ length (now tables)) × (belongsTo s (length (now archive)) ≡ true) ⌝ }
-    ensures { λ r. ⌜ r ≡ placeDecision f (now (archive .entry)) (now (tables .entry)) s ⌝ }
+    ensures { λ r. ⌜ r ≡ replyOf (placeDecision f (now (archive .entry)) (now (tables .entry)) s) ⌝ }
+    ensures { λ _. ⌜ now (tables .exit) ≡ changed (now (tables .entry)) (placeDecision f (now (archive .entry)) (now (tables .entry)) s .change) ⌝ }
 {
     let place = s.place;
     if place == archive.len() {
         return stop(s, 0, place);
     }
-    let record = records::record_at(f, archive, place);
-    let content = record.content;
-    decide_content(f, archive, tables, s, content, record.next)
-}
-
-// What a step does.
-fn decide(f: Format, archive: &[u8], tables: &[u32], s: State) -> Decision
-    requires { ⌜ FormatFits f ⌝ }
-    ensures { λ r. ⌜ r ≡ decisionOf f (now (archive .entry)) (now (tables .entry)) s ⌝ }
-{
-    let number = opening_number(f, archive, tables.len());
-    if number != 0 {
-        return stop(s, number, 0);
+    let rest = &archive[place..];
+    let extent = format::extent_of(f, rest);
+    match extent {
+        Extent::Refused(number) => stop(s, number, place),
+        Extent::Bytes(size) => step_record(f, archive, tables, s, &rest[..size]),
     }
-    if contexts::belongs(s, archive.len()) {
-        return decide_place(f, archive, tables, s);
-    }
-    stop(s, 4, s.place)
 }
 
 // Opens an archive: the tables are cleared, and the state stands at its start.
@@ -454,15 +533,15 @@ pub fn step(archive: &[u8], state: State, tables: &mut [u32]) -> Reply
     ensures { λ r. ⌜ r ≡ stepReply smallFormat (now (archive .entry)) (now (tables .entry)) state ⌝ }
     ensures { λ _. ⌜ now (tables .exit) ≡ stepTables smallFormat (now (archive .entry)) (now (tables .entry)) state ⌝ }
 {
-    let decision = decide(format::small_format(), archive, tables, state);
-    let change = decision.change;
-    let answer = decision.answer;
-    let next = decision.state;
-    effects::apply(tables, change);
-    Reply {
-        answer,
-        state: next,
+    let f = format::small_format();
+    let number = opening_number(f, archive, tables.len());
+    if number != 0 {
+        return stop(state, number, 0);
     }
+    if contexts::belongs(state, archive.len()) {
+        return step_place(f, archive, tables, state);
+    }
+    stop(state, 4, state.place)
 }
 
 // The argument as it is shown, or number 4 where an entry does not belong.

@@ -26,9 +26,12 @@ use Rattle.records.specs.declared.Pair.the-variants.{Pair as PairRead}
 use Rattle.records.specs.declared.Layout.{Layout}
 use Rattle.records.specs.declared.Fields.{Fields}
 use Rattle.records.specs.declared.Fields.the-variants.{Refused as FieldsRefused, Fields as FieldsRead}
-use Rattle.records.specs.declared.Last.the-variants.{Word}
-use Rattle.records.specs.declared.Content.the-variants.{Report as ReportRead}
-use Rattle.records.specs.Layout.{hasExtra, extraWords, layoutOf, fieldsOf, takeFields, lastWord, reportRead, reportOf}
+use Rattle.records.specs.declared.Last.{Last}
+use Rattle.records.specs.declared.Last.the-variants.{Refused as LastRefused, Word}
+use Rattle.records.specs.declared.Report.{Report}
+use Rattle.records.specs.declared.Content.{Content}
+use Rattle.records.specs.declared.Content.the-variants.{Refused, Report as ReportRead}
+use Rattle.records.specs.Layout.{hasExtra, extraWords, layoutOf, fieldsOf, takeFields, lastWord, onFields, onWalked, onLast, reportRead, reportOf}
 use Rattle.records.specs.Models.Layouts.{ReferenceFits, LayoutFits, takePair, onPair, pairOf}
 
 -- an event has at most one word behind its arguments
@@ -212,3 +215,28 @@ pub report-is : (f : Format) (source : List ℕ) (place : ℕ) (l : Layout) {a b
     → reportOf f source place ≡ ReportRead (reportRead f l source a b c s first last)
 unfolding reportOf
 report-is f source place l e₀ e₁ e₂ e₃ = rw (e₀, e₁, e₂, e₃)
+
+-- what holds of every record that is refused and of every one that refers to texts and threads, holds of one that is read so
+pub on-report-read : (P : Content → Type 0) (f : Format) (source : List ℕ) (place : ℕ) → ((number : ℕ) → P (Refused number))
+    → ((r : Report) → P (ReportRead r)) → P (reportOf f source place)
+unfolding reportOf
+on-report-read P f source place refuse read = of-fields (takeFields f l source place)
+  where
+    l : Layout
+    l = layoutOf (wordAt (f .order) source 0)
+
+    of-last : (a b c s : Reference) (first : ℕ) (x : Last)
+        → P (onLast x Refused (λ last. ReportRead (reportRead f l source a b c s first last)))
+    of-last a b c s first (LastRefused number) = refuse number
+    of-last a b c s first (Word last) = read (reportRead f l source a b c s first last)
+
+    of-walk : (a b c s : Reference) (first : ℕ) (x : Walked)
+        → P (onWalked x Refused (λ at. onLast (lastWord f source place at (l .behind)) Refused (λ last. ReportRead (reportRead f l source a b c s first last))))
+    of-walk a b c s first (WalkRefused number) = refuse number
+    of-walk a b c s first (End at) = of-last a b c s first (lastWord f source place at (l .behind))
+
+    of-fields : (x : Fields) → P (onFields x Refused
+        (λ a b c s first. onWalked (walked (argumentsOf f (l .count) (drop (first - place) source) first)) Refused
+        (λ at. onLast (lastWord f source place at (l .behind)) Refused (λ last. ReportRead (reportRead f l source a b c s first last)))))
+    of-fields (FieldsRefused number) = refuse number
+    of-fields (FieldsRead a b c s first) = of-walk a b c s first (walked (argumentsOf f (l .count) (drop (first - place) source) first))

@@ -1,12 +1,14 @@
 -- Laws of the references of a record: one turn of a walk over arguments, and that arguments which are all read are those of the record.
 -- Assumes nothing.
-use Prim.Native.Nat.{ℕ, zero, suc, _+_, _-_, _<_}
-use mathlib.Core.Path.{_≡_, refl}
+use Prim.Native.Nat.{ℕ, zero, suc, _+_, _-_, _<_, _≤_}
+use mathlib.Core.Path.{_≡_, refl, sym, _∙_}
+use mathlib.Core.Bool.{true≢false, false}
 use mathlib.Core.List.{[], List, _∷_}
 use native.Mathlib.Omega.{arith}
 use types.Run.{OneOf, miss}
 use denote.Enum.Declared.{tagOf}
-use lib.ListN.{drop}
+use lib.ListN.{length, drop}
+use Rattle.words.specs.Word.{wordAt}
 use Rattle.format.specs.declared.Format.{Format}
 use Rattle.format.specs.declared.Reference.{Reference}
 use Rattle.arguments.specs.declared.Argument.{Argument}
@@ -20,7 +22,11 @@ use Rattle.records.specs.declared.Report.{Report}
 use Rattle.records.specs.declared.Content.{Content}
 use Rattle.records.specs.declared.Content.the-variants.{Refused, Magic, ProviderInfo, Section, ProviderEvent, Initialization, String, Thread, Report as ReportRead, Ignored, Skipped}
 use Rattle.records.specs.Lookups.{textLookup, argumentLookups, onReport}
+use Rattle.records.specs.Layout.{layoutOf}
+use Rattle.records.specs.Record.{contentOf}
 use Rattle.records.proofs.Content.{the-type}
+use Rattle.records.proofs.Contents.{ContentIs, refused as isRefused, magic as isMagic, providerInfo as isProviderInfo, section as isSection, providerEvent as isProviderEvent, initialization as isInitialization}
+use Rattle.records.proofs.Contents.{string as isString, thread as isThread, report as isReport, ignored as isIgnored, skipped as isSkipped, content-is}
 
 -- what is made of an argument's texts
 abbrev pub onTexts : {A : Type 0} → Texts → A → (Reference → Reference → ℕ → A) → A
@@ -88,3 +94,21 @@ other-arm (Thread index place) other report h = refl
 other-arm (ReportRead r) other report h = absurd (miss (0 ∷ 1 ∷ 2 ∷ 3 ∷ 4 ∷ 5 ∷ 6 ∷ 7 ∷ 9 ∷ 10 ∷ []) 8 tt h)
 other-arm Ignored other report h = refl
 other-arm (Skipped type size) other report h = refl
+
+-- a record that is not laid out so refers to nothing
+pub plain-content : {A : Type 0} (f : Format) (source : List ℕ) (place : ℕ) (other : A) (report : Report → A) → 8 ≤ length source
+    → layoutOf (wordAt (f .order) source 0) .read ≡ false → onReport (contentOf f source place) other report ≡ other
+plain-content f source place other report h k = go (contentOf f source place) (content-is f source place h)
+  where
+    go : (c : Content) → ContentIs f source place c → onReport c other report ≡ other
+    go _ (isRefused number n) = refl
+    go _ (isMagic e) = refl
+    go _ (isProviderInfo t k short room) = refl
+    go _ (isSection t k) = refl
+    go _ (isProviderEvent t k) = refl
+    go _ (isInitialization t room) = refl
+    go _ (isString t some low short room) = refl
+    go _ (isThread t some room) = refl
+    go _ (isReport a b c s first at last list is) = absurd (true≢false (sym (is .is-report) ∙ k))
+    go _ isIgnored = refl
+    go _ (isSkipped type small) = refl

@@ -5,7 +5,7 @@ ghost use lib.ListN.{length};
 ghost use Rattle.words.specs.Word.{wordAt};
 ghost use Rattle.format.specs.Models.Bounds.{PartFits};
 ghost use Rattle.words.specs.Stream.{streamWords};
-ghost use Rattle.records.specs.Layout.{hasExtra, extraWords, isEvent, layoutOf, ownOf, takeFields, lastWord, lookupOf, reportOf};
+ghost use Rattle.records.specs.Layout.{hasExtra, extraWords, isEvent, layoutOf, ownOf, takeFields, lastWord, lookupOf, reportRead, reportOf};
 ghost use Rattle.records.specs.Models.Layouts.{LayoutFits, takePair};
 ghost use Rattle.records.specs.Record.{providerInfoOf, metadataOf, initializationOf, stringOf, threadOf, contentOf, recordAt};
 ghost use Rattle.records.specs.Effect.{effectOf};
@@ -267,7 +267,7 @@ fn take_tail(f: Format, part: Part, long: usize, place: usize, source: &[u8], st
 }
 
 // The references and the stream of the record that is `source`, whole, at a place of the archive.
-fn take_fields(f: Format, layout: Layout, source: &[u8], place: usize) -> Fields
+pub fn take_fields(f: Format, layout: Layout, source: &[u8], place: usize) -> Fields
     requires { ⌜ LayoutFits layout × (8 ≤ length (now source)) × (place + length (now source) < 2 ^ 63) ⌝ }
     ensures { λ r. ⌜ r ≡ takeFields f layout (now (source .entry)) place ⌝ }
 {
@@ -311,7 +311,7 @@ fn take_fields(f: Format, layout: Layout, source: &[u8], place: usize) -> Fields
 }
 
 // The last word of a record whose arguments end at `at`, where it has any behind them.
-fn last_word(f: Format, source: &[u8], place: usize, at: usize, behind: usize) -> Last
+pub fn last_word(f: Format, source: &[u8], place: usize, at: usize, behind: usize) -> Last
     requires { ⌜ (place ≤ at) × (at ≤ place + length (now source)) × (place + length (now source) < 2 ^ 63) × (behind ≤ 1) ⌝ }
     ensures { λ r. ⌜ r ≡ lastWord f (now (source .entry)) place at behind ⌝ }
 {
@@ -333,6 +333,36 @@ fn lookup_of(part: Part, reference: Reference) -> Lookup
     Lookup {
         table: format::table_of(part),
         reference,
+    }
+}
+
+// A record that refers to texts and threads and is laid out so, with its references and stream, where its arguments start, and its last word.
+pub fn report_read(
+    f: Format,
+    layout: Layout,
+    source: &[u8],
+    first: Reference,
+    second: Reference,
+    third: Reference,
+    stream: Reference,
+    arguments: usize,
+    last: u64,
+) -> Report
+    requires { ⌜ 8 + 8 * (layoutOf (wordAt (f .order) (now source) 0) .words) ≤ length (now source) ⌝ }
+    ensures { λ r. ⌜ r ≡ reportRead f layout (now (source .entry)) first second third stream arguments last ⌝ }
+{
+    let one = layout.first;
+    let two = layout.second;
+    let three = layout.third;
+    Report {
+        own: own_of(f, source),
+        first: lookup_of(one, first),
+        second: lookup_of(two, second),
+        third: lookup_of(three, third),
+        stream,
+        count: layout.count,
+        arguments,
+        last,
     }
 }
 
@@ -363,19 +393,17 @@ fn report_of(f: Format, source: &[u8], place: usize) -> Content
                     match more {
                         Last::Refused(number) => Content::Refused(number),
                         Last::Word(last) => {
-                            let one = layout.first;
-                            let two = layout.second;
-                            let three = layout.third;
-                            Content::Report(Report {
-                                own: own_of(f, source),
-                                first: lookup_of(one, first),
-                                second: lookup_of(two, second),
-                                third: lookup_of(three, third),
+                            Content::Report(report_read(
+                                f,
+                                layout,
+                                source,
+                                first,
+                                second,
+                                third,
                                 stream,
-                                count,
-                                arguments: next,
+                                next,
                                 last,
-                            })
+                            ))
                         }
                     }
                 }

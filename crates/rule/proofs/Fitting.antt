@@ -47,14 +47,13 @@ use Rattle.reader.specs.declared.Asked.the-variants.{Refused, Argument as Argum
 use Rattle.reader.specs.declared.Answer.{Answer}
 use Rattle.reader.specs.declared.Answer.the-variants.{ProviderInfo as ProviderInfoShown, Section as SectionShown, Report as ReportShown}
 use Rattle.effects.specs.declared.Change.the-variants.{Keep}
-use Rattle.reader.specs.declared.Decision.{Decision}
+use Rattle.reader.specs.Step.{Decision}
 use Rattle.reader.specs.Shown.{shownText, shownThread, shownValue, shownReport, shownReferent, shownStream, noneBad}
 use Rattle.reader.specs.Step.{openingNumber, stopping, contentDecision, decisionOf, effectDecision, plainAnswer}
 use Rattle.reader.specs.Ask.{shownArgument, argumentReply}
 use Rattle.reader.specs.Reads.{textItem, threadItem, providerItem, valueItem, argumentItem, prepend, argumentItems, reportItem, itemOf, referentItem, streamItem}
 use Rattle.reader.proofs.ByItems.{contextsOf}
-use Rattle.reader.proofs.Lookups.{record-whole, ReportFits, report-fits}
-use Rattle.reader.proofs.NeverFour.{part-behind}
+use Rattle.reader.proofs.Lookups.{record-whole, ReportFits, report-fits, part-behind}
 use Rattle.reader.proofs.Runs.{Sound, step-sound}
 use Rattle.records.specs.Lookups.{argumentLookups}
 use Rattle.records.specs.Effect.{effectOf}

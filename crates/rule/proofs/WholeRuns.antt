@@ -20,7 +20,7 @@ use Rattle.contexts.specs.Context.{opening, belongsTo}
 use Rattle.tables.specs.Table.{tableWords}
 use Rattle.reader.specs.declared.Answer.{Answer}
 use Rattle.reader.specs.declared.Answer.the-variants.{End, Nothing, Magic, ProviderInfo, Section, ProviderEvent, Initialization, Report, Skipped}
-use Rattle.reader.specs.declared.Decision.{Decision}
+use Rattle.reader.specs.Step.{Decision}
 use Rattle.reader.specs.Step.{openingNumber, stopping, contentDecision, placeDecision, decisionOf, stepReply, stepTables, plainAnswer}
 use Rattle.reader.specs.Reads.{itemOf, Reads, ends, passes, shows, ReadsAs}
 use Rattle.reader.proofs.Lookups.{ContentFits, record-whole}

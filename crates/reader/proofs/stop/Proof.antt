@@ -1,4 +1,4 @@
--- `reader::stop` meets its contract: each answer is what the definition gives under the tests that led there. Assumes nothing.
+-- `reader::stop` meets its contract, which is its text. Assumes nothing.
 use mathlib.Core.Path.{refl}
 use Rattle.reader.specs.Step.{stopping}
 use Rattle.reader.proofs.stop.Statement.{statement}

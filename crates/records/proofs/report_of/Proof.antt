@@ -84,8 +84,8 @@ last-word-requires c κs =
       b,
     )
 
-own-of-requires : tie.Need-own-of-requires
-own-of-requires c κs =
+report-read-requires : tie.Need-report-read-requires
+report-read-requires c κs =
     let fields2 = c .before .before .before .before .before .before .before .before .before .before .fields2 in
     let take-fields = c .before .before .before .before .before .before .before .before .before .before .before .before .take-fields in
     let layout-of′ = c .before .before .before .before .before .before .before .before .before .before .before .before .before .layout-of in
@@ -125,16 +125,16 @@ returns-3 c =
 
 returns-4 : tie.Need-returns-4
 returns-4 c =
-    let more2 = c .before .before .before .before .before .more2 in
-    let last-word = c .before .before .before .before .before .before .before .last-word in
-    let walk3 = c .before .before .before .before .before .before .before .before .before .walk3 in
-    let walk = c .before .before .before .before .before .before .before .before .before .before .before .walk in
-    let fields2 = c .before .before .before .before .before .before .before .before .before .before .before .before .before .before .fields2 in
-    let take-fields = c .before .before .before .before .before .before .before .before .before .before .before .before .before .before .before .before .take-fields in
-    let layout-of′ = c .before .before .before .before .before .before .before .before .before .before .before .before .before .before .before .before .before .layout-of in
-    let word = c .before .before .before .before .before .before .before .before .before .before .before .before .before .before .before .before .before .before .word in
-    let given′ = c .before .before .before .before .before .before .before .before .before .before .before .before .before .before .before .before .before .before .before .before .args in
-    rw (c .before .before .before .own-of .ensures, c .before .before .lookup-of .ensures, c .before .lookup-of2 .ensures, c .lookup-of3 .ensures)
+    let more2 = c .before .before .more2 in
+    let last-word = c .before .before .before .before .last-word in
+    let walk3 = c .before .before .before .before .before .before .walk3 in
+    let walk = c .before .before .before .before .before .before .before .before .walk in
+    let fields2 = c .before .before .before .before .before .before .before .before .before .before .before .fields2 in
+    let take-fields = c .before .before .before .before .before .before .before .before .before .before .before .before .before .take-fields in
+    let layout-of′ = c .before .before .before .before .before .before .before .before .before .before .before .before .before .before .layout-of in
+    let word = c .before .before .before .before .before .before .before .before .before .before .before .before .before .before .before .word in
+    let given′ = c .before .before .before .before .before .before .before .before .before .before .before .before .before .before .before .before .before .args in
+    rw (c .report-read .ensures)
     (sym (report-is (given′ .f) (given′ .source .now) (given′ .place) (layout-of′ .result) (sym (layout-of′ .ensures ∙ ap layoutOf (word .ensures)))
     (sym (take-fields .ensures) ∙ fields2 .given .1) (simp part-from at (sym (walk .ensures) ∙ walk3 .given .1)) (sym (last-word .ensures)
     ∙ more2 .given .1)))
@@ -143,4 +143,4 @@ pub report-of-spec : {M : Type 1} → statement M
 report-of-spec =
     tie.close (tie.spec (λ c κs. search needs) (λ c κs. search needs) take-fields-requires (λ c. search needs) (λ c. search needs) sub-from sub-walk
     part-walk-start (λ c. search needs) walk-requires (λ c. search needs) (λ c. search needs) last-word-requires (λ c. search needs)
-    (λ c. search needs) own-of-requires (λ c κs. search needs) (λ c κs. search needs) (λ c κs. search needs) returns returns-2 returns-3 returns-4)
+    (λ c. search needs) report-read-requires returns returns-2 returns-3 returns-4)
