@@ -1,13 +1,14 @@
 -- Laws of arguments: the name and then the value, where they stand, and what they cost. Assumes nothing.
 use Prim.Native.Nat.{ℕ, zero, suc, _+_, _-_, _%_, _≤_, _<_}
-use mathlib.Core.Path.{_≡_, refl, subst, ap, _∙_}
+use mathlib.Core.Path.{_≡_, refl, sym, subst, ap, _∙_}
 use mathlib.Core.List.{[], List, _∷_}
 use mathlib.Core.Bool.{false, _&&_}
+use mathlib.Core.Logic.{_⊎_, inl, inr}
 use native.Mathlib.Omega.{arith}
-use borrow.Author.Tests.{ltb-false, eqb-false}
+use borrow.Author.Tests.{ltb-true, ltb-false, eqb-false, lt-ltb, le-ltb}
 use lib.Dec.{eqb, ltb}
 use lib.ListN.{length, take, drop, length-drop}
-use lib.Seq.{length-take-le}
+use lib.Seq.{length-take-le, drop-drop}
 use Rattle.words.specs.Word.{pick, wordAt, field}
 use Rattle.words.proofs.Tests.{cases, on-pick}
 use Rattle.format.specs.declared.Format.{Format}
@@ -30,9 +31,11 @@ use Rattle.arguments.specs.declared.ValueTaken.{ValueTaken}
 use Rattle.arguments.specs.declared.ValueTaken.the-variants.{Refused as ValueTextRefused, Text as ValueText}
 use Rattle.arguments.specs.declared.Texts.{Texts}
 use Rattle.arguments.specs.declared.Texts.the-variants.{Refused as TextsRefused, Texts as TextsRead}
-use Rattle.arguments.specs.declared.Walked.the-variants.{Refused as WalkRefused}
+use Rattle.arguments.specs.declared.Walked.{Walked}
+use Rattle.arguments.specs.declared.Walked.the-variants.{Refused as WalkRefused, End as WalkEnd}
+use Rattle.arguments.specs.declared.Sought.the-variants.{Refused as SoughtRefused, End as SoughtEnd}
 use Rattle.arguments.specs.Argument.{argumentType, argumentSize, scalarWords, headerScalar, holdsWord, wordScalar, valueParts, valueOf, argumentBody, argumentOf, Arguments, refused, arguments, prepend, onArgued, textIn, argumentsOf, walked, numberedOf}
-use Rattle.arguments.specs.Models.Reading.{takeValue, textsOf, valueText}
+use Rattle.arguments.specs.Models.Reading.{takeValue, textsOf, valueText, startOf, soughtAt, soughtOf}
 use Rattle.arguments.specs.Loss.{valueBytes, argumentBytes, argumentKeeps, argumentsKeep}
 use Rattle.arguments.specs.Models.Bounds.{ValueInside, Fits}
 
@@ -313,9 +316,78 @@ unfolding argumentsKeep
 keep-turn f zero rest place extra h = absurd (omega arith)
 keep-turn f (suc n) rest place extra h = let e : suc n - 1 ≡ n = omega arith in rw e
 
--- and of the walk to the argument of a number
-pub number-turn : (f : Format) (n : ℕ) (rest : List ℕ) (place : ℕ) → 0 < n
-    → numberedOf f n rest place ≡ onArgued (argumentOf f rest place) Refused (λ a size. numberedOf f (n - 1) (drop size rest) (place + size))
-unfolding numberedOf
-number-turn f zero rest place h = absurd (omega arith)
-number-turn f (suc n) rest place h = let e : suc n - 1 ≡ n = omega arith in rw e
+-- ---- the walk that remembers where the argument of a number starts
+
+-- where that is: known when `asked` arguments were left, and to be found in what is left before
+abbrev pub startFrom : Format → (n asked start : ℕ) → List ℕ → ℕ → ℕ
+startFrom f n asked start rest place = pick (ltb n asked) start (startOf f (n - asked) rest place)
+
+-- one turn of the walk: the place is taken where so many arguments are left, and kept where not
+pub start-turn : {A B : Type 0} (f : Format) (n asked start start′ : ℕ) (rest : List ℕ) (place : ℕ) (a : Argument) (size : ℕ) → 0 < n → 0 < asked
+    → argumentOf f rest place ≡ Read a size → (A → n ≡ asked) → (B → n ≡ asked → ⊥) → (A × (start′ ≡ place)) ⊎ (B × (start′ ≡ start))
+    → startFrom f n asked start rest place ≡ startFrom f (n - 1) asked start′ (drop size rest) (place + size)
+unfolding startOf
+start-turn f n asked start start′ rest place a size h k e taken left (inl p) =
+    let here = taken (p .0) in
+    let none : n - asked ≡ 0 = omega arith in
+    rw (le-ltb n asked (omega arith), lt-ltb (n - 1) asked (omega arith), none) (sym (p .1))
+start-turn f n asked start start′ rest place a size h k e taken left (inr p) =
+    cases (ltb n asked)
+    (λ b. let l = ltb-true n asked b in rw (b, lt-ltb (n - 1) asked (omega arith)) (sym (p .1)))
+    (λ b.
+    let l = ltb-false n asked b in
+    let more : n - asked ≡ suc (n - 1 - asked) = omega (arith, left (p .0)) in
+    rw (b, le-ltb (n - 1) asked (omega (arith, left (p .0))), more, e))
+
+-- an argument of a number starts at the first of them or behind, and inside what is left of their event
+pub start-inside : (f : Format) (number : ℕ) (rest : List ℕ) (place : ℕ)
+    → (place ≤ startOf f number rest place) × (startOf f number rest place ≤ place + length rest)
+unfolding startOf
+start-inside f zero rest place = (omega arith, omega arith)
+start-inside f (suc number) rest place =
+    go (λ more at. start-inside f number more at) (argumentOf f rest place) (argument-fits f rest place)
+  where
+    go : ((more : List ℕ) (at : ℕ) → (at ≤ startOf f number more at) × (startOf f number more at ≤ at + length more))
+        → (r : Argued) → ArgumentFits rest place r
+        → let start = onArgued r (λ refused. place) (λ a size. startOf f number (drop size rest) (place + size)) in
+        (place ≤ start) × (start ≤ place + length rest)
+    go inside (Refused by) s = (omega arith, omega arith)
+    go inside (Read a size) s =
+        let i = inside (drop size rest) (place + size) in
+        (omega (arith, i .0), omega (arith, i .1, s .inside, length-drop size rest))
+
+-- the argument of a number is the one that starts there
+pub numbered-start : (f : Format) (number : ℕ) (rest : List ℕ) (place : ℕ)
+    → numberedOf f number rest place ≡ argumentOf f (drop (startOf f number rest place - place) rest) (startOf f number rest place)
+unfolding numberedOf startOf
+numbered-start f zero rest place = let none : place - place ≡ 0 = omega arith in rw none
+numbered-start f (suc number) rest place = go (λ more at. numbered-start f number more at) (argumentOf f rest place) refl
+  where
+    go : ((more : List ℕ) (at : ℕ) → numberedOf f number more at ≡ argumentOf f (drop (startOf f number more at - at) more) (startOf f number more at))
+        → (r : Argued) → argumentOf f rest place ≡ r
+        → let start = onArgued r (λ refused. place) (λ a size. startOf f number (drop size rest) (place + size)) in
+        onArgued r Refused (λ a size. numberedOf f number (drop size rest) (place + size)) ≡ argumentOf f (drop (start - place) rest) start
+    go same (Refused by) q = let none : place - place ≡ 0 = omega arith in rw none (sym q)
+    go same (Read a size) q =
+        let start = startOf f number (drop size rest) (place + size) in
+        let there : size + (start - (place + size)) ≡ start - place = omega (arith, start-inside f number (drop size rest) (place + size) .0) in
+        same (drop size rest) (place + size) ∙ rw (drop-drop (start - (place + size)) size rest, there)
+
+-- what such a walk comes to
+pub sought-refused : (f : Format) (count number : ℕ) (rest : List ℕ) (place by : ℕ) → soughtOf f count number rest place ≡ SoughtRefused by
+    → walked (argumentsOf f count rest place) ≡ WalkRefused by
+unfolding soughtOf
+sought-refused f count number rest place by = go (walked (argumentsOf f count rest place))
+  where
+    go : (w : Walked) → soughtAt w (startOf f number rest place) ≡ SoughtRefused by → w ≡ WalkRefused by
+    go (WalkRefused n) e = let z : n ≡ by = cc in rw z
+    go (WalkEnd at) e = let z : _≡_ {A = ℕ} 0 1 = cc in absurd (omega arith)
+
+pub sought-ended : (f : Format) (count number : ℕ) (rest : List ℕ) (place at start : ℕ) → soughtOf f count number rest place ≡ SoughtEnd at start
+    → (walked (argumentsOf f count rest place) ≡ WalkEnd at) × (startOf f number rest place ≡ start)
+unfolding soughtOf
+sought-ended f count number rest place at start = go (walked (argumentsOf f count rest place))
+  where
+    go : (w : Walked) → soughtAt w (startOf f number rest place) ≡ SoughtEnd at start → (w ≡ WalkEnd at) × (startOf f number rest place ≡ start)
+    go (WalkRefused n) e = let z : _≡_ {A = ℕ} 0 1 = cc in absurd (omega arith)
+    go (WalkEnd at′) e = let z : at′ ≡ at = cc in (rw z, cc)

@@ -2,8 +2,8 @@
 ghost use mathlib.Core.Path.{_≡_};
 ghost use Prim.Native.Nat.{_+_, _-_, _*_, _^_, _<_, _≤_};
 ghost use lib.ListN.{length};
-ghost use Rattle.arguments.specs.Argument.{scalarWords, headerScalar, wordScalar, holdsWord, argumentOf, argumentsOf, walked, numberedOf};
-ghost use Rattle.arguments.specs.Models.Reading.{takeValue, valueText, textsOf};
+ghost use Rattle.arguments.specs.Argument.{scalarWords, headerScalar, wordScalar, holdsWord, argumentOf, argumentsOf, walked};
+ghost use Rattle.arguments.specs.Models.Reading.{takeValue, valueText, textsOf, soughtOf};
 ghost use Rattle.arguments.specs.Loss.{valueBytes, reservedBits, valuePaddingZero, argumentKeeps, argumentsKeep};
 ghost use Rattle.arguments.specs.Models.Bounds.{ValueInside, Fits};
 use format::Format;
@@ -66,6 +66,12 @@ pub enum Texts {
 pub enum Walked {
     Refused(u8),
     End(usize),
+}
+
+// Where an event's arguments end, and where one of them starts.
+pub enum Sought {
+    Refused(u8),
+    End { at: usize, start: usize },
 }
 
 // The value that an argument's header holds itself, or that the type is unknown.
@@ -277,32 +283,37 @@ pub fn walk(f: Format, part: &[u8], place: usize, count: usize) -> Walked
     Walked::End(at)
 }
 
-// The argument of this number, from 0.
-pub fn numbered(f: Format, part: &[u8], place: usize, number: usize) -> Argued
-    requires { ⌜ place + length (now part) < 2 ^ 63 ⌝ }
-    ensures { λ r. ⌜ r ≡ numberedOf f number (now (part .entry)) place ⌝ }
+// Where so many arguments end, and where the one of this number, from 0, starts. Each is taken from the part that starts at it.
+pub fn seek(f: Format, part: &[u8], place: usize, count: usize, number: usize) -> Sought
+    requires { ⌜ (place + length (now part) < 2 ^ 63) × (number < count) ⌝ }
+    ensures { λ r. ⌜ r ≡ soughtOf f count number (now (part .entry)) place ⌝ }
 {
     let mut rest = part;
     let mut at = place;
-    let mut left = number;
+    let mut start = place;
+    let mut left = count;
+    let asked = count - number;
     while 0 < left {
         let texts = texts_of(f, rest, at);
         match texts {
             Texts::Refused(number) => {
-                return Argued::Refused(number);
+                return Sought::Refused(number);
             }
             Texts::Texts {
                 name: _,
                 value: _,
                 size,
             } => {
+                if left == asked {
+                    start = at;
+                }
                 rest = &rest[size..];
                 at += size;
                 left -= 1;
             }
         }
     }
-    argument_of(f, rest, at)
+    Sought::End { at, start }
 }
 
 // The words that a value takes behind its argument's name.

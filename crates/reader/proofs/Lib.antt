@@ -1,5 +1,6 @@
 pub mod Lookups
 pub mod Steps
+pub mod Asks
 pub mod Changes
 pub mod Runs
 pub mod OneList

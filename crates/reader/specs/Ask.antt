@@ -18,15 +18,18 @@ use Rattle.reader.specs.declared.Asked.the-variants.{Refused, Argument a
 use Rattle.reader.specs.Shown.{shownText, shownValue, noneBad}
 use Rattle.reader.specs.Step.{openingNumber}
 
--- "the entries looked up are that argument's"
-unfoldable pub shownArgument : Format → List ℕ → List ℕ → State → Argument → Asked
-shownArgument f archive tables s a =
-    pick (noneBad f archive tables (s .current) (s .place) (argumentLookups (a ∷ [])))
+-- an argument as it is shown in a context at a place: "the entries looked up are that argument's"
+abbrev pub shownFor : Format → List ℕ → List ℕ → (context place : ℕ) → Argument → Asked
+shownFor f archive tables context place a =
+    pick (noneBad f archive tables context place (argumentLookups (a ∷ [])))
     (ArgumentShown (record {
-      name = shownText (resolved f archive tables (s .current) 2 (s .place) (a .name));
-      value = shownValue f archive tables (s .current) (s .place) (a .value);
+      name = shownText (resolved f archive tables context 2 place (a .name));
+      value = shownValue f archive tables context place (a .value);
     }))
-    (Refused 4 (s .place))
+    (Refused 4 place)
+
+unfoldable pub shownArgument : Format → List ℕ → List ℕ → State → Argument → Asked
+shownArgument f archive tables s a = shownFor f archive tables (s .current) (s .place) a
 
 -- the argument of a number of a record that ends at the state's place; number 4 where there is "no such argument"
 unfoldable pub askedReport : Format → List ℕ → List ℕ → State → Report → ℕ → Asked

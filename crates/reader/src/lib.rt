@@ -3,13 +3,14 @@ ghost use mathlib.Core.Path.{_≡_};
 ghost use Prim.Native.Nat.{_+_, _-_, _^_, _<_, _≤_};
 ghost use mathlib.Core.Bool.{true};
 ghost use lib.ListN.{length, take, drop};
+ghost use Rattle.words.specs.Word.{wordAt};
 ghost use Rattle.words.specs.Stream.{partOf};
 ghost use Rattle.format.specs.Limits.{smallFormat};
 ghost use Rattle.tables.specs.Table.{tableWords};
 ghost use Rattle.tables.specs.Models.Entries.{FormatFits};
 ghost use Rattle.contexts.specs.Context.{belongsTo};
 ghost use Rattle.arguments.specs.Argument.{argumentsOf};
-ghost use Rattle.records.specs.Layout.{reportOf};
+ghost use Rattle.records.specs.Layout.{layoutOf, reportOf};
 ghost use Rattle.records.specs.Record.{contentOf, recordAt};
 ghost use Rattle.records.specs.Effect.{effectOf};
 ghost use Rattle.effects.specs.Models.Bounds.{EffectFits};
@@ -17,11 +18,13 @@ ghost use Rattle.effects.specs.Follow.{changed};
 ghost use Rattle.reader.specs.Shown.{isBad, shownText, shownThread, shownReferent, shownStream, shownAt};
 ghost use Rattle.reader.specs.Models.Bounds.{ThreadInside, ReferentInside};
 ghost use Rattle.reader.specs.Models.Seen.{searchedOf, seenFound, seenOf, seenReply};
+ghost use Rattle.reader.specs.Models.Asked.{argumentIn, askedIn};
 ghost use Rattle.reader.specs.Step.{openingNumber, stopping, plainAnswer, effectDecision, contentDecision, placeDecision, replyOf, openReply, openTables, stepReply, stepTables};
-ghost use Rattle.reader.specs.Ask.{shownArgument, askedReport, askedPlace, argumentReply};
+ghost use Rattle.reader.specs.Ask.{shownFor, askedPlace, argumentReply};
 use arguments::Argued;
 use arguments::Argument;
 use arguments::Scalar;
+use arguments::Sought;
 use arguments::Texts;
 use arguments::Value;
 use contexts::Provider;
@@ -33,6 +36,7 @@ use records::Content;
 use records::Event;
 use records::Fields;
 use records::Last;
+use records::Layout;
 use records::Report;
 use tables::Resolved;
 
@@ -545,12 +549,17 @@ pub fn step(archive: &[u8], state: State, tables: &mut [u32]) -> Reply
 }
 
 // The argument as it is shown, or number 4 where an entry does not belong.
-fn show_argument(f: Format, archive: &[u8], tables: &[u32], s: State, argument: Argument) -> Asked
-    requires { ⌜ FormatFits f × (length (now archive) < 2 ^ 62) × (tableWords f ≤ length (now tables)) × (s .current ≤ 8) ⌝ }
-    ensures { λ r. ⌜ r ≡ shownArgument f (now (archive .entry)) (now (tables .entry)) s argument ⌝ }
+fn show_argument(
+    f: Format,
+    archive: &[u8],
+    tables: &[u32],
+    context: usize,
+    place: usize,
+    argument: Argument,
+) -> Asked
+    requires { ⌜ FormatFits f × (length (now archive) < 2 ^ 62) × (tableWords f ≤ length (now tables)) × (context ≤ 8) ⌝ }
+    ensures { λ r. ⌜ r ≡ shownFor f (now (archive .entry)) (now (tables .entry)) context place argument ⌝ }
 {
-    let place = s.place;
-    let context = s.current;
     let name = argument.name;
     let value = argument.value;
     let named = tables::resolve(f, archive, tables, context, 2, name, place);
@@ -575,27 +584,77 @@ fn show_argument(f: Format, archive: &[u8], tables: &[u32], s: State, argument: 
     }
 }
 
-// The argument of this number of a record that ends at the state's place.
+// The argument of this number of the record that is `source`, whole, at a place, and laid out so. Its arguments are walked
+// over once.
+fn take_argument(f: Format, layout: Layout, source: &[u8], at: usize, number: usize) -> Argued
+    requires { ⌜ (layout ≡ layoutOf (wordAt (f .order) (now source) 0)) × (number < layout .count) × (8 ≤ length (now source)) × (at + length (now source) < 2 ^ 62) ⌝ }
+    ensures { λ r. ⌜ r ≡ argumentIn f (now (source .entry)) at (reportOf f (now (source .entry)) at) number ⌝ }
+{
+    let fields = records::take_fields(f, layout, source, at);
+    match fields {
+        Fields::Refused(_) => Argued::Refused(4),
+        Fields::Fields {
+            first: _,
+            second: _,
+            third: _,
+            stream: _,
+            next,
+        } => {
+            let from = next - at;
+            let sought = arguments::seek(f, &source[from..], next, layout.count, number);
+            match sought {
+                Sought::Refused(_) => Argued::Refused(4),
+                Sought::End { at: end, start } => {
+                    let more = records::last_word(f, source, at, end, layout.behind);
+                    match more {
+                        Last::Refused(_) => Argued::Refused(4),
+                        Last::Word(_) => {
+                            let before = start - at;
+                            arguments::argument_of(f, &source[before..], start)
+                        }
+                    }
+                }
+            }
+        }
+    }
+}
+
+// The argument of this number of the record that is `source`, whole, at a place, or number 4 where there is none.
+fn find_argument(f: Format, source: &[u8], at: usize, number: usize) -> Argued
+    requires { ⌜ (8 ≤ length (now source)) × (at + length (now source) < 2 ^ 62) ⌝ }
+    ensures { λ r. ⌜ r ≡ argumentIn f (now (source .entry)) at (contentOf f (now (source .entry)) at) number ⌝ }
+{
+    let order = f.order;
+    let layout = records::layout_of(words::word(order, source, 0));
+    if layout.read {
+        if layout.count <= number {
+            return Argued::Refused(4);
+        }
+        return take_argument(f, layout, source, at, number);
+    }
+    Argued::Refused(4)
+}
+
+// The argument of this number of the record that is `source`, whole, at `at`, as it is shown in a context at a place.
 fn ask_report(
     f: Format,
     archive: &[u8],
     tables: &[u32],
-    s: State,
-    report: Report,
+    context: usize,
+    place: usize,
+    source: &[u8],
+    at: usize,
     number: usize,
 ) -> Asked
-    requires { ⌜ FormatFits f × (length (now archive) < 2 ^ 62) × (tableWords f ≤ length (now tables)) × (s .current ≤ 8) × (s .place ≤ length (now archive)) × (report .arguments ≤ s .place) ⌝ }
-    ensures { λ r. ⌜ r ≡ askedReport f (now (archive .entry)) (now (tables .entry)) s report number ⌝ }
+    requires { ⌜ FormatFits f × (length (now archive) < 2 ^ 62) × (tableWords f ≤ length (now tables)) × (context ≤ 8) × (8 ≤ length (now source)) × (at + length (now source) < 2 ^ 62) ⌝ }
+    ensures { λ r. ⌜ r ≡ askedIn f (now (archive .entry)) (now (tables .entry)) context place (argumentIn f (now (source .entry)) at (contentOf f (now (source .entry)) at) number) ⌝ }
 {
-    let place = s.place;
-    let first = report.arguments;
-    if report.count <= number {
-        return Asked::Refused { number: 4, place };
-    }
-    let argued = arguments::numbered(f, &archive[first..place], first, number);
-    match argued {
+    let found = find_argument(f, source, at, number);
+    match found {
         Argued::Refused(_) => Asked::Refused { number: 4, place },
-        Argued::Argument { argument, size: _ } => show_argument(f, archive, tables, s, argument),
+        Argued::Argument { argument, size: _ } => {
+            show_argument(f, archive, tables, context, place, argument)
+        }
     }
 }
 
@@ -608,14 +667,28 @@ fn ask_place(f: Format, archive: &[u8], tables: &[u32], s: State, at: usize, num
     if at % 8 != 0 {
         return Asked::Refused { number: 4, place };
     }
-    let record = records::record_at(f, archive, at);
-    let content = record.content;
-    if record.next != place {
+    if archive.len() < at {
         return Asked::Refused { number: 4, place };
     }
-    match content {
-        Content::Report(report) => ask_report(f, archive, tables, s, report, number),
-        _ => Asked::Refused { number: 4, place },
+    let rest = &archive[at..];
+    let extent = format::extent_of(f, rest);
+    match extent {
+        Extent::Refused(_) => Asked::Refused { number: 4, place },
+        Extent::Bytes(size) => {
+            if at + size != place {
+                return Asked::Refused { number: 4, place };
+            }
+            ask_report(
+                f,
+                archive,
+                tables,
+                s.current,
+                place,
+                &rest[..size],
+                at,
+                number,
+            )
+        }
     }
 }
 

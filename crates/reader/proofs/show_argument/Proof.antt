@@ -1,17 +1,16 @@
 -- `reader::show_argument` meets its contract: each answer is what the definition gives under the tests that led there. Assumes nothing.
 use Rattle.tables.specs.Table.{resolved}
-use Rattle.reader.specs.Ask.{shownArgument}
 use Rattle.reader.specs.Shown.{noneBad, isBad, shownValue}
 use borrow.Author.Needs.{needs}
 use Rattle.reader.proofs.show_argument.Statement.{statement}
 use Rattle.reader.proofs.show_argument.Tie as tie
 
 returns : tie.Need-returns
-unfolding shownArgument noneBad shownValue isBad resolved
+unfolding noneBad shownValue isBad resolved
 returns c = simp (c .if1 .taken, ← c .before .is-bad .ensures, ← c .before .before .resolve .ensures)
 
 returns-2 : tie.Need-returns-2
-unfolding shownArgument noneBad shownValue isBad resolved
+unfolding noneBad shownValue isBad resolved
 returns-2 c =
     let value2 = c .before .before .before .before .value2 in
     let if1′ = c .before .before .before .before .before .before .if1 in
@@ -20,15 +19,15 @@ returns-2 c =
     simp (c .if2 .taken, ← c .before .is-bad2 .ensures, ← c .before .before .resolve2 .ensures, value2 .given .1, if1′ .left, ← is-bad .ensures, ← resolve .ensures)
 
 returns-3 : tie.Need-returns-3
-unfolding shownArgument noneBad shownValue isBad resolved
+unfolding noneBad shownValue isBad resolved
 returns-3 c =
-    let if1′′ = c .before .before .before .before .if1 in
-    let is-bad′ = c .before .before .before .before .before .is-bad in
-    let resolve′ = c .before .before .before .before .before .before .resolve in
-    simp (← c .shown-text .ensures, c .before .before .value .given .1, if1′′ .left, ← is-bad′ .ensures, ← resolve′ .ensures)
+    let if1′ = c .before .before .before .before .if1 in
+    let is-bad = c .before .before .before .before .before .is-bad in
+    let resolve = c .before .before .before .before .before .before .resolve in
+    simp (← c .shown-text .ensures, c .before .before .value .given .1, if1′ .left, ← is-bad .ensures, ← resolve .ensures)
 
 returns-4 : tie.Need-returns-4
-unfolding shownArgument noneBad shownValue isBad resolved
+unfolding noneBad shownValue isBad resolved
 returns-4 c =
     let resolve2 = c .before .before .before .before .resolve2 in
     let value2 = c .before .before .before .before .before .before .value2 in
