@@ -1,7 +1,7 @@
 // Reading and repacking for programs in other languages: each call puts what it answers as numbers at the start of lent words, and
 // replies how many. Nothing is asked of a caller.
 ghost use mathlib.Core.Path.{_≡_};
-ghost use mathlib.Core.List.{[], _∷_, _++_};
+ghost use mathlib.Core.List.{[], _∷_};
 ghost use Prim.Native.Nat.{_+_, _%_, _^_, _≤_};
 ghost use lib.ListN.{length, getD};
 ghost use Rattle.format.specs.Limits.{smallFormat};
@@ -19,6 +19,7 @@ use contexts::State;
 use packer::Packed;
 use reader::Answer;
 use reader::Asked;
+use reader::Reply;
 use reader::ShownArgument;
 use reader::ShownReferent;
 use reader::ShownReport;
@@ -258,15 +259,17 @@ fn put_state(out: &mut [u64], s: State)
 }
 
 // A reply's numbers, where the words hold them.
-fn put_reply(out: &mut [u64], answer: Answer, s: State) -> u64
+fn put_reply(out: &mut [u64], reply: Reply) -> u64
     ensures { λ r. ⌜ r ≡ putCount (length (now (out .entry))) 32 ⌝ }
-    ensures { λ _. ⌜ now (out .exit) ≡ putNumbers (now (out .entry)) (answerNumbers answer ++ stateNumbers s) ⌝ }
+    ensures { λ _. ⌜ now (out .exit) ≡ putNumbers (now (out .entry)) (replyNumbers reply) ⌝ }
 {
     if out.len() < 32 {
         return 0;
     }
+    let answer = reply.answer;
+    let state = reply.state;
     put_answer(out, answer);
-    put_state(out, s);
+    put_state(out, state);
     32
 }
 
@@ -389,9 +392,7 @@ pub extern "C" fn inthuchot_open(archive: &[u8], tables: &mut [u32], out: &mut [
     ensures { λ _. ⌜ now (tables .exit) ≡ openTables smallFormat (now (archive .entry)) (now (tables .entry)) ⌝ }
 {
     let opened = reader::open(archive, tables);
-    let answer = opened.answer;
-    let state = opened.state;
-    put_reply(out, answer, state)
+    put_reply(out, opened)
 }
 
 // Steps once from the state of twelve numbers, and puts the reply.
@@ -408,9 +409,7 @@ pub extern "C" fn inthuchot_step(
 {
     let start = given_state(numbers);
     let stepped = reader::step(archive, start, tables);
-    let answer = stepped.answer;
-    let next = stepped.state;
-    put_reply(out, answer, next)
+    put_reply(out, stepped)
 }
 
 // Asks for an argument in the state of twelve numbers, and puts its twenty numbers.

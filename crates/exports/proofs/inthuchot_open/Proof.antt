@@ -9,7 +9,7 @@ use Rattle.exports.proofs.inthuchot_open.Tie as tie
 returns : tie.Need-returns
 returns c =
     let after-put-reply = c .before .before in
-    let after-open = after-put-reply .before .before .before .before .before in
+    let after-open = after-put-reply .before .before .before .before in
     let start = after-open .before .before .before .before .before in
     let out = start .args .out .now in
     let opened = after-open .«open» .ensures in

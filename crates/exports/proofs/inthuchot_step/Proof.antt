@@ -11,7 +11,7 @@ use Rattle.exports.proofs.inthuchot_step.Tie as tie
 returns : tie.Need-returns
 returns c =
     let after-put-reply = c .before .before in
-    let after-step = after-put-reply .before .before .before .before .before in
+    let after-step = after-put-reply .before .before .before .before in
     let after-given-state = after-step .before .before in
     let start = after-given-state .before .before .before .before .before in
     let a = start .args in
