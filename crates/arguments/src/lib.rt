@@ -2,10 +2,8 @@
 ghost use mathlib.Core.Path.{_≡_};
 ghost use Prim.Native.Nat.{_+_, _-_, _*_, _^_, _<_, _≤_};
 ghost use lib.ListN.{length};
-ghost use Rattle.arguments.specs.Argument.{scalarWords, headerScalar, wordScalar, holdsWord, argumentOf, argumentsOf, walked};
+ghost use Rattle.arguments.specs.Argument.{headerScalar, wordScalar, holdsWord, argumentOf, argumentsOf, walked};
 ghost use Rattle.arguments.specs.Models.Reading.{takeValue, valueText, textsOf, soughtOf};
-ghost use Rattle.arguments.specs.Loss.{valueBytes, reservedBits, valuePaddingZero, argumentKeeps, argumentsKeep};
-ghost use Rattle.arguments.specs.Models.Bounds.{ValueInside, Fits};
 use format::Format;
 use format::MALFORMED;
 use format::Reference;
@@ -314,116 +312,4 @@ pub fn seek(f: Format, part: &[u8], place: usize, count: usize, number: usize) -
         }
     }
     Sought::End { at, start }
-}
-
-// The words that a value takes behind its argument's name.
-fn scalar_words(scalar: Scalar) -> usize
-    ensures { λ r. ⌜ r ≡ scalarWords scalar ⌝ }
-{
-    match scalar {
-        Scalar::Null => 0,
-        Scalar::Signed32(_) => 0,
-        Scalar::Unsigned32(_) => 0,
-        Scalar::Signed64(_) => 1,
-        Scalar::Unsigned64(_) => 1,
-        Scalar::Double(_) => 1,
-        Scalar::Pointer(_) => 1,
-        Scalar::KernelObject(_) => 1,
-        Scalar::Boolean(_) => 0,
-        Scalar::Unknown(_) => 0,
-    }
-}
-
-// The bytes that a value has behind its argument's name.
-fn value_bytes(value: Value) -> usize
-    requires { ⌜ valueBytes value < 2 ^ 63 ⌝ }
-    ensures { λ r. ⌜ r ≡ valueBytes value ⌝ }
-{
-    match value {
-        Value::Scalar(scalar) => 8 * scalar_words(scalar),
-        Value::Text(reference) => format::inline_bytes(reference),
-    }
-}
-
-// The reserved bits of an argument's header, which repacking would lose.
-fn reserved_bits(header: u64) -> u64
-    ensures { λ r. ⌜ r ≡ reservedBits header ⌝ }
-{
-    let variant = words::field(header, 0, 3);
-    if variant == 6 {
-        return words::field(header, 48, 63);
-    }
-    if variant == 9 {
-        return words::field(header, 33, 63);
-    }
-    if variant == 1 {
-        return 0;
-    }
-    if variant == 2 {
-        return 0;
-    }
-    words::field(header, 32, 63)
-}
-
-// Whether a value's padding is zero.
-fn value_padding_zero(rest: &[u8], place: usize, value: Value) -> bool
-    requires { ⌜ (place + length (now rest) < 2 ^ 63) × ValueInside place (place + length (now rest)) value ⌝ }
-    ensures { λ r. ⌜ r ≡ valuePaddingZero (now (rest .entry)) place value ⌝ }
-{
-    match value {
-        Value::Scalar(_) => true,
-        Value::Text(reference) => format::padding_zero(rest, place, reference),
-    }
-}
-
-// Whether the argument that was read at the start of `rest` loses nothing when it is repacked.
-fn argument_keeps(f: Format, rest: &[u8], place: usize, argument: Argument, size: usize) -> bool
-    requires { ⌜ (place + length (now rest) < 2 ^ 63) × Fits (now rest) place argument size ⌝ }
-    ensures { λ r. ⌜ r ≡ argumentKeeps f (now (rest .entry)) place argument size ⌝ }
-{
-    let order = f.order;
-    let header = words::word(order, rest, 0);
-    if 10 <= words::field(header, 0, 3) {
-        return false;
-    }
-    if reserved_bits(header) != 0 {
-        return false;
-    }
-    let name = argument.name;
-    let value = argument.value;
-    if size != 8 + format::inline_bytes(name) + value_bytes(value) {
-        return false;
-    }
-    if format::padding_zero(rest, place, name) {
-        return value_padding_zero(rest, place, value);
-    }
-    false
-}
-
-// Whether so many arguments lose nothing, with `extra` bytes and no more behind them.
-pub fn arguments_keep(f: Format, part: &[u8], place: usize, count: usize, extra: usize) -> bool
-    requires { ⌜ place + length (now part) < 2 ^ 63 ⌝ }
-    ensures { λ r. ⌜ r ≡ argumentsKeep f count (now (part .entry)) place extra ⌝ }
-{
-    let mut rest = part;
-    let mut at = place;
-    let mut left = count;
-    while 0 < left {
-        let argued = argument_of(f, rest, at);
-        match argued {
-            Argued::Refused(_) => {
-                return false;
-            }
-            Argued::Argument { argument, size } => {
-                if argument_keeps(f, rest, at, argument, size) {
-                    rest = &rest[size..];
-                    at += size;
-                    left -= 1;
-                } else {
-                    return false;
-                }
-            }
-        }
-    }
-    rest.len() == extra
 }

@@ -1,13 +1,15 @@
-// What the effect of a record makes of the state and of the tables: the reader's step and both passes of a repack follow
+// The effect of a record, and what it makes of the state and of the tables: the reader's step and both passes of a repack follow
 // it. Assumes that the state names one of nine contexts, and that what is registered has an index of its table.
 ghost use mathlib.Core.Path.{_≡_};
 ghost use Prim.Native.Nat.{_^_, _<_, _≤_};
+ghost use Rattle.records.specs.Effect.{effectOf};
 ghost use Rattle.tables.specs.Models.Entries.{FormatFits};
 ghost use Rattle.effects.specs.Follow.{followedEntered, followed, changeOf, changed};
 ghost use Rattle.effects.specs.Models.Bounds.{EffectFits};
 use contexts::Entered;
 use contexts::State;
 use format::Format;
+use records::Content;
 use records::Effect;
 
 // The state to go on from, or, where the number is not 0, document 01's number by which the record stops the reading.
@@ -20,6 +22,46 @@ pub struct Followed {
 pub enum Change {
     Keep,
     Set { position: usize, entry: u32 },
+}
+
+// What a record does to the state and the tables.
+pub fn effect_of(content: Content) -> Effect
+    ensures { λ r. ⌜ r ≡ effectOf content ⌝ }
+{
+    match content {
+        Content::Refused(number) => Effect::Stop(number),
+        Content::ProviderInfo {
+            id,
+            place: _,
+            length: _,
+        } => Effect::Enter { id },
+        Content::Section { id } => Effect::Enter { id },
+        Content::Initialization { rate } => Effect::SetRate { rate },
+        Content::String {
+            index,
+            place,
+            length,
+        } => Effect::Register {
+            table: 2,
+            index,
+            place,
+            length,
+        },
+        Content::Thread { index, place } => Effect::Register {
+            table: 3,
+            index,
+            place,
+            length: 16,
+        },
+        Content::Magic => Effect::Pass,
+        Content::ProviderEvent { id: _, event: _ } => Effect::Pass,
+        Content::Report(_) => Effect::Pass,
+        Content::Ignored => Effect::Pass,
+        Content::Skipped {
+            record_type: _,
+            size: _,
+        } => Effect::Pass,
+    }
 }
 
 // A provider's id was made current, unless it was a ninth one.

@@ -1,323 +1,14 @@
 // Reading and repacking for programs in other languages: each call puts what it answers as numbers at the start of lent words, and
 // replies how many. Nothing is asked of a caller.
 ghost use mathlib.Core.Path.{_≡_};
-ghost use mathlib.Core.List.{[], _∷_};
-ghost use Prim.Native.Nat.{_+_, _%_, _^_, _≤_};
-ghost use lib.ListN.{length, getD};
+ghost use lib.ListN.{length};
 ghost use Rattle.format.specs.Limits.{smallFormat};
-ghost use Rattle.words.specs.Stream.{overwritten};
-ghost use Rattle.words.specs.Word.{unsigned, bit};
-ghost use Rattle.arguments.specs.Argument.{scalarType};
-ghost use Rattle.reader.specs.Numbers.{textValues, threadValues, referentValues, providerValues, scalarValue, valueValues};
 ghost use Rattle.reader.specs.Step.{openReply, openTables, stepReply, stepTables};
 ghost use Rattle.reader.specs.Ask.{argumentReply};
 ghost use Rattle.packer.specs.Pack.{packReply, packRoom, packOutput};
-ghost use Rattle.exports.specs.Block.{block, answerNumbers, askedNumbers, packedNumbers, stateNumbers, replyNumbers, givenState, putCount, putNumbers};
-use arguments::Scalar;
-use contexts::Provider;
-use contexts::State;
+ghost use Rattle.blocks.specs.Block.{askedNumbers, replyNumbers, givenState, putCount, putNumbers};
+ghost use Rattle.exports.specs.Block.{packedNumbers};
 use packer::Packed;
-use reader::Answer;
-use reader::Asked;
-use reader::Reply;
-use reader::ShownArgument;
-use reader::ShownReferent;
-use reader::ShownReport;
-use reader::ShownText;
-use reader::ShownThread;
-use reader::ShownValue;
-
-// A case by its number, and what it holds; the second is 0 where it holds one value.
-struct Choice {
-    tag: u64,
-    first: u64,
-    second: u64,
-}
-
-// The 64 bits of a signed number.
-fn bits_of(v: i64) -> u64
-    ensures { λ r. ⌜ r ≡ unsigned 64 v ⌝ }
-{
-    if v < 0 {
-        return 0xffff_ffff_ffff_ffff - (-1 - v) as u64;
-    }
-    v as u64
-}
-
-fn half_bits_of(v: i32) -> u64
-    ensures { λ r. ⌜ r ≡ unsigned 64 v ⌝ }
-{
-    bits_of(v as i64)
-}
-
-fn bit_of(b: bool) -> u64
-    ensures { λ r. ⌜ r ≡ bit b ⌝ }
-{
-    if b {
-        return 1;
-    }
-    0
-}
-
-fn text_choice(t: ShownText) -> Choice
-    ensures { λ r. ⌜ r .tag ∷ r .first ∷ r .second ∷ [] ≡ textValues t ⌝ }
-{
-    match t {
-        ShownText::At { place, length } => Choice {
-            tag: 1,
-            first: place as u64,
-            second: length as u64,
-        },
-        ShownText::Unresolved { index } => Choice {
-            tag: 2,
-            first: index as u64,
-            second: 0,
-        },
-    }
-}
-
-fn thread_choice(t: ShownThread) -> Choice
-    ensures { λ r. ⌜ r .tag ∷ r .first ∷ r .second ∷ [] ≡ threadValues t ⌝ }
-{
-    match t {
-        ShownThread::Words { process, thread } => Choice {
-            tag: 1,
-            first: process,
-            second: thread,
-        },
-        ShownThread::Unresolved { index } => Choice {
-            tag: 2,
-            first: index as u64,
-            second: 0,
-        },
-    }
-}
-
-// What a record refers to, a text or a thread.
-fn referent_choice(r: ShownReferent) -> Choice
-    ensures { λ c. ⌜ c .tag ∷ c .first ∷ c .second ∷ [] ≡ referentValues r ⌝ }
-{
-    match r {
-        ShownReferent::Text(t) => text_choice(t),
-        ShownReferent::Thread(t) => thread_choice(t),
-    }
-}
-
-fn provider_choice(p: Provider) -> Choice
-    ensures { λ r. ⌜ r .tag ∷ r .first ∷ [] ≡ providerValues p ⌝ }
-{
-    match p {
-        Provider::None => Choice {
-            tag: 0,
-            first: 0,
-            second: 0,
-        },
-        Provider::Id(id) => Choice {
-            tag: 1,
-            first: id as u64,
-            second: 0,
-        },
-    }
-}
-
-// The argument type of a value that is no text.
-fn scalar_type(scalar: Scalar) -> u64
-    ensures { λ r. ⌜ r ≡ scalarType scalar ⌝ }
-{
-    match scalar {
-        Scalar::Null => 0,
-        Scalar::Signed32(_) => 1,
-        Scalar::Unsigned32(_) => 2,
-        Scalar::Signed64(_) => 3,
-        Scalar::Unsigned64(_) => 4,
-        Scalar::Double(_) => 5,
-        Scalar::Pointer(_) => 7,
-        Scalar::KernelObject(_) => 8,
-        Scalar::Boolean(_) => 9,
-        Scalar::Unknown(variant) => variant as u64,
-    }
-}
-
-// Its 64 bits.
-fn scalar_value(scalar: Scalar) -> u64
-    ensures { λ r. ⌜ r ≡ scalarValue scalar ⌝ }
-{
-    match scalar {
-        Scalar::Null => 0,
-        Scalar::Signed32(v) => half_bits_of(v),
-        Scalar::Unsigned32(v) => v as u64,
-        Scalar::Signed64(v) => bits_of(v),
-        Scalar::Unsigned64(v) => v,
-        Scalar::Double(v) => v,
-        Scalar::Pointer(v) => v,
-        Scalar::KernelObject(v) => v,
-        Scalar::Boolean(v) => bit_of(v),
-        Scalar::Unknown(_) => 0,
-    }
-}
-
-// Four numbers, put at a place. Every block is put by these.
-fn put_four(out: &mut [u64], at: usize, a: u64, b: u64, c: u64, d: u64)
-    requires { ⌜ at + 4 ≤ length (now out) ⌝ }
-    ensures { λ _. ⌜ now (out .exit) ≡ overwritten (now (out .entry)) at (a ∷ b ∷ c ∷ d ∷ []) ⌝ }
-{
-    out[at] = a;
-    out[at + 1] = b;
-    out[at + 2] = c;
-    out[at + 3] = d;
-}
-
-// A block of twenty with four values.
-fn put_short(out: &mut [u64], a: u64, b: u64, c: u64, d: u64)
-    requires { ⌜ 20 ≤ length (now out) ⌝ }
-    ensures { λ _. ⌜ now (out .exit) ≡ overwritten (now (out .entry)) 0 (block 20 (a ∷ b ∷ c ∷ d ∷ [])) ⌝ }
-{
-    put_four(out, 0, a, b, c, d);
-    put_four(out, 4, 0, 0, 0, 0);
-    put_four(out, 8, 0, 0, 0, 0);
-    put_four(out, 12, 0, 0, 0, 0);
-    put_four(out, 16, 0, 0, 0, 0);
-}
-
-// The block of a record that refers to texts and threads.
-fn put_report(out: &mut [u64], report: ShownReport)
-    requires { ⌜ 20 ≤ length (now out) ⌝ }
-    ensures { λ _. ⌜ now (out .exit) ≡ overwritten (now (out .entry)) 0 (answerNumbers (Answer.Report report)) ⌝ }
-{
-    let own = report.own;
-    let shown_provider = report.provider;
-    let shown_first = report.first;
-    let shown_second = report.second;
-    let shown_third = report.third;
-    let provider = provider_choice(shown_provider);
-    let first = referent_choice(shown_first);
-    let second = referent_choice(shown_second);
-    let third = referent_choice(shown_third);
-    put_four(out, 0, 8, report.place as u64, provider.tag, provider.first);
-    put_four(
-        out,
-        4,
-        own.variant as u64,
-        own.timestamp,
-        report.rate,
-        first.tag,
-    );
-    put_four(out, 8, first.first, first.second, second.tag, second.first);
-    put_four(out, 12, second.second, third.tag, third.first, third.second);
-    put_four(out, 16, report.count as u64, report.last, 0, 0);
-}
-
-// The block of an answer.
-fn put_answer(out: &mut [u64], answer: Answer)
-    requires { ⌜ 20 ≤ length (now out) ⌝ }
-    ensures { λ _. ⌜ now (out .exit) ≡ overwritten (now (out .entry)) 0 (answerNumbers answer) ⌝ }
-{
-    match answer {
-        Answer::End { number, place } => put_short(out, 1, number as u64, place as u64, 0),
-        Answer::Nothing => put_short(out, 2, 0, 0, 0),
-        Answer::Magic => put_short(out, 3, 0, 0, 0),
-        Answer::ProviderInfo { id, place, length } => {
-            put_short(out, 4, id as u64, place as u64, length as u64)
-        }
-        Answer::Section { id } => put_short(out, 5, id as u64, 0, 0),
-        Answer::ProviderEvent { id, event } => put_short(out, 6, id as u64, event as u64, 0),
-        Answer::Initialization { rate } => put_short(out, 7, rate, 0, 0),
-        Answer::Report(report) => put_report(out, report),
-        Answer::Skipped { record_type, size } => put_short(out, 9, record_type as u64, size, 0),
-    }
-}
-
-fn wide(x: u32) -> u64
-    ensures { λ r. ⌜ r ≡ x ⌝ }
-{
-    x as u64
-}
-
-// The numbers of a state, behind an answer's.
-fn put_state(out: &mut [u64], s: State)
-    requires { ⌜ 32 ≤ length (now out) ⌝ }
-    ensures { λ _. ⌜ now (out .exit) ≡ overwritten (now (out .entry)) 20 (stateNumbers s) ⌝ }
-{
-    let ids = s.ids;
-    put_four(out, 20, s.place as u64, s.rate, wide(ids[0]), wide(ids[1]));
-    put_four(
-        out,
-        24,
-        wide(ids[2]),
-        wide(ids[3]),
-        wide(ids[4]),
-        wide(ids[5]),
-    );
-    put_four(
-        out,
-        28,
-        wide(ids[6]),
-        wide(ids[7]),
-        s.count as u64,
-        s.current as u64,
-    );
-}
-
-// A reply's numbers, where the words hold them.
-fn put_reply(out: &mut [u64], reply: Reply) -> u64
-    ensures { λ r. ⌜ r ≡ putCount (length (now (out .entry))) 32 ⌝ }
-    ensures { λ _. ⌜ now (out .exit) ≡ putNumbers (now (out .entry)) (replyNumbers reply) ⌝ }
-{
-    if out.len() < 32 {
-        return 0;
-    }
-    let answer = reply.answer;
-    let state = reply.state;
-    put_answer(out, answer);
-    put_state(out, state);
-    32
-}
-
-// The numbers of an argument's value, behind those of its name.
-fn put_value(out: &mut [u64], value: ShownValue)
-    requires { ⌜ 20 ≤ length (now out) ⌝ }
-    ensures { λ _. ⌜ now (out .exit) ≡ overwritten (now (out .entry)) 4 (valueValues value) ⌝ }
-{
-    match value {
-        ShownValue::Scalar(scalar) => {
-            put_four(out, 4, scalar_type(scalar), scalar_value(scalar), 0, 0)
-        }
-        ShownValue::Text(t) => {
-            let text = text_choice(t);
-            put_four(out, 4, 6, text.tag, text.first, text.second)
-        }
-    }
-}
-
-// The block of an argument.
-fn put_argument(out: &mut [u64], argument: ShownArgument)
-    requires { ⌜ 20 ≤ length (now out) ⌝ }
-    ensures { λ _. ⌜ now (out .exit) ≡ overwritten (now (out .entry)) 0 (askedNumbers (Asked.Argument argument)) ⌝ }
-{
-    let shown_name = argument.name;
-    let shown_value = argument.value;
-    let name = text_choice(shown_name);
-    put_four(out, 0, 10, name.tag, name.first, name.second);
-    put_value(out, shown_value);
-    put_four(out, 8, 0, 0, 0, 0);
-    put_four(out, 12, 0, 0, 0, 0);
-    put_four(out, 16, 0, 0, 0, 0);
-}
-
-// The block of what is answered for an argument, where the words hold it.
-fn put_asked(out: &mut [u64], asked: Asked) -> u64
-    ensures { λ r. ⌜ r ≡ putCount (length (now (out .entry))) 20 ⌝ }
-    ensures { λ _. ⌜ now (out .exit) ≡ putNumbers (now (out .entry)) (askedNumbers asked) ⌝ }
-{
-    if out.len() < 20 {
-        return 0;
-    }
-    match asked {
-        Asked::Refused { number, place } => put_short(out, 1, number as u64, place as u64, 0),
-        Asked::Argument(argument) => put_argument(out, argument),
-    }
-    20
-}
 
 // The block of what a repack answers, where the words hold it.
 fn put_packed(out: &mut [u64], packed: Packed) -> u64
@@ -328,60 +19,17 @@ fn put_packed(out: &mut [u64], packed: Packed) -> u64
         return 0;
     }
     match packed {
-        Packed::Refused { number, place } => put_four(out, 0, 1, number as u64, place as u64, 0),
-        Packed::Written { length } => put_four(out, 0, 11, length as u64, 0, 0),
+        Packed::Refused { number, place } => blocks::put_four(
+            out,
+            0,
+            1,
+            number as u64,
+            place as u64,
+            0,
+        ),
+        Packed::Written { length } => blocks::put_four(out, 0, 11, length as u64, 0, 0),
     }
     4
-}
-
-// A number of a list, 0 behind its end.
-fn given(numbers: &[u64], i: usize) -> u64
-    ensures { λ r. ⌜ r ≡ getD (now (numbers .entry)) i 0 ⌝ }
-{
-    if i < numbers.len() {
-        return numbers[i];
-    }
-    0
-}
-
-// An id by the lowest 32 bits of a number.
-fn given_id(numbers: &[u64], i: usize) -> u32
-    ensures { λ r. ⌜ r ≡ getD (now (numbers .entry)) i 0 % 2 ^ 32 ⌝ }
-{
-    (given(numbers, i) % 0x1_0000_0000) as u32
-}
-
-// The state that numbers stand for, each looked for by itself.
-fn state_of(numbers: &[u64]) -> State
-    ensures { λ r. ⌜ r ≡ givenState (now (numbers .entry)) ⌝ }
-{
-    let ids = [
-        given_id(numbers, 2),
-        given_id(numbers, 3),
-        given_id(numbers, 4),
-        given_id(numbers, 5),
-        given_id(numbers, 6),
-        given_id(numbers, 7),
-        given_id(numbers, 8),
-        given_id(numbers, 9),
-    ];
-    State {
-        place: given(numbers, 0) as usize,
-        rate: given(numbers, 1),
-        ids,
-        count: given(numbers, 10) as usize,
-        current: given(numbers, 11) as usize,
-    }
-}
-
-// The same, with one test of the length where all twelve are there.
-fn given_state(numbers: &[u64]) -> State
-    ensures { λ r. ⌜ r ≡ givenState (now (numbers .entry)) ⌝ }
-{
-    if numbers.len() < 12 {
-        return state_of(numbers);
-    }
-    state_of(&numbers[..12])
 }
 
 // Opens an archive, and puts the reply: twenty numbers of its answer, twelve of its state.
@@ -392,7 +40,7 @@ pub extern "C" fn inthuchot_open(archive: &[u8], tables: &mut [u32], out: &mut [
     ensures { λ _. ⌜ now (tables .exit) ≡ openTables smallFormat (now (archive .entry)) (now (tables .entry)) ⌝ }
 {
     let opened = reader::open(archive, tables);
-    put_reply(out, opened)
+    blocks::put_reply(out, opened)
 }
 
 // Steps once from the state of twelve numbers, and puts the reply.
@@ -407,9 +55,9 @@ pub extern "C" fn inthuchot_step(
     ensures { λ _. ⌜ now (out .exit) ≡ putNumbers (now (out .entry)) (replyNumbers (stepReply smallFormat (now (archive .entry)) (now (tables .entry)) (givenState (now (numbers .entry))))) ⌝ }
     ensures { λ _. ⌜ now (tables .exit) ≡ stepTables smallFormat (now (archive .entry)) (now (tables .entry)) (givenState (now (numbers .entry))) ⌝ }
 {
-    let start = given_state(numbers);
+    let start = blocks::given_state(numbers);
     let stepped = reader::step(archive, start, tables);
-    put_reply(out, stepped)
+    blocks::put_reply(out, stepped)
 }
 
 // Asks for an argument in the state of twelve numbers, and puts its twenty numbers.
@@ -425,9 +73,9 @@ pub extern "C" fn inthuchot_argument(
     ensures { λ r. ⌜ r ≡ putCount (length (now (out .entry))) 20 ⌝ }
     ensures { λ _. ⌜ now (out .exit) ≡ putNumbers (now (out .entry)) (askedNumbers (argumentReply smallFormat (now (archive .entry)) (now (tables .entry)) (givenState (now (numbers .entry))) event number)) ⌝ }
 {
-    put_asked(
+    blocks::put_asked(
         out,
-        reader::argument(archive, given_state(numbers), tables, event, number),
+        reader::argument(archive, blocks::given_state(numbers), tables, event, number),
     )
 }
 

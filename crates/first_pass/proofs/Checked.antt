@@ -35,7 +35,7 @@ use Rattle.contexts.specs.Context.{providerOf}
 use Rattle.effects.specs.Follow.{changeOf, changed}
 use Rattle.reader.specs.Step.{openingNumber}
 use Rattle.reader.specs.Reads.{providerItem}
-use Rattle.reader.proofs.Lookups.{record-whole}
+use Rattle.views.proofs.Lookups.{record-whole}
 use Rattle.rule.specs.Refusal.{keepsAt, itemUnresolved, passesLimit, itemUses}
 use Rattle.passes.proofs.Places.{report-stands, part-inside, opening-report}
 use Rattle.first_pass.specs.declared.Counted.{Counted}

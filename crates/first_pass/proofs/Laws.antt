@@ -36,7 +36,7 @@ use Rattle.records.specs.Lookups.{textLookup, argumentLookups, reportLookups}
 use Rattle.records.proofs.Lookups.{onTexts, lookups-turn}
 use Rattle.tables.specs.Table.{tableWords, resolved, lookedUp}
 use Rattle.records.proofs.Bounds.{lengthOf, ContentShort, record-short}
-use Rattle.reader.proofs.Lookups.{record-whole, report-fits, LookupFits}
+use Rattle.views.proofs.Lookups.{record-whole, report-fits, LookupFits}
 use Rattle.reader.proofs.Changes.{IsTable}
 use Rattle.passes.proofs.Known.{thread-short}
 use Rattle.passes.proofs.Places.{report-bounds}

@@ -39,7 +39,7 @@ use Rattle.contexts.specs.Context.{providerOf}
 use Rattle.tables.specs.declared.Resolved.{Resolved}
 use Rattle.tables.specs.declared.Resolved.the-variants.{Bad, Known, Unresolved}
 use Rattle.tables.specs.Table.{tableWords, highestOf, resolved, lookedUp}
-use Rattle.reader.specs.Shown.{shownText, shownThread, shownReferent, shownStream, shownValue}
+use Rattle.views.specs.Shown.{shownText, shownThread, shownReferent, shownStream, shownValue}
 use Rattle.reader.specs.Reads.{textItem, referentItem, streamItem, providerItem, valueItem}
 use Rattle.reader.proofs.Changes.{IsTable}
 use Rattle.rule.specs.Refusal.{itemUnresolved, limitOf}

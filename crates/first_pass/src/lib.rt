@@ -436,7 +436,7 @@ fn check_record(
     ensures { λ _. ⌜ now (room .exit) ≡ tablesIn f (now (room .entry)) ++ checkedSlots f (now (archive .entry)) (tablesIn f (now (room .entry))) (slotsIn f (now (room .entry))) s content next clean ⌝ }
 {
     let place = s.place;
-    if records::record_keeps(f, &archive[place..next], place, content) {
+    if losses::record_keeps(f, &archive[place..next], place, content) {
         match content {
             Content::Report(report) => {
                 return check_report(f, archive, room, s, report, next, clean);

@@ -230,3 +230,11 @@ pub fn archive_number(archive: &[u8], short: u8, wanted: usize, lent: usize) -> 
     }
     1
 }
+
+// The lowest 16 bits of a header: a type and a size in words.
+pub fn header(variant: u64, words: usize) -> u64
+    requires { ⌜ (variant < 2 ^ 4) × (words < 2 ^ 12) ⌝ }
+    ensures { λ r. ⌜ r ≡ variant + words * 2 ^ 4 ⌝ }
+{
+    words::with_field(variant, 4, 15, words as u64)
+}

@@ -14,14 +14,14 @@ use Rattle.arguments.specs.declared.Scalar.the-variants.{Null, Signed32, Unsign
 use Rattle.arguments.specs.Argument.{scalarType}
 use Rattle.contexts.specs.declared.Provider.{Provider}
 use Rattle.contexts.specs.declared.Provider.the-variants.{None, Id}
-use Rattle.reader.specs.declared.ShownText.{ShownText}
-use Rattle.reader.specs.declared.ShownText.the-variants.{At, Unresolved}
-use Rattle.reader.specs.declared.ShownThread.{ShownThread}
-use Rattle.reader.specs.declared.ShownThread.the-variants.{Words, Unresolved as ThreadUnresolved}
-use Rattle.reader.specs.declared.ShownReferent.{ShownReferent}
-use Rattle.reader.specs.declared.ShownReferent.the-variants.{Text as TextReferent, Thread as ThreadReferent}
-use Rattle.reader.specs.declared.ShownValue.{ShownValue}
-use Rattle.reader.specs.declared.ShownValue.the-variants.{Scalar as ScalarValue, Text as TextValue}
+use Rattle.views.specs.declared.ShownText.{ShownText}
+use Rattle.views.specs.declared.ShownText.the-variants.{At, Unresolved}
+use Rattle.views.specs.declared.ShownThread.{ShownThread}
+use Rattle.views.specs.declared.ShownThread.the-variants.{Words, Unresolved as ThreadUnresolved}
+use Rattle.views.specs.declared.ShownReferent.{ShownReferent}
+use Rattle.views.specs.declared.ShownReferent.the-variants.{Text as TextReferent, Thread as ThreadReferent}
+use Rattle.views.specs.declared.ShownValue.{ShownValue}
+use Rattle.views.specs.declared.ShownValue.the-variants.{Scalar as ScalarValue, Text as TextValue}
 
 -- a number's decimal digits, the first of which is no 0 unless it is the only one; so many at most
 unfoldable pub decimalWithin : ℕ → ℕ → List ℕ

@@ -16,10 +16,10 @@ ghost use Rattle.lines.specs.Put.{Puts};
 ghost use Rattle.lines.specs.Shown.{decimal, numberShown, signedShown, booleanShown, doubleShown, unresolvedShown, bytesShown, textShown, threadShown, referentShown, providerShown, scalarShown, valueShown, valueType, hexShown};
 use arguments::Scalar;
 use contexts::Provider;
-use reader::ShownReferent;
-use reader::ShownText;
-use reader::ShownThread;
-use reader::ShownValue;
+use views::ShownReferent;
+use views::ShownText;
+use views::ShownThread;
+use views::ShownValue;
 
 // How many of n bytes fit into a buffer of this length from a place on.
 fn fitting(length: usize, at: usize, n: usize) -> usize
@@ -136,7 +136,7 @@ pub fn put_text(out: &mut [u8], at: usize, archive: &[u8], text: ShownText) -> u
         ShownText::At { place, length } => put_text_bytes(
             out,
             at,
-            reader::text(archive, place, length),
+            words::part(archive, place, length),
         ),
         ShownText::Unresolved { index } => put_unresolved(out, at, index),
     }

@@ -19,9 +19,9 @@ use Rattle.records.specs.Record.{metadataOf, stringOf, contentOf, recordOf}
 use Rattle.records.specs.Effect.{effectOf}
 use Rattle.contexts.specs.Context.{belongsTo, findId, entering, providerOf}
 use Rattle.tables.specs.Table.{highestOf, position, registrationOf, entryAt, resolved}
-use Rattle.reader.specs.declared.ShownText.the-variants.{Unresolved}
-use Rattle.reader.specs.declared.ShownThread.the-variants.{Unresolved as ThreadUnresolved}
-use Rattle.reader.specs.Shown.{isBad, shownText, shownThread, shownReferent, shownStream, shownReport, shownValue, noneBad}
+use Rattle.views.specs.declared.ShownText.the-variants.{Unresolved}
+use Rattle.views.specs.declared.ShownThread.the-variants.{Unresolved as ThreadUnresolved}
+use Rattle.views.specs.Shown.{isBad, shownText, shownThread, shownReferent, shownStream, shownReport, shownValue, noneBad}
 use Rattle.reader.specs.Step.{openingNumber, stopping, contentDecision, placeDecision, decisionOf, reportAnswer, plainAnswer, effectDecision}
 use Rattle.reader.specs.Ask.{shownArgument, askedReport, askedPlace, argumentReply}
 use Rattle.lines.specs.Shown.{decimalWithin, decimal, numberShown, signedShown, booleanShown, doubleShown, unresolvedShown, bytesShown, textShown, threadShown, referentShown, providerShown, scalarShown, valueShown, valueType}

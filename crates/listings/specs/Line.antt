@@ -7,8 +7,8 @@ use Rattle.words.specs.Word.{pick}
 use Rattle.records.specs.declared.Event.{Event}
 use Rattle.records.specs.Layout.{hasExtra}
 use Rattle.contexts.specs.declared.Provider.{Provider}
-use Rattle.reader.specs.declared.ShownReport.{ShownReport}
-use Rattle.reader.specs.declared.ShownArgument.{ShownArgument}
+use Rattle.views.specs.declared.ShownReport.{ShownReport}
+use Rattle.views.specs.declared.ShownArgument.{ShownArgument}
 use Rattle.reader.specs.declared.Asked.{Asked}
 use Rattle.reader.specs.declared.Asked.the-variants.{Refused, Argument as ArgumentShown}
 use Rattle.reader.specs.declared.Answer.{Answer}

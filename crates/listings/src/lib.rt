@@ -18,9 +18,9 @@ use lines::put_value;
 use lines::value_type;
 use reader::Answer;
 use reader::Asked;
-use reader::ShownArgument;
-use reader::ShownReport;
 use records::Event;
+use views::ShownArgument;
+use views::ShownReport;
 
 pub fn put_end(out: &mut [u8], at: usize, number: u8, place: usize) -> usize
     ensures { λ r. ⌜ Puts (now (out .entry)) at (endLine number place) r (now (out .exit)) ⌝ }

@@ -36,7 +36,7 @@ use Rattle.tables.specs.declared.Resolved.the-variants.{Known}
 use Rattle.tables.specs.Table.{position, resolved, lookedUp}
 use Rattle.tables.proofs.Tables.{resolved-known}
 use Rattle.reader.specs.Step.{openingNumber}
-use Rattle.reader.proofs.Lookups.{record-whole, report-fits, LookupFits}
+use Rattle.views.proofs.Lookups.{record-whole, report-fits, LookupFits}
 use Rattle.reader.proofs.Steps.{report-stands as report-inside}
 use Rattle.records.specs.Lookups.{textLookup, reportLookups, argumentLookups}
 use Rattle.format.specs.Header.{archiveNumber}

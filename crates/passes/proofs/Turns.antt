@@ -32,11 +32,12 @@ use Rattle.tables.specs.Table.{position, resolved, entryAt, highestOf}
 use Rattle.reader.specs.declared.Answer.the-variants.{End}
 use Rattle.reader.specs.declared.Asked.the-variants.{Refused as AskRefused}
 use Rattle.reader.specs.Step.{Decision}
-use Rattle.reader.specs.Shown.{shownReport, shownValue, noneBad, isBad}
+use Rattle.views.specs.Shown.{shownReport, shownValue, noneBad, isBad}
 use Rattle.reader.specs.Step.{openingNumber, stopping, contentDecision, decisionOf, stepReply, stepTables, plainAnswer, effectDecision, reportAnswer, contentAnswer}
 use Rattle.reader.specs.Ask.{shownArgument, argumentReply}
 use Rattle.reader.specs.Reads.{prepend as prependItem, argumentItems, itemOf}
-use Rattle.reader.proofs.Lookups.{ContentFits, record-whole, index-fits, report-fits, report-arguments}
+use Rattle.views.proofs.Lookups.{ContentFits, record-whole, report-fits, report-arguments}
+use Rattle.reader.proofs.Steps.{index-fits}
 use Rattle.reader.proofs.Runs.{Sound, step-sound, Grown, step-grows}
 use Rattle.rule.specs.Refusal.{Run, ended, passed, keepsAt, onAnswer, runFrom}
 use Rattle.rule.proofs.Events.{asked-is}

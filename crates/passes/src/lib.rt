@@ -19,7 +19,7 @@ pub fn follow(f: Format, tables: &mut [u32], s: State, content: Content, next: u
     ensures { λ r. ⌜ r ≡ afterRecord s content next ⌝ }
     ensures { λ _. ⌜ now (tables .exit) ≡ tablesAfter f (now (tables .entry)) s content ⌝ }
 {
-    let effect = records::effect_of(content);
+    let effect = effects::effect_of(content);
     effects::apply(tables, effects::change_of(f, s, effect));
     effects::follow(s, effect, next)
 }

@@ -37,7 +37,7 @@ use Rattle.effects.specs.declared.Change.{Change}
 use Rattle.effects.specs.declared.Change.the-variants.{Keep, Set}
 use Rattle.reader.specs.declared.Asked.{Asked}
 use Rattle.reader.specs.declared.Asked.the-variants.{Refused as AskedRefused}
-use Rattle.reader.specs.Shown.{shownValue, noneBad}
+use Rattle.views.specs.Shown.{shownValue, noneBad}
 use Rattle.effects.specs.Follow.{changed}
 use Rattle.reader.specs.Step.{openingNumber, contentDecision, placeDecision, decisionOf, stepReply, stepTables, openTables, reportAnswer, contentAnswer}
 use Rattle.reader.specs.Ask.{shownArgument, askedReport, askedPlace, argumentReply}

@@ -12,7 +12,7 @@ use Rattle.contexts.specs.declared.Found.the-variants.{At, Nothing as NotFound}
 use Rattle.contexts.specs.Context.{findId, moved, rated, inContext, withId, entering}
 use Rattle.reader.specs.declared.Answer.{Answer}
 use Rattle.reader.specs.declared.Answer.the-variants.{End, Nothing, Magic as MagicShown, ProviderInfo as ProviderInfoShown, Section as SectionShown, ProviderEvent as ProviderEventShown, Initialization as InitializationShown, Report as ReportShown, Skipped as SkippedShown}
-use Rattle.reader.specs.declared.ShownReport.{ShownReport}
+use Rattle.views.specs.declared.ShownReport.{ShownReport}
 use Rattle.reader.specs.Step.{Decision}
 use Rattle.reader.specs.Step.{stopping, stepReply, stepTables}
 use Rattle.reader.specs.Reads.{argumentItems, reportItem, itemOf}

@@ -34,11 +34,11 @@ use Rattle.effects.specs.declared.Change.the-variants.{Keep, Set}
 use Rattle.effects.specs.Follow.{followedEntered, followed, changeOf, changed}
 use Rattle.reader.specs.declared.Answer.{Answer}
 use Rattle.reader.specs.declared.Answer.the-variants.{End, Nothing, Magic as MagicShown, ProviderInfo as ProviderInfoShown, Section as SectionShown, ProviderEvent as ProviderEventShown, Initialization as InitializationShown, Report as ReportShown, Skipped as SkippedShown}
-use Rattle.reader.specs.declared.ShownReport.{ShownReport}
+use Rattle.views.specs.declared.ShownReport.{ShownReport}
 use Rattle.reader.specs.Step.{Decision}
-use Rattle.reader.specs.Shown.{noneBad}
+use Rattle.views.specs.Shown.{noneBad}
 use Rattle.reader.specs.Step.{openingNumber, stopping, reportAnswer, plainAnswer, effectDecision, contentDecision, placeDecision, decisionOf, stepTables}
-use Rattle.reader.proofs.Lookups.{ContentFits, record-whole}
+use Rattle.views.proofs.Lookups.{ContentFits, record-whole}
 
 -- ---- what a step can do
 

@@ -1,4 +1,3 @@
-pub mod Lookups
 pub mod Steps
 pub mod Asks
 pub mod Changes

@@ -32,16 +32,16 @@ use Rattle.records.specs.Lookups.{argumentLookups, reportLookups, argumentsTo}
 use Rattle.records.specs.declared.Lookup.{Lookup}
 use Rattle.records.specs.Effect.{effectOf}
 use Rattle.reader.specs.declared.Answer.the-variants.{End, Report as ReportShown}
-use Rattle.reader.specs.declared.ShownReport.{ShownReport}
+use Rattle.views.specs.declared.ShownReport.{ShownReport}
 use Rattle.reader.specs.declared.Asked.{Asked}
 use Rattle.reader.specs.declared.Asked.the-variants.{Refused, Argument as ArgumentShown}
 use Rattle.reader.specs.Step.{Decision}
-use Rattle.reader.specs.Shown.{isBad, shownReport, noneBad}
+use Rattle.views.specs.Shown.{isBad, shownReport, noneBad}
 use Rattle.effects.specs.Follow.{changed, followed, changeOf}
 use Rattle.reader.specs.Step.{openingNumber, stopping, decisionOf, stepReply, stepTables, reportAnswer, effectDecision, contentDecision}
 use Rattle.reader.specs.Ask.{shownArgument, askedReport, askedPlace, argumentReply}
 use Rattle.reader.specs.Reads.{prepend as prependItem, argumentItems, reportItem, itemOf}
-use Rattle.reader.proofs.Lookups.{record-whole, ReportFits, report-fits, report-arguments}
+use Rattle.views.proofs.Lookups.{record-whole, ReportFits, report-fits, report-arguments}
 use Rattle.reader.proofs.Changes.{Plain, Names, IsTable, on-decision, on-entering, showing, registering}
 use Rattle.reader.proofs.Runs.{Held, Sound, step-sound, Run, run-sound}
 

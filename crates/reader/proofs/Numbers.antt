@@ -25,7 +25,7 @@ use Rattle.records.specs.Lookups.{onReport, argumentLookups}
 use Rattle.format.specs.Header.{archiveNumber}
 use Rattle.format.specs.Limits.{longestArchive}
 use Rattle.records.specs.Effect.{effectOf}
-use Rattle.reader.specs.Shown.{noneBad}
+use Rattle.views.specs.Shown.{noneBad}
 use Rattle.reader.specs.declared.Answer.{Answer}
 use Rattle.reader.specs.declared.Answer.the-variants.{End, Nothing, Magic as MagicShown, ProviderInfo as ProviderInfoShown, Section as SectionShown, ProviderEvent as ProviderEventShown, Initialization as InitializationShown, Report as ReportShown, Skipped as SkippedShown}
 use Rattle.reader.specs.declared.Asked.{Asked}
@@ -35,7 +35,7 @@ use Rattle.effects.specs.Follow.{changed, followed, changeOf}
 use Rattle.reader.specs.Step.{openingNumber, stopping, contentDecision, placeDecision, decisionOf, openReply, openTables, stepReply, stepTables, effectDecision, plainAnswer}
 use Rattle.reader.specs.Ask.{shownArgument, askedReport, askedPlace, argumentReply}
 use Rattle.reader.specs.Numbers.{answerNumber, askedNumber}
-use Rattle.reader.proofs.Lookups.{ContentFits, record-whole}
+use Rattle.views.proofs.Lookups.{ContentFits, record-whole}
 use Rattle.reader.proofs.Changes.{Plain, Names, on-decision, on-entering, on-report, registering, stop-decided, entering-decided}
 
 -- a number from `low` to `high`, both included

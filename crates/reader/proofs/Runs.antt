@@ -28,7 +28,7 @@ use Rattle.reader.specs.Step.{openingNumber, stopping, stepReply, stepTa
 use Rattle.reader.specs.Reads.{itemOf, Reads, ends, passes, shows}
 use Rattle.tables.proofs.Tables.{position-lt, position-apart, cleared-zero, length-cleared}
 use Rattle.reader.proofs.Steps.{admitted}
-use Rattle.reader.proofs.Lookups.{RecordFits, record-whole}
+use Rattle.views.proofs.Lookups.{RecordFits, record-whole}
 use Rattle.reader.proofs.Changes.{IsTable, Registers, Sets, on-decision, on-entering, on-report, own-context, registering}
 use Rattle.records.specs.Effect.{effectOf}
 

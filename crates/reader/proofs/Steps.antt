@@ -1,16 +1,14 @@
 -- Laws of opening and stepping that the code's proofs go by. Assumes nothing.
-use Prim.Native.Nat.{ℕ, zero, suc, _+_, _-_, _<_, _≤_}
-use mathlib.Core.Path.{_≡_, refl, sym, ap, _∙_}
+use Prim.Native.Nat.{ℕ, _+_, _-_, _≤_}
+use mathlib.Core.Path.{_≡_, refl}
 use mathlib.Core.List.{[], List, _∷_}
 use mathlib.Core.Bool.{Bool, true, false}
-use mathlib.Core.Logic.{_⊎_, inl, inr}
 use native.Mathlib.Omega.{arith}
 use borrow.Author.Tests.{ltb-false, ne-eqb}
 use lib.Dec.{ltb}
 use lib.ListN.{length, take, drop, length-drop}
 use Rattle.words.specs.Word.{pick, wordAt}
 use Rattle.words.specs.Stream.{startsWithMagic}
-use Rattle.words.proofs.Tests.{on-pick}
 use Rattle.format.specs.declared.Format.{Format}
 use Rattle.format.specs.Limits.{longestArchive}
 use Rattle.format.specs.Header.{archiveNumber, extentOf}
@@ -18,26 +16,16 @@ use Rattle.records.specs.Effect.{effectOf}
 use Rattle.effects.specs.Models.Bounds.{EffectFits}
 use Rattle.records.specs.declared.Report.{Report}
 use Rattle.records.specs.declared.Content.{Content}
-use Rattle.records.specs.declared.Content.the-variants.{Refused, Report as ReportRead}
+use Rattle.records.specs.declared.Content.the-variants.{Refused, Magic, ProviderInfo, Section, ProviderEvent, Initialization, String, Thread, Report as ReportRead, Ignored, Skipped}
 use Rattle.records.specs.Record.{contentOf, recordOf, recordAt}
-use Rattle.records.specs.Models.Bounds.{ReportInside}
-use Rattle.tables.specs.Table.{tableWords, resolved, lookedUp}
-use Rattle.format.specs.declared.Reference.{Reference}
+use Rattle.records.specs.Models.Bounds.{ReportInside, ContentInside}
+use Rattle.tables.specs.Table.{tableWords, lookedUp}
 use Rattle.records.specs.Lookups.{argumentLookups, argumentsTo, reportLookups}
-use Rattle.arguments.specs.declared.Argument.{Argument}
-use Rattle.arguments.specs.declared.Argued.{Argued}
-use Rattle.arguments.specs.declared.Argued.the-variants.{Refused as ArgumentRefused, Argument as ArgumentRead}
-use Rattle.arguments.specs.Argument.{argumentOf, onArgued, textIn, argumentsOf, argumentsRead, walked, Arguments, refused, arguments, prepend}
-use Rattle.arguments.specs.Models.Reading.{textsOf, listed}
-use Rattle.arguments.specs.declared.Texts.{Texts}
-use Rattle.arguments.specs.declared.Texts.the-variants.{Refused as TextsRefused, Texts as TextsRead}
-use Rattle.reader.specs.declared.Searched.{Searched}
-use Rattle.reader.specs.declared.Searched.the-variants.{Refused as SearchRefused, End as SearchEnd}
-use Rattle.reader.specs.Models.Seen.{searchedOf, seenFound, seenOf, seenReply}
-use Rattle.reader.specs.Shown.{isBad, noneBad, shownReport}
+use Rattle.views.specs.Models.Seen.{seenFound, seenOf}
+use Rattle.reader.specs.Models.Replies.{seenReply}
+use Rattle.views.specs.Shown.{isBad, noneBad, shownReport}
 use Rattle.reader.specs.Step.{openingNumber, Decision, stopping, reportAnswer, plainAnswer, effectDecision, contentDecision, replyOf}
-use Rattle.reader.proofs.Lookups.{record-fits, ContentFits, content-fits, record-whole}
-use Rattle.arguments.specs.declared.Walked.the-variants.{Refused as WalkRefused, End as WalkEnd}
+use Rattle.views.proofs.Lookups.{ContentFits, content-fits, record-whole}
 use Rattle.contexts.specs.declared.State.{State}
 use Rattle.contexts.specs.Context.{providerOf}
 use Rattle.effects.specs.declared.Change.the-variants.{Keep}
@@ -47,9 +35,9 @@ use Rattle.records.specs.declared.Lookup.{Lookup}
 use Rattle.records.specs.Layout.{layoutOf, reportOf}
 use Rattle.records.proofs.Passes.{RecordNumber}
 use Rattle.records.proofs.Layouts.{on-report-read}
-use Rattle.records.proofs.Lookups.{AllRead, read-listed, plain-content}
-use Rattle.reader.specs.declared.Seen.{Seen}
-use Rattle.reader.specs.declared.Seen.the-variants.{Refused as SeenRefused, Report as ReportSeen}
+use Rattle.records.proofs.Lookups.{plain-content}
+use Rattle.views.specs.declared.Seen.{Seen}
+use Rattle.views.specs.declared.Seen.the-variants.{Refused as SeenRefused, Report as ReportSeen}
 use lib.Seq.{length-take-le}
 use Rattle.format.specs.declared.Extent.the-variants.{Refused as ExtentRefused, Bytes}
 use Rattle.format.proofs.Headers.{extent-read}
@@ -71,77 +59,31 @@ admitted f archive room = go (ltb longestArchive (length archive)) refl (startsW
         record { short = ltb-false longestArchive (length archive) e; enough = ltb-false room (tableWords f) k }
     go false e false few k z = absurd (omega arith)
 
--- ---- the walk over arguments whose entries are looked up
+-- ---- what stands at a place
 
--- a walk in which entries before were found, or not
-abbrev pub keeping : Bool → Searched → Searched
-keeping before (SearchRefused number) = SearchRefused number
-keeping before (SearchEnd at found) = SearchEnd at (pick before found false)
+-- what a record registers has an index of its table
+pub index-fits : (f : Format) (source : List ℕ) (place : ℕ) (c : Content) → ContentFits f source place c → EffectFits f (effectOf c)
+unfolding effectOf
+index-fits f source place (Refused number) h = tt
+index-fits f source place Magic h = tt
+index-fits f source place (ProviderInfo id at long) h = tt
+index-fits f source place (Section id) h = tt
+index-fits f source place (ProviderEvent id event) h = tt
+index-fits f source place (Initialization rate) h = tt
+index-fits f source place (String index at long) h = h .1
+index-fits f source place (Thread index at) h = h .1
+index-fits f source place (ReportRead r) h = tt
+index-fits f source place Ignored h = tt
+index-fits f source place (Skipped type size) h = tt
 
--- where they were, it is as it is
-pub keeping-found : (x : Searched) → keeping true x ≡ x
-keeping-found (SearchRefused number) = refl
-keeping-found (SearchEnd at found) = refl
-
--- at the end of a walk it is what was found before
-pub keeping-end : (found : Bool) (at : ℕ) → keeping found (SearchEnd at true) ≡ SearchEnd at found
-keeping-end true at = refl
-keeping-end false at = refl
-
--- the entries of one more argument, its name's and its value's, are found or not
-pub keeping-turn : (was name value : Bool) (x : Searched)
-    → keeping was (keeping (pick name false (pick value false true)) x) ≡ keeping (pick value false (pick name false was)) x
-keeping-turn was name value (SearchRefused number) = refl
-keeping-turn true true value (SearchEnd at found) = on-pick (λ b. SearchEnd at false ≡ SearchEnd at (pick b found false)) value _ _ (λ e. refl) (λ e. refl)
-keeping-turn false true value (SearchEnd at found) = on-pick (λ b. SearchEnd at false ≡ SearchEnd at (pick b found false)) value _ _ (λ e. refl) (λ e. refl)
-keeping-turn true false true (SearchEnd at found) = refl
-keeping-turn false false true (SearchEnd at found) = refl
-keeping-turn was false false (SearchEnd at found) = refl
-
--- a mark that is taken away where an entry is bad, and stays where it is not
-pub marked : {A B : Type 0} {bad now was : Bool} → (A → bad ≡ true) → (B → bad ≡ false) → (A × (now ≡ false)) ⊎ (B × (now ≡ was))
-    → now ≡ pick bad false was
-marked t e (inl p) = rw (t (p .0)) (p .1)
-marked t e (inr p) = rw (e (p .0)) (p .1)
-
--- what is made of an argument's texts, or of the number that it is refused by
-abbrev pub onTextsRead : {A : Type 0} → Texts → (ℕ → A) → (Reference → Reference → ℕ → A) → A
-onTextsRead (TextsRefused number) refuse then = refuse number
-onTextsRead (TextsRead name value size) refuse then = then name value size
-
--- one turn of the walk
-pub search-turn : (f : Format) (archive tables : List ℕ) (context until n : ℕ) (rest : List ℕ) (place : ℕ) → 0 < n
-    → searchedOf f archive tables context until (argumentsOf f n rest place)
-    ≡ onTextsRead (textsOf f rest place) SearchRefused
-    (λ name value size.
-    keeping (pick (isBad (resolved f archive tables context 2 until name)) false (pick (isBad (resolved f archive tables context 2 until value)) false true))
-    (searchedOf f archive tables context until (argumentsOf f (n - 1) (drop size rest) (place + size))))
-unfolding argumentsOf textsOf searchedOf noneBad
-search-turn f archive tables context until zero rest place h = absurd (omega arith)
-search-turn f archive tables context until (suc n) rest place h = let e : suc n - 1 ≡ n = omega arith in rw e (go (argumentOf f rest place))
-  where
-    bad : Reference → Bool
-    bad r = isBad (resolved f archive tables context 2 until r)
-
-    first : (a : Argument) (x : Arguments) → searchedOf f archive tables context until (prepend a x)
-        ≡ keeping (pick (bad (a .name)) false (pick (bad (textIn (a .value))) false true)) (searchedOf f archive tables context until x)
-    first a (refused number) = refl
-    first a (arguments l next) = split (bad (a .name)) (bad (textIn (a .value)))
-      where
-        split : (x y : Bool) → SearchEnd next (pick x false (pick y false (noneBad f archive tables context until (argumentLookups l))))
-            ≡ keeping (pick x false (pick y false true)) (SearchEnd next (noneBad f archive tables context until (argumentLookups l)))
-        split true y = refl
-        split false true = refl
-        split false false = refl
-
-    go : (x : Argued)
-        → searchedOf f archive tables context until
-        (onArgued x refused (λ a size. prepend a (argumentsOf f n (drop size rest) (place + size))))
-        ≡ onTextsRead (onArgued x TextsRefused (λ a size. TextsRead (a .name) (textIn (a .value)) size)) SearchRefused
-        (λ name value size.
-        keeping (pick (bad name) false (pick (bad value) false true)) (searchedOf f archive tables context until (argumentsOf f n (drop size rest) (place + size))))
-    go (ArgumentRefused number) = refl
-    go (ArgumentRead a size) = first a (argumentsOf f n (drop size rest) (place + size))
+-- the record at a place of the archive ends inside it, shows places of its own alone, and has an index of its table
+pub record-fits : (f : Format) (archive : List ℕ) (place : ℕ) → place ≤ length archive
+    → (recordAt f archive place .next ≤ length archive)
+    × ContentInside place (recordAt f archive place .next) (recordAt f archive place .content)
+    × EffectFits f (effectOf (recordAt f archive place .content))
+record-fits f archive place h =
+    let r = record-whole f archive place in
+    (r .before h, r .inside, index-fits f _ place (recordAt f archive place .content) (r .holds))
 
 -- an event that is read at a place: where it ends, and that the places it shows stand inside it
 pub report-stands : (f : Format) (archive : List ℕ) (place : ℕ) (e : Report) (next : ℕ) → place ≤ length archive
@@ -153,34 +95,7 @@ pub index-stands : (f : Format) (archive : List ℕ) (place : ℕ) (c : Content)
     → recordAt f archive place ≡ record { content = c; next = next } → EffectFits f (effectOf c)
 index-stands f archive place c next h k = let r = record-fits f archive place h in rw k at (r .2)
 
--- ---- what is seen of a record that refers to texts and threads
-
--- a walk that is refused, and one that comes to its end: whether every entry was found
-pub search-refused : (f : Format) (archive tables : List ℕ) (context until count : ℕ) (rest : List ℕ) (place number : ℕ)
-    → searchedOf f archive tables context until (argumentsOf f count rest place) ≡ SearchRefused number
-    → walked (argumentsOf f count rest place) ≡ WalkRefused number
-unfolding searchedOf
-search-refused f archive tables context until count rest place number = go (argumentsOf f count rest place)
-  where
-    go : (x : Arguments) → searchedOf f archive tables context until x ≡ SearchRefused number → walked x ≡ WalkRefused number
-    go (refused n) e = let z : n ≡ number = cc in rw z
-    go (arguments l next) e = let z : _≡_ {A = ℕ} 0 1 = cc in absurd (omega arith)
-
-pub search-ended : (f : Format) (archive tables : List ℕ) (context until count : ℕ) (rest : List ℕ) (place at : ℕ) (found : Bool)
-    → searchedOf f archive tables context until (argumentsOf f count rest place) ≡ SearchEnd at found
-    → (walked (argumentsOf f count rest place) ≡ WalkEnd at)
-    × (found ≡ noneBad f archive tables context until (argumentLookups (argumentsRead f count rest place)))
-unfolding searchedOf
-search-ended f archive tables context until count rest place at found = go (argumentsOf f count rest place) (read-listed f count rest place)
-  where
-    go : (x : Arguments) → (AllRead x → argumentsRead f count rest place ≡ listed x)
-        → searchedOf f archive tables context until x ≡ SearchEnd at found
-        → (walked x ≡ WalkEnd at) × (found ≡ noneBad f archive tables context until (argumentLookups (argumentsRead f count rest place)))
-    go (refused n) read e = let z : _≡_ {A = ℕ} 0 1 = cc in absurd (omega arith)
-    go (arguments l next) read e =
-        let z : next ≡ at = cc in
-        let same : noneBad f archive tables context until (argumentLookups l) ≡ found = cc in
-        (rw z, rw (read tt) (sym same))
+-- ---- the reply to what is seen of a record
 
 -- looking three references up before others
 three-found : (f : Format) (archive tables : List ℕ) (context until : ℕ) (a b c : Lookup) (more : List Lookup)
@@ -254,12 +169,6 @@ plain-decides f archive tables s source next h k = rw (
 )
 
 -- ---- the record at a place
-
--- a record that is laid out so is read so
-pub report-content : (f : Format) (source : List ℕ) (place : ℕ) → layoutOf (wordAt (f .order) source 0) .read ≡ true
-    → contentOf f source place ≡ reportOf f source place
-unfolding contentOf
-report-content f source place k = rw k
 
 -- the bytes of a record that has an extent
 pub record SourceHere (f : Format) (archive : List ℕ) (place size : ℕ) : Type 0 where

@@ -15,7 +15,7 @@ use Rattle.contexts.specs.Context.{belongsTo}
 use Rattle.tables.specs.Table.{resolved}
 use Rattle.reader.specs.declared.Asked.{Asked}
 use Rattle.reader.specs.declared.Asked.the-variants.{Refused, Argument as ArgumentShown}
-use Rattle.reader.specs.Shown.{shownText, shownValue, noneBad}
+use Rattle.views.specs.Shown.{shownText, shownValue, noneBad}
 use Rattle.reader.specs.Step.{openingNumber}
 
 -- an argument as it is shown in a context at a place: "the entries looked up are that argument's"

@@ -1,4 +1,3 @@
-pub mod Shown
 pub mod Step
 pub mod Ask
 pub mod Reads

@@ -1,3 +1,1 @@
-pub mod Asked
-pub mod Bounds
-pub mod Seen
+pub mod Replies

@@ -9,15 +9,15 @@ use Rattle.words.specs.Word.{unsigned, bit}
 use Rattle.arguments.specs.Argument.{scalarType}
 use Rattle.contexts.specs.declared.Provider.{Provider}
 use Rattle.contexts.specs.declared.Provider.the-variants.{None, Id}
-use Rattle.reader.specs.declared.ShownText.{ShownText}
-use Rattle.reader.specs.declared.ShownText.the-variants.{At, Unresolved}
-use Rattle.reader.specs.declared.ShownThread.{ShownThread}
-use Rattle.reader.specs.declared.ShownThread.the-variants.{Words, Unresolved as ThreadUnresolved}
-use Rattle.reader.specs.declared.ShownReport.{ShownReport}
-use Rattle.reader.specs.declared.ShownReferent.{ShownReferent}
-use Rattle.reader.specs.declared.ShownReferent.the-variants.{Text as TextReferent, Thread as ThreadReferent}
-use Rattle.reader.specs.declared.ShownValue.{ShownValue}
-use Rattle.reader.specs.declared.ShownValue.the-variants.{Scalar as ScalarShown, Text as TextShown}
+use Rattle.views.specs.declared.ShownText.{ShownText}
+use Rattle.views.specs.declared.ShownText.the-variants.{At, Unresolved}
+use Rattle.views.specs.declared.ShownThread.{ShownThread}
+use Rattle.views.specs.declared.ShownThread.the-variants.{Words, Unresolved as ThreadUnresolved}
+use Rattle.views.specs.declared.ShownReport.{ShownReport}
+use Rattle.views.specs.declared.ShownReferent.{ShownReferent}
+use Rattle.views.specs.declared.ShownReferent.the-variants.{Text as TextReferent, Thread as ThreadReferent}
+use Rattle.views.specs.declared.ShownValue.{ShownValue}
+use Rattle.views.specs.declared.ShownValue.the-variants.{Scalar as ScalarShown, Text as TextShown}
 use Rattle.reader.specs.declared.Asked.{Asked}
 use Rattle.reader.specs.declared.Asked.the-variants.{Refused, Argument as ArgumentShown}
 use Rattle.reader.specs.declared.Answer.{Answer}

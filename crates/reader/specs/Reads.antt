@@ -13,17 +13,17 @@ use Rattle.contexts.specs.declared.Provider.{Provider}
 use Rattle.contexts.specs.declared.Provider.the-variants.{None, Id}
 use Rattle.contexts.specs.Context.{opening}
 use Rattle.tables.specs.Table.{tableWords}
-use Rattle.reader.specs.declared.ShownStream.{ShownStream}
-use Rattle.reader.specs.declared.ShownText.{ShownText}
-use Rattle.reader.specs.declared.ShownText.the-variants.{At, Unresolved}
-use Rattle.reader.specs.declared.ShownThread.{ShownThread}
-use Rattle.reader.specs.declared.ShownThread.the-variants.{Words, Unresolved as ThreadUnresolved}
-use Rattle.reader.specs.declared.ShownReferent.{ShownReferent}
-use Rattle.reader.specs.declared.ShownReferent.the-variants.{Text as TextReferentShown, Thread as ThreadShown}
-use Rattle.reader.specs.declared.ShownReport.{ShownReport}
-use Rattle.reader.specs.declared.ShownValue.{ShownValue}
-use Rattle.reader.specs.declared.ShownValue.the-variants.{Scalar as ScalarShown, Text as TextValue}
-use Rattle.reader.specs.declared.ShownArgument.{ShownArgument}
+use Rattle.views.specs.declared.ShownStream.{ShownStream}
+use Rattle.views.specs.declared.ShownText.{ShownText}
+use Rattle.views.specs.declared.ShownText.the-variants.{At, Unresolved}
+use Rattle.views.specs.declared.ShownThread.{ShownThread}
+use Rattle.views.specs.declared.ShownThread.the-variants.{Words, Unresolved as ThreadUnresolved}
+use Rattle.views.specs.declared.ShownReferent.{ShownReferent}
+use Rattle.views.specs.declared.ShownReferent.the-variants.{Text as TextReferentShown, Thread as ThreadShown}
+use Rattle.views.specs.declared.ShownReport.{ShownReport}
+use Rattle.views.specs.declared.ShownValue.{ShownValue}
+use Rattle.views.specs.declared.ShownValue.the-variants.{Scalar as ScalarShown, Text as TextValue}
+use Rattle.views.specs.declared.ShownArgument.{ShownArgument}
 use Rattle.reader.specs.declared.Asked.{Asked}
 use Rattle.reader.specs.declared.Asked.the-variants.{Refused, Argument as ArgumentShown}
 use Rattle.reader.specs.declared.Answer.{Answer}

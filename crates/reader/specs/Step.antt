@@ -22,7 +22,7 @@ use Rattle.effects.specs.Follow.{followed, changeOf, changed}
 use Rattle.reader.specs.declared.Answer.{Answer}
 use Rattle.reader.specs.declared.Answer.the-variants.{End, Nothing, Magic as MagicShown, ProviderInfo as ProviderInfoShown, Section as SectionShown, ProviderEvent as ProviderEventShown, Initialization as InitializationShown, Report as ReportShown, Skipped as SkippedShown}
 use Rattle.reader.specs.declared.Reply.{Reply}
-use Rattle.reader.specs.Shown.{noneBad, shownReport}
+use Rattle.views.specs.Shown.{noneBad, shownReport}
 
 -- "checks 2, 1, 3": the number that archive and tables are refused by, or 0.
 unfoldable pub openingNumber : Format → List ℕ → ℕ → ℕ

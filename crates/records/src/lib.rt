@@ -1,17 +1,13 @@
-// One record apart from any table and context: what stands in it, and whether repacking would lose something of it.
+// One record apart from any table and context: how it is laid out, and what stands in it.
 ghost use mathlib.Core.Path.{_≡_};
 ghost use Prim.Native.Nat.{_+_, _-_, _*_, _^_, _<_, _≤_};
 ghost use lib.ListN.{length};
 ghost use Rattle.words.specs.Word.{wordAt};
 ghost use Rattle.format.specs.Models.Bounds.{PartFits};
-ghost use Rattle.words.specs.Stream.{streamWords};
 ghost use Rattle.records.specs.Layout.{hasExtra, extraWords, isEvent, layoutOf, ownOf, takeFields, lastWord, lookupOf, reportRead, reportOf};
 ghost use Rattle.records.specs.Models.Layouts.{LayoutFits, takePair};
 ghost use Rattle.records.specs.Record.{providerInfoOf, metadataOf, initializationOf, stringOf, threadOf, contentOf, recordAt};
-ghost use Rattle.records.specs.Effect.{effectOf};
 ghost use Rattle.records.specs.Item.{ownLayout};
-ghost use Rattle.records.specs.Loss.{wordsKeep, streamKeeps, reportKeeps, recordKeeps};
-ghost use Rattle.records.specs.Models.Bounds.{ReportInside, ContentInside};
 use arguments::Walked;
 use format::CUT;
 use format::Extent;
@@ -580,46 +576,6 @@ pub fn own_behind(own: Event) -> usize
     extra_words(own.variant as u64)
 }
 
-// What a record does to the state and the tables.
-pub fn effect_of(content: Content) -> Effect
-    ensures { λ r. ⌜ r ≡ effectOf content ⌝ }
-{
-    match content {
-        Content::Refused(number) => Effect::Stop(number),
-        Content::ProviderInfo {
-            id,
-            place: _,
-            length: _,
-        } => Effect::Enter { id },
-        Content::Section { id } => Effect::Enter { id },
-        Content::Initialization { rate } => Effect::SetRate { rate },
-        Content::String {
-            index,
-            place,
-            length,
-        } => Effect::Register {
-            table: 2,
-            index,
-            place,
-            length,
-        },
-        Content::Thread { index, place } => Effect::Register {
-            table: 3,
-            index,
-            place,
-            length: 16,
-        },
-        Content::Magic => Effect::Pass,
-        Content::ProviderEvent { id: _, event: _ } => Effect::Pass,
-        Content::Report(_) => Effect::Pass,
-        Content::Ignored => Effect::Pass,
-        Content::Skipped {
-            record_type: _,
-            size: _,
-        } => Effect::Pass,
-    }
-}
-
 // The record at a place of the archive.
 pub fn record_at(f: Format, archive: &[u8], place: usize) -> Record
     requires { ⌜ length (now archive) < 2 ^ 62 ⌝ }
@@ -642,114 +598,5 @@ pub fn record_at(f: Format, archive: &[u8], place: usize) -> Record
             content: content_of(f, &rest[..size], place),
             next: place + size,
         },
-    }
-}
-
-// Whether a record of so many words and with these reserved bits loses nothing.
-fn words_keep(source: &[u8], size: usize, reserved: u64) -> bool
-    requires { ⌜ size ≤ 2 ^ 60 ⌝ }
-    ensures { λ r. ⌜ r ≡ wordsKeep (now (source .entry)) size reserved ⌝ }
-{
-    if source.len() != 8 * size {
-        return false;
-    }
-    reserved == 0
-}
-
-// Whether a record that is a header and a stream, with these reserved bits, loses nothing.
-fn stream_keeps(source: &[u8], place: usize, at: usize, long: usize, reserved: u64) -> bool
-    requires { ⌜ (place + length (now source) < 2 ^ 63) × (place ≤ at) × (at + 8 * streamWords long ≤ place + length (now source)) ⌝ }
-    ensures { λ r. ⌜ r ≡ streamKeeps (now (source .entry)) place at long reserved ⌝ }
-{
-    if words_keep(source, 1 + words::stream_words(long), reserved) {
-        return format::padding_zero(
-            source,
-            place,
-            Reference::Inline {
-                place: at,
-                length: long,
-            },
-        );
-    }
-    false
-}
-
-// Whether a record that refers to texts and threads loses nothing.
-fn report_keeps(f: Format, source: &[u8], place: usize, report: Report) -> bool
-    requires { ⌜ (8 ≤ length (now source)) × (place + length (now source) < 2 ^ 63) × ReportInside place (place + length (now source)) report ⌝ }
-    ensures { λ r. ⌜ r ≡ reportKeeps f (now (source .entry)) place report ⌝ }
-{
-    let order = f.order;
-    let layout = layout_of(words::word(order, source, 0));
-    if layout.reserved != 0 {
-        return false;
-    }
-    let first = report.first;
-    let one = first.reference;
-    if format::padding_zero(source, place, one) {
-        let second = report.second;
-        let two = second.reference;
-        if format::padding_zero(source, place, two) {
-            let third = report.third;
-            let three = third.reference;
-            if format::padding_zero(source, place, three) {
-                let stream = report.stream;
-                if format::padding_zero(source, place, stream) {
-                    let at = report.arguments;
-                    let from = at - place;
-                    let behind = 8 * layout.behind;
-                    return arguments::arguments_keep(f, &source[from..], at, report.count, behind);
-                }
-                return false;
-            }
-            return false;
-        }
-        return false;
-    }
-    false
-}
-
-// Whether a record in which this was read loses nothing when it is repacked.
-pub fn record_keeps(f: Format, source: &[u8], place: usize, content: Content) -> bool
-    requires { ⌜ (8 ≤ length (now source)) × (place + length (now source) < 2 ^ 62) × ContentInside place (place + length (now source)) content ⌝ }
-    ensures { λ r. ⌜ r ≡ recordKeeps f (now (source .entry)) place content ⌝ }
-{
-    let order = f.order;
-    let header = words::word(order, source, 0);
-    match content {
-        Content::Refused(_) => false,
-        Content::Magic => true,
-        Content::ProviderInfo {
-            id: _,
-            place: at,
-            length: long,
-        } => stream_keeps(source, place, at, long, words::field(header, 60, 63)),
-        Content::Section { id: _ } => words_keep(source, 1, words::field(header, 52, 63)),
-        Content::ProviderEvent { id: _, event: _ } => {
-            words_keep(source, 1, words::field(header, 56, 63))
-        }
-        Content::Initialization { rate: _ } => {
-            words_keep(source, 2, words::field(header, 16, 63))
-        }
-        Content::String {
-            index: _,
-            place: at,
-            length: long,
-        } => stream_keeps(
-            source,
-            place,
-            at,
-            long,
-            words::field(header, 31, 31) + words::field(header, 47, 63),
-        ),
-        Content::Thread { index: _, place: _ } => {
-            words_keep(source, 3, words::field(header, 24, 63))
-        }
-        Content::Report(report) => report_keeps(f, source, place, report),
-        Content::Ignored => true,
-        Content::Skipped {
-            record_type: _,
-            size: _,
-        } => false,
     }
 }

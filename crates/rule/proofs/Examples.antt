@@ -28,7 +28,7 @@ use Rattle.records.specs.Item.{known, Thread, thread, scalar, textReferent, thr
 use Rattle.contexts.specs.Context.{opening, belongsTo, providerOf}
 use Rattle.tables.specs.Table.{tableWords, highestOf, position, registrationOf, entryAt, resolved}
 use Rattle.reader.specs.declared.Answer.the-variants.{End}
-use Rattle.reader.specs.Shown.{isBad, shownText, shownThread, shownReferent, shownStream, shownReport, shownValue, noneBad}
+use Rattle.views.specs.Shown.{isBad, shownText, shownThread, shownReferent, shownStream, shownReport, shownValue, noneBad}
 use Rattle.reader.specs.Step.{openingNumber, stopping, contentDecision, placeDecision, decisionOf, openReply, reportAnswer, plainAnswer, effectDecision}
 use Rattle.reader.specs.Ask.{shownArgument, askedReport, askedPlace, argumentReply}
 use Rattle.reader.specs.Reads.{argumentItems, itemOf}

@@ -42,18 +42,18 @@ use Rattle.contexts.specs.Context.{moved, entering}
 use Rattle.tables.specs.declared.Resolved.{Resolved}
 use Rattle.tables.specs.declared.Resolved.the-variants.{Bad, Known, Unresolved}
 use Rattle.tables.specs.Table.{highestOf, position, registrationOf, onRegistration, entryAt, resolved}
-use Rattle.reader.specs.declared.ShownArgument.{ShownArgument}
+use Rattle.views.specs.declared.ShownArgument.{ShownArgument}
 use Rattle.reader.specs.declared.Asked.the-variants.{Refused, Argument as ArgumentShown}
 use Rattle.reader.specs.declared.Answer.{Answer}
 use Rattle.reader.specs.declared.Answer.the-variants.{ProviderInfo as ProviderInfoShown, Section as SectionShown, Report as ReportShown}
 use Rattle.effects.specs.declared.Change.the-variants.{Keep}
 use Rattle.reader.specs.Step.{Decision}
-use Rattle.reader.specs.Shown.{shownText, shownThread, shownValue, shownReport, shownReferent, shownStream, noneBad}
+use Rattle.views.specs.Shown.{shownText, shownThread, shownValue, shownReport, shownReferent, shownStream, noneBad}
 use Rattle.reader.specs.Step.{openingNumber, stopping, contentDecision, decisionOf, effectDecision, plainAnswer}
 use Rattle.reader.specs.Ask.{shownArgument, argumentReply}
 use Rattle.reader.specs.Reads.{textItem, threadItem, providerItem, valueItem, argumentItem, prepend, argumentItems, reportItem, itemOf, referentItem, streamItem}
 use Rattle.reader.proofs.ByItems.{contextsOf}
-use Rattle.reader.proofs.Lookups.{record-whole, ReportFits, report-fits, part-behind}
+use Rattle.views.proofs.Lookups.{record-whole, ReportFits, report-fits, part-behind}
 use Rattle.reader.proofs.Runs.{Sound, step-sound}
 use Rattle.records.specs.Lookups.{argumentLookups}
 use Rattle.records.specs.Effect.{effectOf}

@@ -35,10 +35,10 @@ use Rattle.contexts.proofs.Contexts.{entered-belongs}
 use Rattle.tables.specs.Table.{resolved}
 use Rattle.reader.specs.declared.Answer.{Answer}
 use Rattle.reader.specs.declared.Answer.the-variants.{ProviderInfo as ProviderInfoShown, Section as SectionShown, Report as ReportShown}
-use Rattle.reader.specs.declared.ShownReport.{ShownReport}
-use Rattle.reader.proofs.Lookups.{report-fits}
+use Rattle.views.specs.declared.ShownReport.{ShownReport}
+use Rattle.views.proofs.Lookups.{report-fits}
 use Rattle.reader.specs.Step.{Decision}
-use Rattle.reader.specs.Shown.{shownReport, noneBad}
+use Rattle.views.specs.Shown.{shownReport, noneBad}
 use Rattle.reader.specs.Step.{openingNumber, stopping, contentDecision, placeDecision, decisionOf, effectDecision, plainAnswer, reportAnswer}
 use Rattle.reader.specs.Reads.{providerItem, itemOf, argumentItems}
 use Rattle.reader.proofs.ByItems.{contextsOf}

@@ -49,10 +49,10 @@ use Rattle.tables.proofs.Tables.{position-lt}
 use Rattle.reader.specs.declared.Answer.{Answer}
 use Rattle.reader.specs.declared.Answer.the-variants.{ProviderInfo as ProviderInfoShown, Section as SectionShown, Report as ReportShown, Nothing}
 use Rattle.reader.specs.Step.{Decision}
-use Rattle.reader.specs.Shown.{shownReferent, shownStream, shownReport, noneBad}
+use Rattle.views.specs.Shown.{shownReferent, shownStream, shownReport, noneBad}
 use Rattle.reader.specs.Step.{openingNumber, stopping, contentDecision, placeDecision, decisionOf, stepReply, stepTables, effectDecision, reportAnswer, plainAnswer}
 use Rattle.reader.specs.Reads.{referentItem, streamItem, argumentItems, reportItem, itemOf, Reads, ends, passes, shows, ReadsAs}
-use Rattle.reader.proofs.Lookups.{ContentFits, content-fits, ReportFits, record-whole, part-behind}
+use Rattle.views.proofs.Lookups.{ContentFits, content-fits, ReportFits, record-whole, part-behind}
 use Rattle.reader.proofs.Changes.{IsTable, on-entering, enteringAs, registering, showing, stop-decided, entering-decided}
 use Rattle.reader.proofs.Runs.{Sound, fresh-sound, step-sound}
 use Rattle.records.specs.Effect.{effectOf}

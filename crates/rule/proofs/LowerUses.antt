@@ -45,11 +45,11 @@ use Rattle.tables.specs.Table.{highestOf, position, registrationOf, resolved}
 use Rattle.tables.proofs.Tables.{position-lt, position-apart, resolved-known}
 use Rattle.reader.specs.declared.Asked.{Asked}
 use Rattle.reader.specs.declared.Asked.the-variants.{Refused as AskRefused, Argument as ArgumentShown}
-use Rattle.reader.specs.Shown.{shownText, shownThread, shownValue, shownReferent, noneBad}
+use Rattle.views.specs.Shown.{shownText, shownThread, shownValue, shownReferent, noneBad}
 use Rattle.reader.specs.Step.{openingNumber}
 use Rattle.reader.specs.Ask.{shownArgument, askedReport, askedPlace, argumentReply}
 use Rattle.reader.specs.Reads.{textItem, threadItem, providerItem, valueItem, argumentItem, prepend as prependItem, argumentItems, referentItem}
-use Rattle.reader.proofs.Lookups.{LookupFits}
+use Rattle.views.proofs.Lookups.{LookupFits}
 use Rattle.records.proofs.Passes.{ThreadReference}
 use Rattle.reader.proofs.Changes.{IsTable}
 use Rattle.reader.proofs.Runs.{Sound}

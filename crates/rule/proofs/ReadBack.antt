@@ -33,7 +33,7 @@ use Rattle.reader.proofs.ByItems.{contextsOf, after, afterShown, contexts-by-it
 use Rattle.reader.proofs.Runs.{Sound, Grown, fresh-sound, step-sound, step-grows}
 use Rattle.format.specs.Limits.{longestArchive}
 use Rattle.format.specs.Header.{archiveNumber}
-use Rattle.reader.specs.Shown.{noneBad}
+use Rattle.views.specs.Shown.{noneBad}
 use Rattle.records.specs.Effect.{effectOf}
 use Rattle.rule.specs.Rule.{usesAll, Entry, indexIn, nextIndex, keyRecord, isNew, withUse, entriesAfter, registrations, recordsFrom, chosenIn, rule}
 use Rattle.rule.specs.Refusal.{keepsAt, runFrom, runOf, lossRefusal}

@@ -25,7 +25,7 @@ use Rattle.encoding.proofs.EncodedArguments.{TextFits, ValueFits, SpellsValue}
 use Rattle.encoding.proofs.EncodedLayouts.{ThreadFits, ReferentFits}
 use Rattle.contexts.specs.declared.State.{State}
 use Rattle.tables.specs.Table.{resolved}
-use Rattle.reader.specs.Shown.{shownText, shownThread, shownValue, shownReferent, shownStream}
+use Rattle.views.specs.Shown.{shownText, shownThread, shownValue, shownReferent, shownStream}
 use Rattle.reader.specs.Reads.{textItem, threadItem, valueItem, referentItem, streamItem}
 use Rattle.reader.proofs.Runs.{Sound}
 use Rattle.rule.specs.Rule.{Entry, indexIn}

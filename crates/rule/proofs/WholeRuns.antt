@@ -23,11 +23,11 @@ use Rattle.reader.specs.declared.Answer.the-variants.{End, Nothing, Magic, Prov
 use Rattle.reader.specs.Step.{Decision}
 use Rattle.reader.specs.Step.{openingNumber, stopping, contentDecision, placeDecision, decisionOf, stepReply, stepTables, plainAnswer}
 use Rattle.reader.specs.Reads.{itemOf, Reads, ends, passes, shows, ReadsAs}
-use Rattle.reader.proofs.Lookups.{ContentFits, record-whole}
+use Rattle.views.proofs.Lookups.{ContentFits, record-whole}
 use Rattle.reader.proofs.Changes.{on-decision, on-entering, on-report, registering, stop-decided}
 use Rattle.reader.proofs.Runs.{Sound, fresh-sound, step-sound}
 use Rattle.reader.proofs.NeverFour.{report-item}
-use Rattle.reader.specs.Shown.{noneBad}
+use Rattle.views.specs.Shown.{noneBad}
 use Rattle.reader.proofs.Numbers.{step-places}
 use Rattle.records.specs.Effect.{effectOf}
 use Rattle.records.proofs.Passes.{RecordNumber}

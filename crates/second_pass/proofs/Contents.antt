@@ -29,7 +29,7 @@ use lib.ListN.{length, take, drop}
 use Rattle.passes.proofs.Places.{report-stands}
 use mathlib.Core.Logic.{_⊎_, inl, inr}
 use Rattle.records.specs.Lookups.{argumentsTo}
-use Rattle.reader.proofs.Lookups.{report-arguments}
+use Rattle.views.proofs.Lookups.{report-arguments}
 use Rattle.second_pass.proofs.Records.{report-spelled, report-fits}
 use Rattle.second_pass.proofs.Registrations.{report-gives}
 use Rattle.second_pass.proofs.Walks.{shown-count, read-count}

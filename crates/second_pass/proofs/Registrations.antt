@@ -34,7 +34,7 @@ use Rattle.contexts.specs.Context.{providerOf}
 use Rattle.tables.specs.declared.Resolved.{Resolved}
 use Rattle.tables.specs.declared.Resolved.the-variants.{Bad, Known, Unresolved}
 use Rattle.tables.specs.Table.{tableWords, resolved, lookedUp}
-use Rattle.reader.specs.Shown.{shownText, shownThread, shownReferent, shownValue}
+use Rattle.views.specs.Shown.{shownText, shownThread, shownReferent, shownValue}
 use Rattle.reader.specs.Reads.{textItem, threadItem, referentItem, providerItem, valueItem}
 use Rattle.reader.proofs.Changes.{IsTable}
 use Rattle.rule.specs.Rule.{Entry, nextIndex, isNew, useBytes, chosenIn}

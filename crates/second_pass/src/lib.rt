@@ -17,7 +17,7 @@ ghost use Rattle.records.specs.Record.{recordAt};
 ghost use Rattle.records.specs.Item.{ownLayout, lastWords};
 ghost use Rattle.records.specs.Lookups.{argumentLookups, reportLookups};
 ghost use Rattle.tables.specs.Table.{tableWords};
-ghost use Rattle.reader.specs.Shown.{shownStream};
+ghost use Rattle.views.specs.Shown.{shownStream};
 ghost use Rattle.reader.specs.Reads.{streamItem};
 ghost use Rattle.rule.specs.Rule.{rule as ruleOf};
 ghost use Rattle.rule.specs.Refusal.{runOf, itemsOf};
@@ -322,7 +322,7 @@ fn put_argument(
     let named = spell(f, archive, room, context, until, name);
     let bytes = reader::text(archive, named.place, named.long);
     match value {
-        Value::Scalar(scalar) => encoding::put_scalar_argument(
+        Value::Scalar(scalar) => argument_encoding::put_scalar_argument(
             f,
             out,
             at,
@@ -337,7 +337,15 @@ fn put_argument(
             };
             let held = spell(f, archive, room, context, until, text);
             let content = reader::text(archive, held.place, held.long);
-            encoding::put_text_argument(f, out, at, named.index, bytes, held.index, content)
+            argument_encoding::put_text_argument(
+                f,
+                out,
+                at,
+                named.index,
+                bytes,
+                held.index,
+                content,
+            )
         }
     }
 }

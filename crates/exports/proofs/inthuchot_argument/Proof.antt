@@ -4,7 +4,7 @@ use Rattle.format.specs.Limits.{smallFormat}
 use Rattle.contexts.specs.declared.State.{State}
 use Rattle.reader.specs.declared.Asked.{Asked}
 use Rattle.reader.specs.Ask.{argumentReply}
-use Rattle.exports.specs.Block.{askedNumbers, putNumbers}
+use Rattle.blocks.specs.Block.{askedNumbers, putNumbers}
 use borrow.Author.Needs.{needs}
 use Rattle.exports.proofs.inthuchot_argument.Statement.{statement}
 use Rattle.exports.proofs.inthuchot_argument.Tie as tie

@@ -1,7 +1,7 @@
 -- `inthuchot_open` meets its contract: what `reader::open` answers is put.
 use mathlib.Core.Path.{ap, _∙_}
 use Rattle.reader.specs.declared.Reply.{Reply}
-use Rattle.exports.specs.Block.{replyNumbers, putNumbers}
+use Rattle.blocks.specs.Block.{replyNumbers, putNumbers}
 use borrow.Author.Needs.{needs}
 use Rattle.exports.proofs.inthuchot_open.Statement.{statement}
 use Rattle.exports.proofs.inthuchot_open.Tie as tie

@@ -1,7 +1,8 @@
 -- `inthuchot_repack` meets its contract: what `packer::repack` answers is put.
 use mathlib.Core.Path.{ap, _∙_}
 use Rattle.packer.specs.declared.Packed.{Packed}
-use Rattle.exports.specs.Block.{packedNumbers, putNumbers}
+use Rattle.blocks.specs.Block.{putNumbers}
+use Rattle.exports.specs.Block.{packedNumbers}
 use borrow.Author.Needs.{needs}
 use Rattle.exports.proofs.inthuchot_repack.Statement.{statement}
 use Rattle.exports.proofs.inthuchot_repack.Tie as tie

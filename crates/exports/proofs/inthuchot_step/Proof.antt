@@ -3,7 +3,7 @@ use mathlib.Core.Path.{ap, _∙_}
 use Rattle.format.specs.Limits.{smallFormat}
 use Rattle.reader.specs.declared.Reply.{Reply}
 use Rattle.reader.specs.Step.{stepReply, stepTables}
-use Rattle.exports.specs.Block.{replyNumbers, putNumbers}
+use Rattle.blocks.specs.Block.{replyNumbers, putNumbers}
 use borrow.Author.Needs.{needs}
 use Rattle.exports.proofs.inthuchot_step.Statement.{statement}
 use Rattle.exports.proofs.inthuchot_step.Tie as tie

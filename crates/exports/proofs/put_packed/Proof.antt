@@ -6,7 +6,8 @@ use mathlib.Core.Path.{_∙_}
 use borrow.Author.Tests.{lt-ltb, le-ltb}
 use Rattle.packer.specs.declared.Packed.the-variants.{Refused, Written}
 use Rattle.exports.specs.Block.{packedNumbers}
-use Rattle.exports.proofs.Blocks.{length-packed, put-none, put-all}
+use Rattle.blocks.proofs.Blocks.{put-none, put-all}
+use Rattle.exports.proofs.Blocks.{length-packed}
 use borrow.Author.Needs.{needs}
 use Rattle.exports.proofs.put_packed.Statement.{statement}
 use Rattle.exports.proofs.put_packed.Tie as tie

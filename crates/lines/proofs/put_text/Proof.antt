@@ -8,13 +8,13 @@ returns : tie.Need-returns
 unfolding textShown
 returns c =
     let text′ = c .before .before .before .before .before .before .text in
-    rw (text′ .given .1, ← c .before .before .before .text2 .ensures) (c .before .before .put-text-bytes .ensures)
+    rw (text′ .given .1, ← c .before .before .before .part .ensures) (c .before .before .put-text-bytes .ensures)
 
 returns-2 : tie.Need-returns-2
 unfolding textShown
 returns-2 c =
-    let text3 = c .before .before .before .before .before .text3 in
-    rw (text3 .given .1) (c .before .before .put-unresolved .ensures)
+    let text2 = c .before .before .before .before .before .text2 in
+    rw (text2 .given .1) (c .before .before .put-unresolved .ensures)
 
 pub put-text-spec : {M : Type 1} → statement M
 put-text-spec =

@@ -15,7 +15,7 @@ use Rattle.records.specs.Item.{Text, Argument, Referent, Report, Item, magic, p
 use Rattle.contexts.specs.declared.State.{State}
 use Rattle.contexts.specs.Context.{providerOf}
 use Rattle.tables.specs.Table.{resolved, lookedUp}
-use Rattle.reader.specs.Shown.{shownText, shownReferent, shownStream, shownValue}
+use Rattle.views.specs.Shown.{shownText, shownReferent, shownStream, shownValue}
 use Rattle.reader.specs.Reads.{textItem, referentItem, streamItem, providerItem, valueItem}
 
 -- what a reference of a record stands for in a context

@@ -1,6 +1,6 @@
 -- `reader::show_argument` meets its contract: each answer is what the definition gives under the tests that led there. Assumes nothing.
 use Rattle.tables.specs.Table.{resolved}
-use Rattle.reader.specs.Shown.{noneBad, isBad, shownValue}
+use Rattle.views.specs.Shown.{noneBad, isBad, shownValue}
 use borrow.Author.Needs.{needs}
 use Rattle.reader.proofs.show_argument.Statement.{statement}
 use Rattle.reader.proofs.show_argument.Tie as tie

@@ -1,5 +1,5 @@
 -- `reader::show_seen` meets its contract: each answer is what the definition gives for what was matched. Assumes nothing.
-use Rattle.reader.specs.Models.Seen.{seenReply}
+use Rattle.reader.specs.Models.Replies.{seenReply}
 use Rattle.reader.specs.Step.{stopping}
 use borrow.Author.Needs.{needs}
 use Rattle.reader.proofs.show_seen.Statement.{statement}

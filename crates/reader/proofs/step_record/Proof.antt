@@ -10,7 +10,8 @@ use Rattle.records.specs.declared.Content.{Content}
 use Rattle.records.specs.declared.Record.{Record}
 use Rattle.records.specs.Layout.{layoutOf}
 use Rattle.effects.specs.Follow.{changed}
-use Rattle.reader.proofs.Steps.{report-content, read-replies, plain-decides, index-stands}
+use Rattle.views.proofs.Lookups.{report-content}
+use Rattle.reader.proofs.Steps.{read-replies, plain-decides, index-stands}
 use borrow.Author.Needs.{needs}
 use Rattle.reader.proofs.step_record.Statement.{statement}
 use Rattle.reader.proofs.step_record.Tie as tie

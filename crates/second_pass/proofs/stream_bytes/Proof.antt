@@ -1,5 +1,5 @@
 -- `stream_bytes` meets its contract: an index, which no stream has, stands for no bytes.
-use Rattle.reader.specs.Shown.{shownStream}
+use Rattle.views.specs.Shown.{shownStream}
 use borrow.Author.Needs.{needs}
 use Rattle.second_pass.proofs.stream_bytes.Statement.{statement}
 use Rattle.second_pass.proofs.stream_bytes.Tie as tie

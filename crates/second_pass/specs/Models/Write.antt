@@ -25,7 +25,7 @@ use Rattle.contexts.specs.declared.State.{State}
 use Rattle.tables.specs.declared.Resolved.{Resolved}
 use Rattle.tables.specs.declared.Resolved.the-variants.{Bad, Known, Unresolved}
 use Rattle.tables.specs.Table.{tableWords, lookedUp}
-use Rattle.reader.specs.Shown.{shownStream}
+use Rattle.views.specs.Shown.{shownStream}
 use Rattle.reader.specs.Reads.{streamItem}
 use Rattle.second_pass.specs.declared.Spelled.{Spelled}
 
