@@ -3,9 +3,9 @@
 // inside a case, are said on standard error and stop the program.
 ghost use mathlib.Core.Path.{_≡_};
 ghost use lib.ListN.{length};
+use files::input::Outcome;
 use libc::STDERR_FILENO;
 use libc::STDOUT_FILENO;
-use lines::input::Outcome;
 use lines::put_bytes;
 use lines::put_number;
 use packer::Packed;
@@ -25,7 +25,7 @@ fn fail(sentence: &[u8]) -> bool {
 
 fn read_length(fd: i32) -> Length {
     let mut bytes = [0u8; 8];
-    let outcome = lines::input::read_bytes(fd, &mut bytes, 4);
+    let outcome = files::input::read_bytes(fd, &mut bytes, 4);
     match outcome {
         Outcome::All => Length::Bytes(words::little_word(&bytes, 0) as usize),
         Outcome::End => Length::None,
@@ -73,7 +73,7 @@ fn write_case(out: &[u8], n: usize) -> bool {
     if out.len() <= n {
         return fail(b"corpus: what a case shows is too long\n");
     }
-    if lines::output::write(STDOUT_FILENO, out, n) {
+    if files::output::write(STDOUT_FILENO, out, n) {
         return true;
     }
     fail(b"corpus: standard output could not be written\n")
@@ -82,7 +82,7 @@ fn write_case(out: &[u8], n: usize) -> bool {
 // Shows the next case, whose archive has n bytes, and answers whether the cases go on.
 fn show_case(fd: i32, case: u64, n: usize, room: &mut [u32], out: &mut [u8]) -> bool {
     let mut archive = [0u8; 32768];
-    let outcome = lines::input::read_bytes(fd, &mut archive, n);
+    let outcome = files::input::read_bytes(fd, &mut archive, n);
     match outcome {
         Outcome::All => {
             let last = put_case(out, case, reader::text(&archive, 0, n), room);

@@ -8,6 +8,10 @@ ghost use Rattle.reader.specs.Ask.{argumentReply};
 ghost use Rattle.packer.specs.Pack.{packReply, packRoom, packOutput};
 ghost use Rattle.blocks.specs.Block.{askedNumbers, replyNumbers, givenState, putCount, putNumbers};
 ghost use Rattle.exports.specs.Block.{packedNumbers};
+use blocks::given_state;
+use blocks::put_asked;
+use blocks::put_four;
+use blocks::put_reply;
 use packer::Packed;
 
 // The block of what a repack answers, where the words hold it.
@@ -19,15 +23,8 @@ fn put_packed(out: &mut [u64], packed: Packed) -> u64
         return 0;
     }
     match packed {
-        Packed::Refused { number, place } => blocks::put_four(
-            out,
-            0,
-            1,
-            number as u64,
-            place as u64,
-            0,
-        ),
-        Packed::Written { length } => blocks::put_four(out, 0, 11, length as u64, 0, 0),
+        Packed::Refused { number, place } => put_four(out, 0, 1, number as u64, place as u64, 0),
+        Packed::Written { length } => put_four(out, 0, 11, length as u64, 0, 0),
     }
     4
 }
@@ -40,7 +37,7 @@ pub extern "C" fn inthuchot_open(archive: &[u8], tables: &mut [u32], out: &mut [
     ensures { λ _. ⌜ now (tables .exit) ≡ openTables smallFormat (now (archive .entry)) (now (tables .entry)) ⌝ }
 {
     let opened = reader::open(archive, tables);
-    blocks::put_reply(out, opened)
+    put_reply(out, opened)
 }
 
 // Steps once from the state of twelve numbers, and puts the reply.
@@ -55,9 +52,9 @@ pub extern "C" fn inthuchot_step(
     ensures { λ _. ⌜ now (out .exit) ≡ putNumbers (now (out .entry)) (replyNumbers (stepReply smallFormat (now (archive .entry)) (now (tables .entry)) (givenState (now (numbers .entry))))) ⌝ }
     ensures { λ _. ⌜ now (tables .exit) ≡ stepTables smallFormat (now (archive .entry)) (now (tables .entry)) (givenState (now (numbers .entry))) ⌝ }
 {
-    let start = blocks::given_state(numbers);
+    let start = given_state(numbers);
     let stepped = reader::step(archive, start, tables);
-    blocks::put_reply(out, stepped)
+    put_reply(out, stepped)
 }
 
 // Asks for an argument in the state of twelve numbers, and puts its twenty numbers.
@@ -73,9 +70,9 @@ pub extern "C" fn inthuchot_argument(
     ensures { λ r. ⌜ r ≡ putCount (length (now (out .entry))) 20 ⌝ }
     ensures { λ _. ⌜ now (out .exit) ≡ putNumbers (now (out .entry)) (askedNumbers (argumentReply smallFormat (now (archive .entry)) (now (tables .entry)) (givenState (now (numbers .entry))) event number)) ⌝ }
 {
-    blocks::put_asked(
+    put_asked(
         out,
-        reader::argument(archive, blocks::given_state(numbers), tables, event, number),
+        reader::argument(archive, given_state(numbers), tables, event, number),
     )
 }
 

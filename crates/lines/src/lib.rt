@@ -1,9 +1,5 @@
-// Numbers, texts and references, put into a lent buffer as a line shows them, and the reading and writing of bytes. Each
-// function that puts bytes puts them from a place on and answers the place behind them; what does not fit is left out.
-// Nothing here asks anything of its caller.
-pub mod input;
-pub mod output;
-
+// Numbers, texts and references, put into a lent buffer as a line shows them. Each function puts its bytes from a place on
+// and answers the place behind them; what does not fit is left out. Nothing here asks anything of its caller.
 ghost use mathlib.Core.Path.{_≡_};
 ghost use Prim.Native.Nat.{_-_, _+_, _^_, _<_, _≤_, min};
 ghost use mathlib.Core.List.{_++_};

@@ -2,10 +2,10 @@
 // then nothing else is written.
 ghost use mathlib.Core.Path.{_≡_};
 ghost use lib.ListN.{length};
+use files::input::Input;
 use libc::STDERR_FILENO;
 use libc::STDIN_FILENO;
 use libc::STDOUT_FILENO;
-use lines::input::Input;
 
 // Says why there is no listing.
 fn fail(sentence: &[u8]) {
@@ -18,7 +18,7 @@ fn write_listing(out: &[u8], n: usize) {
         fail(b"listing: the listing is too long\n");
         return;
     }
-    if lines::output::write(STDOUT_FILENO, out, n) {
+    if files::output::write(STDOUT_FILENO, out, n) {
         return;
     }
     fail(b"listing: standard output could not be written\n");
@@ -40,7 +40,7 @@ fn list(input: &[u8]) {
 
 fn main() {
     let mut buffer = [0u8; 32769];
-    let input = lines::input::read(STDIN_FILENO, &mut buffer);
+    let input = files::input::read(STDIN_FILENO, &mut buffer);
     match input {
         Input::Bytes(n) => list(reader::text(&buffer, 0, n)),
         Input::Failed => fail(b"listing: standard input could not be read\n"),

@@ -19,7 +19,7 @@ use Rattle.reader.specs.declared.Answer.the-variants.{End, Nothing, Magic, Prov
 use Rattle.reader.specs.declared.Reply.{Reply}
 use Rattle.reader.specs.Step.{openingNumber, stepReply, stepTables}
 use Rattle.reader.proofs.Behind.{Agree, reply-behind, tables-behind, argument-reply-behind}
-use Rattle.listings.specs.Line.{traceLine}
+use Rattle.item_lines.specs.Line.{traceLine}
 use Rattle.listings.specs.Listing.{argumentLines, answerArguments, stepLines, isEnd, linesFrom, stepsOf, listing}
 
 module _ (f : Format) (archive : List ℕ) where

@@ -25,7 +25,7 @@ use Rattle.views.specs.Shown.{isBad, shownText, shownThread, shownReferent, sho
 use Rattle.reader.specs.Step.{openingNumber, stopping, contentDecision, placeDecision, decisionOf, reportAnswer, plainAnswer, effectDecision}
 use Rattle.reader.specs.Ask.{shownArgument, askedReport, askedPlace, argumentReply}
 use Rattle.lines.specs.Shown.{decimalWithin, decimal, numberShown, signedShown, booleanShown, doubleShown, unresolvedShown, bytesShown, textShown, threadShown, referentShown, providerShown, scalarShown, valueShown, valueType}
-use Rattle.listings.specs.Line.{traceLine, magicLine, timestampShown, eventStart, referentsShown, extraShown, eventShown, reportLine, argumentLine, endLine, answerLine, askedLine, skippedLine}
+use Rattle.item_lines.specs.Line.{traceLine, magicLine, timestampShown, eventStart, referentsShown, extraShown, eventShown, reportLine, argumentLine, endLine, answerLine, askedLine, skippedLine}
 use Rattle.listings.specs.Listing.{argumentLines, answerArguments, stepLines, isEnd, linesFrom, listing}
 
 -- the words of an archive, one after another

@@ -8,7 +8,7 @@ use Rattle.format.specs.declared.Format.{Format}
 use Rattle.contexts.specs.declared.State.{State}
 use Rattle.reader.specs.Step.{stepReply, stepTables}
 use Rattle.reader.specs.Ask.{argumentReply}
-use Rattle.listings.specs.Line.{askedLine}
+use Rattle.item_lines.specs.Line.{askedLine}
 use Rattle.listings.specs.Listing.{argumentLines, stepLines, isEnd, linesFrom, tablesFrom}
 
 module _ (f : Format) (archive : List ℕ) where

@@ -12,7 +12,7 @@ use Rattle.reader.specs.declared.Answer.{Answer}
 use Rattle.reader.specs.declared.Answer.the-variants.{End, Nothing, Magic, ProviderInfo, Section, ProviderEvent, Initialization, Report, Skipped}
 use Rattle.reader.specs.Step.{openReply, openTables, stepReply, stepTables}
 use Rattle.reader.specs.Ask.{argumentReply}
-use Rattle.listings.specs.Line.{traceLine, endLine, answerLine, askedLine}
+use Rattle.item_lines.specs.Line.{traceLine, endLine, answerLine, askedLine}
 
 -- "An event's arguments are those asked for in the state right after it": the lines of so many, from a number on
 unfoldable pub argumentLines : Format → List ℕ → List ℕ → State → ℕ → ℕ → ℕ → List ℕ

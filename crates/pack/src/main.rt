@@ -1,10 +1,10 @@
 // Repacks the trace on standard input to standard output. Where it is refused nothing is written there, and standard
 // error has the refusal. An input of over 32,768 bytes is refused by its length alone. Reading or writing that fails is
 // said on standard error, and then nothing else is written.
+use files::input::Input;
 use libc::STDERR_FILENO;
 use libc::STDIN_FILENO;
 use libc::STDOUT_FILENO;
-use lines::input::Input;
 use packer::Packed;
 
 // Says why there is no repacked trace.
@@ -15,12 +15,12 @@ fn fail(sentence: &[u8]) {
 // The line of a refusal.
 fn refuse(number: u8, place: usize) {
     let mut line = [0u8; 64];
-    let n = listings::put_end(&mut line, 0, number, place);
-    lines::output::write(STDERR_FILENO, &line, n);
+    let n = item_lines::put_end(&mut line, 0, number, place);
+    files::output::write(STDERR_FILENO, &line, n);
 }
 
 fn write_packed(output: &[u8], n: usize) {
-    if lines::output::write(STDOUT_FILENO, output, n) {
+    if files::output::write(STDOUT_FILENO, output, n) {
         return;
     }
     fail(b"pack: standard output could not be written\n");
@@ -42,7 +42,7 @@ fn pack(input: &[u8]) {
 
 fn main() {
     let mut buffer = [0u8; 32769];
-    let input = lines::input::read(STDIN_FILENO, &mut buffer);
+    let input = files::input::read(STDIN_FILENO, &mut buffer);
     match input {
         Input::Bytes(n) => pack(reader::text(&buffer, 0, n)),
         Input::Failed => fail(b"pack: standard input could not be read\n"),

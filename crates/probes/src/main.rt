@@ -5,9 +5,9 @@ ghost use mathlib.Core.Path.{_≡_};
 ghost use Prim.Native.Nat.{_<_};
 ghost use lib.ListN.{length};
 use contexts::State;
+use files::input::Outcome;
 use libc::STDERR_FILENO;
 use libc::STDOUT_FILENO;
-use lines::input::Outcome;
 use lines::put_bytes;
 use lines::put_number;
 use reader::Answer;
@@ -112,7 +112,7 @@ fn put_answer(out: &mut [u8], at: usize, archive: &[u8], answer: Answer) -> usiz
     if let Answer::Nothing = answer {
         return put_bytes(out, at, b"-\n");
     }
-    listings::put_answer(out, at, archive, answer)
+    item_lines::put_answer(out, at, archive, answer)
 }
 
 fn put_step(
@@ -141,13 +141,13 @@ fn put_argument(
     number: usize,
 ) -> usize {
     let asked = reader::argument(archive, state, tables, place, number);
-    listings::put_asked(out, at, archive, asked)
+    item_lines::put_asked(out, at, archive, asked)
 }
 
 // Sets one table entry from the file, and answers whether it could be read.
 fn read_entry(fd: i32, tables: &mut [u32]) -> bool {
     let mut bytes = [0u8; 8];
-    let outcome = lines::input::read_bytes(fd, &mut bytes, 8);
+    let outcome = files::input::read_bytes(fd, &mut bytes, 8);
     let Outcome::All = outcome else {
         return false;
     };
@@ -202,7 +202,7 @@ fn write_call(out: &[u8], n: usize) -> bool {
     if out.len() <= n {
         return fail(b"probes: what a call shows is too long\n");
     }
-    if lines::output::write(STDOUT_FILENO, out, n) {
+    if files::output::write(STDOUT_FILENO, out, n) {
         return true;
     }
     fail(b"probes: standard output could not be written\n")
@@ -219,7 +219,7 @@ fn show_call(
 ) -> bool {
     let length = high_half(word(header, 0)) as usize;
     let mut archive = [0u8; 4096];
-    let outcome = lines::input::read_bytes(fd, &mut archive, length);
+    let outcome = files::input::read_bytes(fd, &mut archive, length);
     let Outcome::All = outcome else {
         return fail(b"probes: probes.bin could not be read to the end of a call\n");
     };
@@ -254,7 +254,7 @@ fn show_probe(fd: i32, probe: u64, header: &[u8; 96], out: &mut [u8]) -> bool {
 // Makes the next call, and answers whether the calls go on.
 fn next_probe(fd: i32, probe: u64, out: &mut [u8]) -> bool {
     let mut header = [0u8; 96];
-    let outcome = lines::input::read_bytes(fd, &mut header, 96);
+    let outcome = files::input::read_bytes(fd, &mut header, 96);
     match outcome {
         Outcome::All => show_probe(fd, probe, &header, out),
         Outcome::End => false,

@@ -2,9 +2,9 @@
 // Both are filled before each call, and a line says the reply and what stands in them after it. In the file each archive
 // stands behind its 32-bit length, at most 256. What an archive shows is written at once. Reading or writing that fails,
 // and a file that ends inside an archive, are said on standard error and stop the program.
+use files::input::Outcome;
 use libc::STDERR_FILENO;
 use libc::STDOUT_FILENO;
-use lines::input::Outcome;
 use lines::put_bytes;
 use lines::put_number;
 use packer::Packed;
@@ -247,7 +247,7 @@ fn write_archive(out: &[u8], n: usize) -> bool {
     if out.len() <= n {
         return fail(b"rooms: what an archive shows is too long\n");
     }
-    if lines::output::write(STDOUT_FILENO, out, n) {
+    if files::output::write(STDOUT_FILENO, out, n) {
         return true;
     }
     fail(b"rooms: standard output could not be written\n")
@@ -257,7 +257,7 @@ fn write_archive(out: &[u8], n: usize) -> bool {
 fn show_archive(fd: i32, n: usize) -> bool {
     let mut archive = [0u8; 256];
     let mut out = [0u8; 8192];
-    let outcome = lines::input::read_bytes(fd, &mut archive, n);
+    let outcome = files::input::read_bytes(fd, &mut archive, n);
     let Outcome::All = outcome else {
         return fail(b"rooms: rooms.bin could not be read to the end of an archive\n");
     };
@@ -268,7 +268,7 @@ fn show_archive(fd: i32, n: usize) -> bool {
 // Shows the next archive, and answers whether the archives go on.
 fn next_archive(fd: i32) -> bool {
     let mut header = [0u8; 8];
-    let outcome = lines::input::read_bytes(fd, &mut header, 4);
+    let outcome = files::input::read_bytes(fd, &mut header, 4);
     match outcome {
         Outcome::All => show_archive(fd, words::little_word(&header, 0) as usize),
         Outcome::End => false,

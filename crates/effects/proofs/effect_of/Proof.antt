@@ -1,4 +1,4 @@
--- `effect_of` meets its contract: each answer is what the definition gives for the content that was matched. Assumes nothing.
+-- `effects::effect_of` meets its contract: each answer is what the definition gives for the content that was matched. Assumes nothing.
 use Rattle.records.specs.Effect.{effectOf}
 use borrow.Author.Needs.{needs}
 use Rattle.effects.proofs.effect_of.Statement.{statement}

@@ -7,7 +7,7 @@ use lib.ListN.{length}
 use Rattle.format.specs.Limits.{smallFormat}
 use Rattle.reader.specs.declared.Reply.{Reply}
 use Rattle.reader.specs.Step.{openReply, openTables}
-use Rattle.listings.specs.Line.{traceLine, answerLine}
+use Rattle.item_lines.specs.Line.{traceLine, answerLine}
 use Rattle.listings.specs.Listing.{isEnd, linesFrom, tablesFrom, stepsOf, listing, listTables}
 use Rattle.lines.proofs.Puts.{_then_, puts-same}
 use borrow.Author.Needs.{needs}

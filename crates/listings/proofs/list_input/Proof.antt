@@ -2,7 +2,7 @@
 use mathlib.Core.Path.{refl}
 use borrow.Author.Tests.{lt-ltb, le-ltb}
 use Rattle.lines.proofs.Puts.{_then_}
-use Rattle.listings.specs.Line.{traceLine}
+use Rattle.item_lines.specs.Line.{traceLine}
 use Rattle.listings.specs.Listing.{inputListing, inputTables}
 use borrow.Author.Needs.{needs}
 use Rattle.listings.proofs.list_input.Statement.{statement}

@@ -5,7 +5,7 @@ use mathlib.Core.List.{List, _++_}
 use Rattle.format.specs.Limits.{smallFormat}
 use Rattle.reader.specs.declared.Reply.{Reply}
 use Rattle.reader.specs.Step.{stepReply}
-use Rattle.listings.specs.Line.{answerLine}
+use Rattle.item_lines.specs.Line.{answerLine}
 use Rattle.listings.specs.Listing.{answerArguments, isEnd, stepLines}
 use Rattle.lines.proofs.Puts.{_then_, puts-same}
 use borrow.Author.Needs.{needs}

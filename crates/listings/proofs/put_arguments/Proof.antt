@@ -5,7 +5,7 @@ use mathlib.Core.List.{List}
 use native.Mathlib.Omega.{arith}
 use lib.ListN.{length}
 use Rattle.format.specs.Limits.{smallFormat}
-use Rattle.listings.specs.Line.{askedLine}
+use Rattle.item_lines.specs.Line.{askedLine}
 use Rattle.listings.specs.Listing.{argumentLines}
 use Rattle.lines.proofs.Puts.{puts-same, Leaves, leaves-all, leaves-less, leaves-none, leaves-same}
 use Rattle.listings.proofs.Turns.{arguments-turn}

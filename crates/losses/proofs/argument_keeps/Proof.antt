@@ -1,4 +1,4 @@
--- `arguments::argument_keeps` meets its contract: each answer is what the definition gives under the tests that led there. Assumes nothing.
+-- `losses::argument_keeps` meets its contract: each answer is what the definition gives under the tests that led there. Assumes nothing.
 use native.Mathlib.Omega.{arith}
 use Prim.Native.Nat.{_+_}
 use lib.ListN.{length}

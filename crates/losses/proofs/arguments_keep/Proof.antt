@@ -1,4 +1,4 @@
--- `arguments::arguments_keep` meets its contract: the loop keeps the definition of the whole equal to that of what is left. Assumes nothing.
+-- `losses::arguments_keep` meets its contract: the loop keeps the definition of the whole equal to that of what is left. Assumes nothing.
 use Prim.Native.Nat.{_+_, _-_}
 use mathlib.Core.Path.{_≡_, refl, sym, _∙_}
 use lib.ListN.{length, length-drop}

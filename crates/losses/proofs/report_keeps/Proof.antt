@@ -1,4 +1,4 @@
--- `records::report_keeps` meets its contract: each answer is what the definition gives under the tests that led there. Assumes nothing.
+-- `losses::report_keeps` meets its contract: each answer is what the definition gives under the tests that led there. Assumes nothing.
 use native.Mathlib.Omega.{arith}
 use Rattle.format.proofs.Headers.{part-from}
 use borrow.Author.Tests.{eq-eqb, ne-eqb}

@@ -1,4 +1,4 @@
--- `arguments::reserved_bits` meets its contract: each answer is what the definition gives under the tests that led there. Assumes nothing.
+-- `losses::reserved_bits` meets its contract: each answer is what the definition gives under the tests that led there. Assumes nothing.
 use borrow.Author.Tests.{eq-eqb, ne-eqb}
 use Rattle.arguments.specs.Loss.{reservedBits}
 use borrow.Author.Needs.{needs}

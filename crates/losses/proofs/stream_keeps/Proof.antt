@@ -1,4 +1,4 @@
--- `records::stream_keeps` meets its contract: each answer is what the definition gives under the tests that led there. Assumes nothing.
+-- `losses::stream_keeps` meets its contract: each answer is what the definition gives under the tests that led there. Assumes nothing.
 use native.Mathlib.Omega.{arith}
 use Rattle.records.specs.Loss.{streamKeeps}
 use borrow.Author.Needs.{needs}

@@ -1,4 +1,4 @@
--- `arguments::value_bytes` meets its contract: each answer is what the definition gives under the tests that led there. Assumes nothing.
+-- `losses::value_bytes` meets its contract: each answer is what the definition gives under the tests that led there. Assumes nothing.
 use native.Mathlib.Omega.{arith}
 use mathlib.Core.Path.{ap}
 use Rattle.arguments.specs.Loss.{valueBytes}

@@ -1,4 +1,4 @@
--- `arguments::value_padding_zero` meets its contract: each answer is what the definition gives under the tests that led there. Assumes nothing.
+-- `losses::value_padding_zero` meets its contract: each answer is what the definition gives under the tests that led there. Assumes nothing.
 use mathlib.Core.Path.{subst}
 use Prim.Native.Nat.{_+_}
 use lib.ListN.{length}

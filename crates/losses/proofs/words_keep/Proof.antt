@@ -1,4 +1,4 @@
--- `records::words_keep` meets its contract: each answer is what the definition gives under the tests that led there. Assumes nothing.
+-- `losses::words_keep` meets its contract: each answer is what the definition gives under the tests that led there. Assumes nothing.
 use borrow.Author.Tests.{eq-eqb, ne-eqb}
 use Rattle.records.specs.Loss.{wordsKeep}
 use borrow.Author.Needs.{needs}

@@ -1,5 +1,6 @@
--- `reader::find_argument` meets its contract: each answer is what the definition gives under the tests that led there. Assumes nothing.
+-- `views::find_argument` meets its contract: each answer is what the definition gives under the tests that led there. Assumes nothing.
 use mathlib.Core.Path.{sym, ap, _∙_}
+use native.Mathlib.Omega.{arith}
 use Rattle.records.specs.Layout.{layoutOf}
 use Rattle.records.proofs.Lookups.{plain-content}
 use Rattle.views.specs.Models.Numbered.{argumentIn}
@@ -16,13 +17,13 @@ returns c =
     let pre = c .before .before .before .before .before .before .pre in
     let l = c .before .before .before .layout-of .ensures ∙ ap layoutOf (word .ensures) in
     sym (no-argument (given .f) (given .source .now) (given .at) (given .number)
-    (pre .0) (rw (← l) (c .if2 .taken)))
+    (pre .0) (rw (← l) (omega (arith, c .if2 .taken))))
 
 take-argument-requires : tie.Need-take-argument-requires
 take-argument-requires c κs =
     let word = c .before .before .before .before .word in
     let pre = c .before .before .before .before .before .before .pre in
-    (c .before .before .before .layout-of .ensures ∙ ap layoutOf (word .ensures), c .if2 .left, pre .0, pre .1)
+    (c .before .before .before .layout-of .ensures ∙ ap layoutOf (word .ensures), omega (arith, c .if2 .left), pre .0, pre .1)
 
 returns-2 : tie.Need-returns-2
 returns-2 c =

@@ -1,4 +1,4 @@
--- `reader::is_bad` meets its contract: each answer is what the definition gives under the tests that led there. Assumes nothing.
+-- `views::is_bad` meets its contract: each answer is what the definition gives under the tests that led there. Assumes nothing.
 use Rattle.views.specs.Shown.{isBad}
 use borrow.Author.Needs.{needs}
 use Rattle.views.proofs.is_bad.Statement.{statement}

@@ -1,4 +1,4 @@
--- `reader::search_arguments` meets its contract: the loop keeps the search of all arguments equal to that of those left, with whether an
+-- `views::search_arguments` meets its contract: the loop keeps the search of all arguments equal to that of those left, with whether an
 -- entry before was bad (keeping). Assumes nothing.
 use Prim.Native.Nat.{_+_}
 use mathlib.Core.Path.{_≡_, refl, sym, ap, _∙_}

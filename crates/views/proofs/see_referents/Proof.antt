@@ -1,4 +1,4 @@
--- `reader::see_referents` meets its contract: each answer is what the definition gives under the tests that led there; a thread that is
+-- `views::see_referents` meets its contract: each answer is what the definition gives under the tests that led there; a thread that is
 -- shown stands inside the archive (referents-inside). Assumes nothing.
 use Rattle.views.specs.Models.Seen.{seenFound}
 use Rattle.views.specs.Shown.{noneBad}

@@ -1,4 +1,4 @@
--- `reader::see_report` meets its contract: fields, arguments and last word are read as the definition reads them (report-is), and the search
+-- `views::see_report` meets its contract: fields, arguments and last word are read as the definition reads them (report-is), and the search
 -- of the arguments is the one over the archive (source-behind). Assumes nothing.
 use native.Mathlib.Omega.{arith}
 use mathlib.Core.Path.{_≡_, sym, ap, subst, _∙_}

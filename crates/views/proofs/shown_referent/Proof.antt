@@ -1,4 +1,4 @@
--- `reader::shown_referent` meets its contract: each answer is what the definition gives under the tests that led there. Assumes nothing.
+-- `views::shown_referent` meets its contract: each answer is what the definition gives under the tests that led there. Assumes nothing.
 use borrow.Author.Tests.{eq-eqb, ne-eqb}
 use Rattle.views.specs.Shown.{shownReferent}
 use borrow.Author.Needs.{needs}

@@ -1,4 +1,4 @@
--- `reader::shown_report` meets its contract: each part is what the definition has for it. Assumes nothing.
+-- `views::shown_report` meets its contract: each part is what the definition has for it. Assumes nothing.
 use borrow.Author.Needs.{needs}
 use Rattle.views.proofs.shown_report.Statement.{statement}
 use Rattle.views.proofs.shown_report.Tie as tie

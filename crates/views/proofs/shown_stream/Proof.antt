@@ -1,4 +1,4 @@
--- `reader::shown_stream` meets its contract: each answer is what the definition gives under the tests that led there. Assumes nothing.
+-- `views::shown_stream` meets its contract: each answer is what the definition gives under the tests that led there. Assumes nothing.
 use Rattle.views.specs.Shown.{shownStream}
 use borrow.Author.Needs.{needs}
 use Rattle.views.proofs.shown_stream.Statement.{statement}

@@ -1,4 +1,4 @@
--- `reader::shown_text` meets its contract: each answer is what the definition gives under the tests that led there. Assumes nothing.
+-- `views::shown_text` meets its contract: each answer is what the definition gives under the tests that led there. Assumes nothing.
 use Rattle.views.specs.Shown.{shownText}
 use borrow.Author.Needs.{needs}
 use Rattle.views.proofs.shown_text.Statement.{statement}

@@ -1,4 +1,4 @@
--- `reader::shown_thread` meets its contract: each answer is what the definition gives under the tests that led there. Assumes nothing.
+-- `views::shown_thread` meets its contract: each answer is what the definition gives under the tests that led there. Assumes nothing.
 use native.Mathlib.Omega.{arith}
 use mathlib.Core.Path.{subst}
 use lib.ListN.{length}

@@ -1,4 +1,4 @@
--- `reader::take_argument` meets its contract: the walk remembers where the asked argument starts, and each answer is what the definition
+-- `views::take_argument` meets its contract: the walk remembers where the asked argument starts, and each answer is what the definition
 -- gives under the tests that led there. Assumes nothing.
 use native.Mathlib.Omega.{arith}
 use mathlib.Core.Path.{sym, _∙_}
