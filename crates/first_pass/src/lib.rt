@@ -10,7 +10,7 @@ ghost use Rattle.passes.specs.Models.Known.{ReferenceFits};
 ghost use Rattle.tables.specs.Models.Entries.{FormatFits};
 ghost use Rattle.words.specs.Word.{pick};
 ghost use Rattle.arguments.specs.Argument.{textIn, argumentsRead};
-ghost use Rattle.records.specs.Lookups.{textLookup, argumentLookups};
+ghost use Rattle.records.specs.Lookups.{argumentLookups};
 ghost use Rattle.tables.specs.Table.{tableWords, resolved};
 ghost use Rattle.reader.specs.Step.{openingNumber};
 ghost use Rattle.first_pass.specs.Models.Count.{tablesIn, slotsIn, CanCount, RecordIs, wordsIn, wordsRead, unresolvedIn, lookupGood, lookupSlots, lookupsGood};
@@ -192,7 +192,6 @@ fn count_report(
 {
     let place = s.place;
     let context = s.current;
-    let own = report.own;
     let one = report.first;
     let one_reference = one.reference;
     let two = report.second;
@@ -224,10 +223,12 @@ fn count_report(
         count,
     );
     let good = both(first, both(second, both(third, counted.good)));
-    let fixed = 1 + records::own_words(own) + format::inline_bytes(stream) / 8;
+    let fixed = 1
+        + records::own_words(f, archive, place, report)
+        + format::inline_bytes(stream) / 8;
     Added {
         good,
-        words: fixed + counted.words + records::own_behind(own),
+        words: fixed + counted.words + records::own_behind(f, archive, place, report),
     }
 }
 

@@ -7,12 +7,12 @@ use mathlib.Core.Bool.{true, true≢false}
 use native.Mathlib.Omega.{arith}
 use borrow.Author.Tests.{ltb-false, eqb-false, leb-true}
 use lib.Dec.{eqb, ltb}
-use lib.ListN.{length, take, drop}
+use lib.ListN.{length, take, drop, length-drop}
 use lib.Seq.{length-take-le}
 use Rattle.words.proofs.Tests.{on-pick, cases}
 use Rattle.words.specs.Word.{wordAt, field}
 use Rattle.words.specs.Stream.{streamWords}
-use Rattle.words.proofs.Words.{AllBytes, bytes-left, bytes-before, wordAt-lt}
+use Rattle.words.proofs.Words.{AllBytes, bytes-left, bytes-before, wordAt-lt, wordAt-drop, wordAt-take}
 use Rattle.format.specs.declared.Format.{Format}
 use Rattle.format.specs.declared.Reference.{Reference}
 use Rattle.format.specs.declared.Reference.the-variants.{Inline, Index}
@@ -372,3 +372,27 @@ is-size f source place _ (isSkipped type small) = refl
 -- every content of a record is so
 pub size-shown : (f : Format) (source : List ℕ) (place : ℕ) → 8 ≤ length source → SizeShown f source (contentOf f source place)
 size-shown f source place h = is-size f source place (contentOf f source place) (content-is f source place h)
+
+-- a record that refers to texts and threads and is read at a place has a header there, and its own words, and those behind its arguments, are as many
+-- as the layout of that header says
+pub report-sizes : (f : Format) (archive : List ℕ) (place : ℕ) (r : Report) → recordAt f archive place .content ≡ ReportRead r
+    → (8 ≤ length archive - place)
+    × (length (ownLayout (r .own) .words) ≡ layoutOf (wordAt (f .order) archive place) .words)
+    × (ownLayout (r .own) .behind ≡ layoutOf (wordAt (f .order) archive place) .behind)
+unfolding recordOf
+report-sizes f archive place r = go (extentOf f (drop place archive)) refl
+  where
+    go : (x : Extent) → extentOf f (drop place archive) ≡ x
+        → onExtent x (λ number. record { content = Refused number; next = place })
+        (λ size. record { content = contentOf f (take size (drop place archive)) place; next = place + size }) .content ≡ ReportRead r
+        → (8 ≤ length archive - place)
+        × (length (ownLayout (r .own) .words) ≡ layoutOf (wordAt (f .order) archive place) .words)
+        × (ownLayout (r .own) .behind ≡ layoutOf (wordAt (f .order) archive place) .behind)
+    go (ExtentRefused number) e k = let z : _≡_ {A = ℕ} 0 1 = cc in absurd (omega arith)
+    go (Bytes size) e k =
+        let w = extent-read f (drop place archive) size e in
+        let long = length-take-le size (drop place archive) (w .inside) in
+        let header = wordAt-take (f .order) (drop place archive) 0 size (w .some) ∙ wordAt-drop (f .order) archive place 0 in
+        let shown = subst (SizeShown f (take size (drop place archive))) k (size-shown f (take size (drop place archive)) place (omega (arith, w .some, long))) in
+        let here : place + 0 ≡ place = omega arith in
+        let sized = rw (header, here) at shown in (omega (arith, w .some, w .inside, length-drop place archive), sized .0, sized .1)

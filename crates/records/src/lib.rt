@@ -562,18 +562,24 @@ pub fn content_of(f: Format, source: &[u8], place: usize) -> Content
     }
 }
 
-// How many words of its own a record that refers to texts and threads has before its references.
-pub fn own_words(own: Event) -> usize
-    ensures { λ r. ⌜ r ≡ length (ownLayout own .words) ⌝ }
+// How many words of its own a record that refers to texts and threads, read at a place, has before its references.
+pub fn own_words(f: Format, archive: &[u8], place: usize, report: Report) -> usize
+    requires { ⌜ recordAt f (now archive) place .content ≡ Content.Report report ⌝ }
+    ensures { λ r. ⌜ r ≡ length (ownLayout (report .own) .words) ⌝ }
 {
-    1
+    let order = f.order;
+    let layout = layout_of(words::word(order, archive, place));
+    layout.words
 }
 
 // How many words it has behind its arguments.
-pub fn own_behind(own: Event) -> usize
-    ensures { λ r. ⌜ r ≡ ownLayout own .behind ⌝ }
+pub fn own_behind(f: Format, archive: &[u8], place: usize, report: Report) -> usize
+    requires { ⌜ recordAt f (now archive) place .content ≡ Content.Report report ⌝ }
+    ensures { λ r. ⌜ r ≡ ownLayout (report .own) .behind ⌝ }
 {
-    extra_words(own.variant as u64)
+    let order = f.order;
+    let layout = layout_of(words::word(order, archive, place));
+    layout.behind
 }
 
 // The record at a place of the archive.

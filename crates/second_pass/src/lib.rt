@@ -10,7 +10,7 @@ ghost use Rattle.passes.specs.Models.Last.{tablesOf};
 ghost use Rattle.passes.specs.Models.Item.{plainItem};
 ghost use Rattle.indexing.specs.Models.Indexes.{Settled};
 ghost use Rattle.encoding.specs.Encoded.{wordsBytes, partBytes, partsBytes};
-ghost use Rattle.encoding.specs.Models.Part.{referentReference, reportHeader};
+ghost use Rattle.encoding.specs.Models.Part.{referentReference};
 ghost use Rattle.words.specs.Stream.{overwritten};
 ghost use Rattle.arguments.specs.Argument.{argumentsRead};
 ghost use Rattle.records.specs.Record.{recordAt};
@@ -32,7 +32,6 @@ use contexts::State;
 use format::Format;
 use format::Reference;
 use records::Content;
-use records::Event;
 use records::Lookup;
 use records::Report;
 use tables::Resolved;
@@ -390,16 +389,23 @@ fn put_arguments(
 }
 
 // The last word of a record, where its kind has one.
-fn put_last(f: Format, out: &mut [u8], at: usize, own: Event, last: u64) -> usize
-    requires { ⌜ at + length (wordsBytes f (lastWords (ownLayout own .behind) last)) ≤ length (now out) ⌝ }
-    ensures { λ _. ⌜ now (out .exit) ≡ overwritten (now (out .entry)) at (wordsBytes f (lastWords (ownLayout own .behind) last)) ⌝ }
-    ensures { λ r. ⌜ r ≡ at + length (wordsBytes f (lastWords (ownLayout own .behind) last)) ⌝ }
+fn put_last(
+    f: Format,
+    archive: &[u8],
+    out: &mut [u8],
+    at: usize,
+    place: usize,
+    report: Report,
+) -> usize
+    requires { ⌜ (recordAt f (now archive) place .content ≡ Content.Report report) × (at + length (wordsBytes f (lastWords (ownLayout (report .own) .behind) (report .last))) ≤ length (now out)) ⌝ }
+    ensures { λ _. ⌜ now (out .exit) ≡ overwritten (now (out .entry)) at (wordsBytes f (lastWords (ownLayout (report .own) .behind) (report .last))) ⌝ }
+    ensures { λ r. ⌜ r ≡ at + length (wordsBytes f (lastWords (ownLayout (report .own) .behind) (report .last))) ⌝ }
 {
     let order = f.order;
-    if records::own_behind(own) == 0 {
+    if records::own_behind(f, archive, place, report) == 0 {
         return at;
     }
-    words::put_word(order, out, at, last);
+    words::put_word(order, out, at, report.last);
     at + 8
 }
 
@@ -496,7 +502,6 @@ fn put_report(
     let one = report.first;
     let two = report.second;
     let three = report.third;
-    let own = report.own;
     let first = spell(f, archive, room, context, until, one);
     let second = spell(f, archive, room, context, until, two);
     let third = spell(f, archive, room, context, until, three);
@@ -513,7 +518,7 @@ fn put_report(
         start,
         report.count,
     );
-    let end = put_last(f, out, argued, own, report.last);
+    let end = put_last(f, archive, out, argued, until, report);
     put_header(
         f,
         archive,

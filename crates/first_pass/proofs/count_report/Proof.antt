@@ -5,6 +5,7 @@ use mathlib.Core.List.{_∷_}
 use mathlib.Core.Bool.{_&&_}
 use native.Mathlib.Omega.{arith}
 use lib.ListN.{take, drop}
+use Rattle.records.specs.declared.Record.{Record}
 use Rattle.records.specs.Lookups.{argumentLookups, argumentsTo}
 use Rattle.encoding.proofs.EncodedReports.{behind-few}
 use Rattle.passes.proofs.Places.{report-bounds}
@@ -17,15 +18,15 @@ use Rattle.first_pass.proofs.count_report.Tie as tie
 
 count-reference-requires : tie.Need-count-reference-requires
 count-reference-requires c κs =
-    let a = c .before .before .before .before .before .before .before .args in
-    let p = c .before .before .before .before .before .before .before .pre in
+    let a = c .before .before .before .before .before .before .args in
+    let p = c .before .before .before .before .before .before .pre in
     let k = report-countable (a .f) (a .archive .now) (a .s .place) (a .report) (a .next) (p .1 .0) (p .0 .short) (p .1 .1) in
     (p .0, k .0 .least, k .0 .most, k .0 .fits)
 
 count-reference-requires-2 : tie.Need-count-reference-requires-2
 count-reference-requires-2 c κs =
-    let a = c .before .before .before .before .before .before .before .before .before .before .before .args in
-    let p = c .before .before .before .before .before .before .before .before .before .before .before .pre in
+    let a = c .before .before .before .before .before .before .before .before .before .before .args in
+    let p = c .before .before .before .before .before .before .before .before .before .before .pre in
     let k = report-countable (a .f) (a .archive .now) (a .s .place) (a .report) (a .next) (p .1 .0) (p .0 .short) (p .1 .1) in
     (record { fits = p .0 .fits; short = p .0 .short; wide = omega (arith, p .0 .wide, c .before .before .room .given); low = p .0 .low }, k .1 .least, k .1 .most, k .1 .fits)
 
@@ -33,32 +34,32 @@ count-reference-requires-3 : tie.Need-count-reference-requires-3
 count-reference-requires-3 c κs =
     let back = c .before .before .before .before .before .before .before .before .before .before in
     let room′ = c .before .before .before .before .before .before .room in
-    let a = back .before .before .before .before .before .args in
-    let p = back .before .before .before .before .before .pre in
+    let a = back .before .before .before .before .args in
+    let p = back .before .before .before .before .pre in
     let k = report-countable (a .f) (a .archive .now) (a .s .place) (a .report) (a .next) (p .1 .0) (p .0 .short) (p .1 .1) in
     (record { fits = p .0 .fits; short = p .0 .short; wide = omega (arith, p .0 .wide, room′ .given, c .before .before .room2 .given); low = p .0 .low }, k .2 .least, k .2 .most, k .2 .fits)
 
 sub-count-arguments : tie.Need-sub-count-arguments
 sub-count-arguments c =
     let back = c .before .before .before .before .before .before .before .before .before .before in
-    let a = back .before .before .before .before .before .before .before .before .before .args in
-    let p = back .before .before .before .before .before .before .before .before .before .pre in
+    let a = back .before .before .before .before .before .before .before .before .args in
+    let p = back .before .before .before .before .before .before .before .before .pre in
     let b = report-bounds (a .f) (a .archive .now) (a .s .place) (a .report) (a .next) (p .1 .0) (p .1 .1) in
     b .first
 
 part-count-arguments-start : tie.Need-part-count-arguments-start
 part-count-arguments-start c =
     let back = c .before .before .before .before .before .before .before .before .before .before in
-    let a = back .before .before .before .before .before .before .before .before .before .args in
-    let p = back .before .before .before .before .before .before .before .before .before .pre in
+    let a = back .before .before .before .before .before .before .before .before .args in
+    let p = back .before .before .before .before .before .before .before .before .pre in
     let b = report-bounds (a .f) (a .archive .now) (a .s .place) (a .report) (a .next) (p .1 .0) (p .1 .1) in
     b .first
 
 part-count-arguments-end : tie.Need-part-count-arguments-end
 part-count-arguments-end c =
     let back = c .before .before .before .before .before .before .before .before .before .before in
-    let a = back .before .before .before .before .before .before .before .before .before .args in
-    let p = back .before .before .before .before .before .before .before .before .before .pre in
+    let a = back .before .before .before .before .before .before .before .before .args in
+    let p = back .before .before .before .before .before .before .before .before .pre in
     let b = report-bounds (a .f) (a .archive .now) (a .s .place) (a .report) (a .next) (p .1 .0) (p .1 .1) in
     b .last
 
@@ -67,28 +68,34 @@ count-arguments-requires c κs =
     let back = c .before .before .before .before .before .before .before .before .before .before in
     let room′ = c .before .before .before .before .before .before .before .before .before .before .before .room in
     let room2′ = c .before .before .before .before .before .before .before .room2 in
-    let a = back .before .before .before .before .before .before .before .before .before .before .args in
-    let p = back .before .before .before .before .before .before .before .before .before .before .pre in
+    let a = back .before .before .before .before .before .before .before .before .before .args in
+    let p = back .before .before .before .before .before .before .before .before .before .pre in
     let b = report-bounds (a .f) (a .archive .now) (a .s .place) (a .report) (a .next) (p .1 .0) (p .1 .1) in
     (record { fits = p .0 .fits; short = p .0 .short; wide = omega (arith, p .0 .wide, room′ .given, room2′ .given, c .before .before .before .room3 .given); low = p .0 .low }, omega (arith, b .part, b .last, p .0 .short), omega (arith, b .few))
+
+own-words-requires : tie.Need-own-words-requires
+own-words-requires c κs =
+    let back = c .before .before .before .before .before .before .before .before .before .before in
+    let further = back .before .before .before .before .before .before .before .before .before .before in
+    ap (λ (r : Record). r .content) (further .before .before .before .before .before .pre .1 .1)
 
 inline-bytes-requires : tie.Need-inline-bytes-requires
 inline-bytes-requires c κs =
     let back = c .before .before .before .before .before .before .before .before .before .before in
     let further = back .before .before .before .before .before .before .before .before .before .before in
-    let a = further .before .before .before .before .before .before .before .args in
-    let p = further .before .before .before .before .before .before .before .pre in
+    let a = further .before .before .before .before .before .before .args in
+    let p = further .before .before .before .before .before .before .pre in
     let b = report-bounds (a .f) (a .archive .now) (a .s .place) (a .report) (a .next) (p .1 .0) (p .1 .1) in
     let stream = stream-few (a .s .place) (a .next) (a .report .stream)
     (stream-inside (a .f) (a .archive .now) (a .s .place) (a .report) (a .next) (p .1 .1)) in
     omega (arith, stream, b .last, p .0 .short)
 
-add-t34 : tie.Need-add-t34
-add-t34 c =
+add-t33 : tie.Need-add-t33
+add-t33 c =
     let back = c .before .before .before .before .before .before .before .before .before .before in
     let further = back .before .before .before .before .before .before .before .before .before .before in
-    let a = further .before .before .before .before .before .before .before .before .before .args in
-    let p = further .before .before .before .before .before .before .before .before .before .pre in
+    let a = further .before .before .before .before .before .before .before .before .args in
+    let p = further .before .before .before .before .before .before .before .before .pre in
     let b = report-bounds (a .f) (a .archive .now) (a .s .place) (a .report) (a .next) (p .1 .0) (p .1 .1) in
     let stream = stream-few (a .s .place) (a .next) (a .report .stream)
     (stream-inside (a .f) (a .archive .now) (a .s .place) (a .report) (a .next) (p .1 .1)) in
@@ -96,12 +103,18 @@ add-t34 c =
     let most = words-few (a .f) (a .report .count) (take (a .next - a .report .arguments) (drop (a .report .arguments) (a .archive .now))) (a .report .arguments) in
     omega (arith, stream, b .last, b .few, p .0 .short, words, most, c .before .inline-bytes .ensures, c .before .before .own-words .ensures)
 
-add-t40 : tie.Need-add-t40
-add-t40 c =
+own-behind-requires : tie.Need-own-behind-requires
+own-behind-requires c κs =
     let back = c .before .before .before .before .before .before .before .before .before .before in
     let further = back .before .before .before .before .before .before .before .before .before .before in
-    let a = further .before .before .before .before .before .before .before .before .before .before .args in
-    let p = further .before .before .before .before .before .before .before .before .before .before .pre in
+    ap (λ (r : Record). r .content) (further .before .before .before .before .before .before .before .before .pre .1 .1)
+
+add-t39 : tie.Need-add-t39
+add-t39 c =
+    let back = c .before .before .before .before .before .before .before .before .before .before in
+    let further = back .before .before .before .before .before .before .before .before .before .before in
+    let a = further .before .before .before .before .before .before .before .before .before .args in
+    let p = further .before .before .before .before .before .before .before .before .before .pre in
     let b = report-bounds (a .f) (a .archive .now) (a .s .place) (a .report) (a .next) (p .1 .0) (p .1 .1) in
     let stream = stream-few (a .s .place) (a .next) (a .report .stream)
     (stream-inside (a .f) (a .archive .now) (a .s .place) (a .report) (a .next) (p .1 .1)) in
@@ -137,8 +150,8 @@ returns c =
     let both3′ = c .before .before .before .before .both3 in
     let both2′ = c .before .before .before .before .before .both2 in
     let both′ = c .before .before .before .before .before .before .both in
-    let a = further .before .before .before .before .before .before .before .before .before .before .args in
-    let p = further .before .before .before .before .before .before .before .before .before .before .pre in
+    let a = further .before .before .before .before .before .before .before .before .before .args in
+    let p = further .before .before .before .before .before .before .before .before .before .pre in
     let b = report-bounds (a .f) (a .archive .now) (a .s .place) (a .report) (a .next) (p .1 .0) (p .1 .1) in
     let f = a .f in
     let archive = a .archive .now in
@@ -173,5 +186,5 @@ pub count-report-spec : {M : Type 1} → statement M
 count-report-spec =
     tie.close (tie.spec count-reference-requires count-reference-requires-2 count-reference-requires-3 sub-count-arguments part-count-arguments-start
     part-count-arguments-end count-arguments-requires (λ c κs. search needs) (λ c κs. search needs) (λ c κs. search needs)
-    (λ c κs. search needs) (λ c. search needs) inline-bytes-requires (λ c. search needs) add-t34 (λ c κs. search needs) add-t40
+    own-words-requires (λ c. search needs) inline-bytes-requires (λ c. search needs) add-t33 own-behind-requires add-t39
     same-length returns)

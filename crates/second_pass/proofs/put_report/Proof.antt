@@ -1,8 +1,9 @@
 -- `put_report` meets its contract: the pieces, the arguments and the last word are written one behind the other, and the header last (report-ends).
 use Prim.Native.Nat.{_+_, _≤_}
-use mathlib.Core.Path.{sym, subst}
+use mathlib.Core.Path.{sym, ap, subst}
 use native.Mathlib.Omega.{arith}
 use lib.ListN.{length}
+use Rattle.records.specs.declared.Record.{Record}
 use Rattle.passes.proofs.Places.{report-bounds}
 use Rattle.second_pass.specs.Models.Write.{tablesIn, slotsIn, reportBody}
 use Rattle.second_pass.specs.Models.Fits.{SpelledThread}
@@ -15,9 +16,9 @@ use Rattle.second_pass.proofs.put_report.Tie as tie
 add-put-pieces : tie.Need-add-put-pieces
 add-put-pieces c =
     let earlier = c .before .before .before .before .before .before .before .before .before .before in
-    let a = earlier .before .args in
-    let p = earlier .before .pre .0 in
-    let room = earlier .before .pre .1 in
+    let a = earlier .args in
+    let p = earlier .pre .0 in
+    let room = earlier .pre .1 in
     let tables = tablesIn (a .f) (a .room .now) in
     let slots = slotsIn (a .f) (a .room .now) in
     let spelling-one = c .before .before .before .spell in
@@ -29,14 +30,14 @@ add-put-pieces c =
     let spelled : ReportSpelled (a .f) (a .archive .now) tables slots (a .s) (a .report) one two three =
     record { first-is = spelling-one .ensures; second-is = spelling-two .ensures; third-is = spelling-three .ensures } in
     let long = report-long (a .f) (a .archive .now) tables slots (a .s) (a .report) (a .next) one two three spelled in
-    omega (arith, long, room, earlier .before .good .1 .1 .1 .0 .0)
+    omega (arith, long, room, earlier .good .1 .1 .1 .0 .0)
 
 put-pieces-requires : tie.Need-put-pieces-requires
 put-pieces-requires c κs =
     let earlier = c .before .before .before .before .before .before .before .before .before .before in
-    let a = earlier .before .args in
-    let p = earlier .before .pre .0 in
-    let room = earlier .before .pre .1 in
+    let a = earlier .args in
+    let p = earlier .pre .0 in
+    let room = earlier .pre .1 in
     let tables = tablesIn (a .f) (a .room .now) in
     let slots = slotsIn (a .f) (a .room .now) in
     let spelling-one = c .before .before .before .spell in
@@ -59,33 +60,33 @@ put-pieces-requires c κs =
 sub-put-arguments : tie.Need-sub-put-arguments
 sub-put-arguments c =
     let earlier = c .before .before .before .before .before .before .before .before .before .before in
-    let a = earlier .before .before .before .before .before .args in
-    let at = earlier .before .before .before .before .before .pre .0 .1 in
+    let a = earlier .before .before .before .before .args in
+    let at = earlier .before .before .before .before .pre .0 .1 in
     let bounds = report-bounds (a .f) (a .archive .now) (a .s .place) (a .report) (a .next) (at .inside) (at .is) in
     bounds .first
 
 part-put-arguments-start : tie.Need-part-put-arguments-start
 part-put-arguments-start c =
     let earlier = c .before .before .before .before .before .before .before .before .before .before in
-    let a = earlier .before .before .before .before .before .args in
-    let at = earlier .before .before .before .before .before .pre .0 .1 in
+    let a = earlier .before .before .before .before .args in
+    let at = earlier .before .before .before .before .pre .0 .1 in
     let bounds = report-bounds (a .f) (a .archive .now) (a .s .place) (a .report) (a .next) (at .inside) (at .is) in
     bounds .first
 
 part-put-arguments-end : tie.Need-part-put-arguments-end
 part-put-arguments-end c =
     let earlier = c .before .before .before .before .before .before .before .before .before .before in
-    let a = earlier .before .before .before .before .before .args in
-    let at = earlier .before .before .before .before .before .pre .0 .1 in
+    let a = earlier .before .before .before .before .args in
+    let at = earlier .before .before .before .before .pre .0 .1 in
     let bounds = report-bounds (a .f) (a .archive .now) (a .s .place) (a .report) (a .next) (at .inside) (at .is) in
     bounds .last
 
 put-arguments-requires : tie.Need-put-arguments-requires
 put-arguments-requires c κs =
     let earlier = c .before .before .before .before .before .before .before .before .before .before in
-    let a = earlier .before .before .before .before .before .before .args in
-    let p = earlier .before .before .before .before .before .before .pre .0 in
-    let room = earlier .before .before .before .before .before .before .pre .1 in
+    let a = earlier .before .before .before .before .before .args in
+    let p = earlier .before .before .before .before .before .pre .0 in
+    let room = earlier .before .before .before .before .before .pre .1 in
     let tables = tablesIn (a .f) (a .room .now) in
     let slots = slotsIn (a .f) (a .room .now) in
     let spelling-one = c .before .before .before .before .before .before .before .before .spell in
@@ -108,9 +109,9 @@ put-arguments-requires c κs =
 put-last-requires : tie.Need-put-last-requires
 put-last-requires c κs =
     let earlier = c .before .before .before .before .before .before .before .before .before .before in
-    let a = earlier .before .before .before .before .before .before .before .before .before .before .args in
-    let p = earlier .before .before .before .before .before .before .before .before .before .before .pre .0 in
-    let room = earlier .before .before .before .before .before .before .before .before .before .before .pre .1 in
+    let a = earlier .before .before .before .before .before .before .before .before .before .args in
+    let p = earlier .before .before .before .before .before .before .before .before .before .pre .0 in
+    let room = earlier .before .before .before .before .before .before .before .before .before .pre .1 in
     let tables = tablesIn (a .f) (a .room .now) in
     let slots = slotsIn (a .f) (a .room .now) in
     let spelling-one = earlier .before .before .spell in
@@ -129,15 +130,15 @@ put-last-requires c κs =
     let pieced = writing-goes-on space started (pieced-done .0) (pieced-done .1) in
     let argued-done = c .before .before .before .put-arguments .ensures in
     let argued = writing-goes-on space pieced (argued-done .0) (argued-done .1) in
-    writing-fits space argued
+    (ap (λ (r : Record). r .content) (p .1 .is), writing-fits space argued)
 
 put-header-requires : tie.Need-put-header-requires
 put-header-requires c κs =
     let earlier = c .before .before .before .before .before .before .before .before .before .before in
     let still-earlier = earlier .before .before .before .before .before .before .before .before .before .before in
-    let a = still-earlier .before .before .before .before .args in
-    let p = still-earlier .before .before .before .before .pre .0 in
-    let room = still-earlier .before .before .before .before .pre .1 in
+    let a = still-earlier .before .before .before .args in
+    let p = still-earlier .before .before .before .pre .0 in
+    let room = still-earlier .before .before .before .pre .1 in
     let tables = tablesIn (a .f) (a .room .now) in
     let slots = slotsIn (a .f) (a .room .now) in
     let spelling-one = earlier .before .before .before .before .before .before .spell in
@@ -165,9 +166,9 @@ returns : tie.Need-returns
 returns c =
     let earlier = c .before .before .before .before .before .before .before .before .before .before in
     let still-earlier = earlier .before .before .before .before .before .before .before .before .before .before in
-    let a = still-earlier .before .before .before .before .before .before .before .args in
-    let p = still-earlier .before .before .before .before .before .before .before .pre .0 in
-    let room = still-earlier .before .before .before .before .before .before .before .pre .1 in
+    let a = still-earlier .before .before .before .before .before .before .args in
+    let p = still-earlier .before .before .before .before .before .before .pre .0 in
+    let room = still-earlier .before .before .before .before .before .before .pre .1 in
     let tables = tablesIn (a .f) (a .room .now) in
     let slots = slotsIn (a .f) (a .room .now) in
     let spelling-one = earlier .before .before .before .before .before .before .before .before .before .spell in
