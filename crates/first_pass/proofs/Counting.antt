@@ -1,7 +1,7 @@
 -- The first pass over an archive: what holds before each record, that it holds at first and after each record, and what follows where a record stops
 -- the pass and at the archive's end.
 -- Assumes nothing.
-use Prim.Native.Nat.{ℕ, zero, suc, _+_, _*_, _/_, _^_, _≤_, _<_}
+use Prim.Native.Nat.{ℕ, zero, suc, _+_, _*_, _/_, _≤_, _<_}
 use mathlib.Core.Path.{_≡_, refl, sym, ap, subst, _∙_}
 use mathlib.Core.List.{List, [], _∷_, _++_, append-assoc, append-nil}
 use mathlib.Core.Bool.{Bool}
@@ -10,7 +10,7 @@ use native.Mathlib.Omega.{arith}
 use native.Mathlib.Numerals.{add-one}
 use borrow.Author.Tests.{eqb-true, eqb-false, eq-eqb, ne-eqb}
 use lib.Dec.{eqb}
-use lib.ListN.{length, getD, replicate, length-append}
+use lib.ListN.{length, getD, replicate}
 use Rattle.passes.specs.Models.Codes.{codes, lastFrom, lastOf}
 use Rattle.passes.specs.Models.Last.{tablesFrom, tablesOf}
 use Rattle.passes.specs.Models.Item.{itemAt}
@@ -49,7 +49,10 @@ use Rattle.first_pass.specs.Models.Left.{countedFrom, countedOf, FreeCle
 use Rattle.first_pass.proofs.Findings.{refusalIn, lower, lower-none, lower-clean, lower-three, or-else-none, recordRefusal, runRefusal, passed-refusal, found-low, found-turn, found-clean, found-none, counted-on, counted-last, says-none, says-some}
 use Rattle.first_pass.proofs.Checked.{itemWords, RecordCounted, record-counted}
 use Rattle.first_pass.proofs.Kept.{SlotsKept, kept-same, kept-then, kept-wide, kept-clear}
-use Rattle.first_pass.proofs.Told.{Told}
+use Rattle.first_pass.proofs.Told.{Told, told-noted}
+use Rattle.first_pass.proofs.References.{Noted}
+use Rattle.first_pass.proofs.Counts.{kept-noted}
+use Rattle.tables.specs.Models.Entries.{FormatFits}
 
 -- ---- items one behind the other
 
@@ -108,6 +111,7 @@ left-tally f archive slots e left = rw (counted-whole f archive e) at (left .tal
 -- tables at its end. What is found in all is the lower one of what was found and what the rest adds. As long as nothing is found, the slots tell of the
 -- uses of `done`, and the words are theirs; afterwards, of all uses that are counted.
 pub record Counting (f : Format) (archive : List ℕ) (s : State) (tables slots₀ slots : List ℕ) (found : Finding) (words : ℕ) : Type 0 where
+  pub fits : FormatFits f
   pub bytes : AllBytes archive
   pub sound : Sound f archive s tables
   pub opens : openingNumber f archive (length tables) ≡ 0
@@ -127,7 +131,6 @@ pub record Counting (f : Format) (archive : List ℕ) (s : State) (tables slots�
   pub clear : FreeClear (tableWords f) slots
   pub counts-on : found .number ≡ 0 → countedOf f archive ≡ countedFrom f (usesAll done) (runFrom f archive (suc steps) s tables)
   pub counts-told : (found .number ≡ 0 → ⊥) → Told f archive (lastOf f archive) slots (countedOf f archive)
-  pub few-uses : length (usesAll done) ≤ 8 * s .place
   pub few-words : 8 * words ≤ s .place
 
 -- ---- the start
@@ -143,15 +146,16 @@ zeros-are (suc n) (x ∷ xs) e h =
     cc
 
 -- it holds in the opening state, with tables and slots of zeros and nothing found
-pub counting-start : (f : Format) (archive tables slots : List ℕ) → AllBytes archive → openingNumber f archive (tableWords f) ≡ 0
+pub counting-start : (f : Format) (archive tables slots : List ℕ) → FormatFits f → AllBytes archive → openingNumber f archive (tableWords f) ≡ 0
     → length tables ≡ tableWords f → ((i : ℕ) → i < tableWords f → getD tables i 0 ≡ 0)
     → Wide (tableWords f) slots → ((i : ℕ) → i < 3 * tableWords f → getD slots i 0 ≡ 0)
     → Counting f archive opening tables slots slots (record { number = 0; place = 0 }) 0
 unfolding runOf lastOf
-counting-start f archive tables slots bytes opens long zeros wide clear =
+counting-start f archive tables slots fits bytes opens long zeros wide clear =
     let fresh = zeros-are (tableWords f) tables long zeros in
     let n = add-one (length archive / 8) in
     record {
+      fits = fits;
       bytes = bytes;
       sound = rw fresh (fresh-sound f archive);
       opens = rw long opens;
@@ -173,15 +177,42 @@ counting-start f archive tables slots bytes opens long zeros wide clear =
         within = λ mark l. omega arith;
       };
       counted = λ z. refl;
-      clear = λ s low e. (clear (tableWords f + s) (omega arith), λ l. clear (2 * tableWords f + s) (omega arith));
+      clear = λ s low e. (clear s (omega arith), λ l. clear (tableWords f + s) (omega arith));
       counts-on = λ z. rw (fresh, n);
       counts-told = λ other. absurd (other refl);
-      few-uses = omega arith;
       few-words = omega arith;
     }
 
 module _ (f : Format) (archive : List ℕ) (s : State) (tables slots₀ slots : List ℕ) (found : Finding) (words : ℕ)
     (h : Counting f archive s tables slots₀ slots found words) where
+  -- it holds on where a word is remembered
+  pub counting-noted : (after : List ℕ) → Noted f slots after → Counting f archive s tables slots₀ after found words
+  counting-noted after noted =
+      let kept = kept-noted f slots after noted in
+      record {
+        fits = h .fits;
+        bytes = h .bytes;
+        sound = h .sound;
+        opens = h .opens;
+        wide = kept-wide (kept .long) (h .wide);
+        kept = kept-then f slots₀ slots after (h .kept) kept;
+        steps = h .steps;
+        enough = h .enough;
+        last = h .last;
+        last-tables = h .last-tables;
+        done = h .done;
+        items = h .items;
+        stops = h .stops;
+        finds = h .finds;
+        low = h .low;
+        told = λ z. told-noted f archive (lastOf f archive) slots after (usesAll (h .done)) noted (h .told z);
+        counted = h .counted;
+        clear = kept-clear kept (h .wide) (h .clear);
+        counts-on = h .counts-on;
+        counts-told = λ other. told-noted f archive (lastOf f archive) slots after (countedOf f archive) noted (h .counts-told other);
+        few-words = h .few-words;
+      }
+
   -- where the rest of the run adds no uses, the slots are those that the pass leaves
   slots-left : countedFrom f (usesAll (h .done)) (runFrom f archive (suc (h .steps)) s tables) ≡ usesAll (h .done) → SlotsLeft f archive slots
   slots-left rest = record {
@@ -205,9 +236,9 @@ module _ (f : Format) (archive : List ℕ) (s : State) (tables slots₀ slots : 
       (recordChecked f archive (tablesAfter f tables s (recordAt f archive (s .place) .content)) slots s (recordAt f archive (s .place) .content)
       (recordAt f archive (s .place) .next) (eqb (found .number) 0))
   here =
-      record-counted f archive (lastOf f archive) (rw (h .last) at (last-sound f archive (suc (h .steps)) s tables (h .sound) .1 .count)) (h .bytes) tables s
+      record-counted f archive (h .fits) (lastOf f archive) (rw (h .last) at (last-sound f archive (suc (h .steps)) s tables (h .sound) .1 .count)) (h .bytes) tables s
       (h .opens) counting-short (h .sound .before) (omega (arith, h .sound .current, h .sound .count))
-      (rw (h .last) at (last-context f archive (suc (h .steps)) s tables (h .sound))) found (usesAll (h .done)) slots (h .told) (h .few-uses)
+      (rw (h .last) at (last-context f archive (suc (h .steps)) s tables (h .sound))) found (usesAll (h .done)) slots (h .told)
 
   module _ (more : s .place < length archive) where
     -- a run whose record goes on
@@ -340,6 +371,7 @@ module _ (f : Format) (archive : List ℕ) (s : State) (tables slots₀ slots : 
             let rest = runFrom f archive (suc steps) s′ tables′ in
             let run = goes-on goes (suc steps) in
             record {
+              fits = h .fits;
               bytes = h .bytes;
               sound = turn-sound f archive tables s (h .sound) (h .opens) more goes;
               opens = rw (turn-tables f tables s (recordAt f archive (s .place) .content)) (h .opens);
@@ -383,7 +415,6 @@ module _ (f : Format) (archive : List ℕ) (s : State) (tables slots₀ slots : 
                   (here .tells-of z))
                   (λ e. let n = eqb-false (found .number) 0 e in
                   subst (λ (l : List ℕ). Told f archive (lastOf f archive) l (countedOf f archive)) (sym (here .rests n)) (h .counts-told n));
-              few-uses = rw uses-are (omega (arith, length-append before (itemUses item), here .few-uses, h .few-uses, place-is));
               few-words = omega (arith, counting-words goes, place-is);
             }
 

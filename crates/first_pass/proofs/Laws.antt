@@ -1,15 +1,14 @@
 -- Laws of the first pass that the code's proofs go by: the room taken apart, references counted one after the other, the walks over arguments,
 -- and records that refer to nothing. Assumes nothing.
-use Prim.Native.Nat.{ℕ, zero, suc, _+_, _-_, _*_, _/_, _^_, _≤_, _<_}
-use mathlib.Core.Path.{_≡_, refl, sym, ap, subst, _∙_}
+use Prim.Native.Nat.{ℕ, zero, suc, _+_, _-_, _*_, _≤_, _<_}
+use mathlib.Core.Path.{_≡_, refl, sym, ap, _∙_}
 use mathlib.Core.List.{List, [], _∷_, _++_}
 use mathlib.Core.Bool.{Bool, true, false, _&&_, _||_, and-true, and-assoc}
 use mathlib.Core.Logic.{inl, inr}
 use native.Mathlib.Omega.{arith}
 use lib.ListN.{length, take, drop, length-append, length-drop, take-append-drop}
 use lib.Seq.{length-take-le, take-at, drop-at}
-use Rattle.passes.specs.Models.Known.{ReferenceFits}
-use Rattle.records.specs.Models.Bounds.{ContentInside, ReportInside}
+use Rattle.records.specs.Models.Bounds.{ContentInside}
 use Rattle.arguments.specs.Models.Reading.{textsOf}
 use Rattle.format.specs.Models.Bounds.{Inside}
 use Rattle.format.specs.declared.Format.{Format}
@@ -25,7 +24,7 @@ use Rattle.arguments.specs.declared.Argued.{Argued}
 use Rattle.arguments.specs.declared.Argued.the-variants.{Refused, Argument as Read}
 use Rattle.arguments.specs.declared.Texts.{Texts}
 use Rattle.arguments.specs.declared.Texts.the-variants.{Refused as TextsRefused, Texts as TextsRead}
-use Rattle.arguments.specs.Argument.{scalarWords, argumentOf, onArgued, textIn, argumentsRead}
+use Rattle.arguments.specs.Argument.{scalarWords, argumentOf, onArgued, argumentsRead}
 use Rattle.arguments.proofs.Arguments.{argument-read}
 use Rattle.records.specs.declared.Lookup.{Lookup}
 use Rattle.records.specs.declared.Report.{Report}
@@ -34,13 +33,18 @@ use Rattle.records.specs.declared.Content.the-variants.{Report as ReportRead}
 use Rattle.records.specs.Record.{recordAt}
 use Rattle.records.specs.Lookups.{textLookup, argumentLookups, reportLookups}
 use Rattle.records.proofs.Lookups.{onTexts, lookups-turn}
-use Rattle.tables.specs.Table.{tableWords, resolved, lookedUp}
-use Rattle.records.proofs.Bounds.{lengthOf, ContentShort, record-short}
-use Rattle.views.proofs.Lookups.{record-whole, report-fits, LookupFits}
+use Rattle.tables.specs.Table.{tableWords, resolved}
+use Rattle.views.proofs.Lookups.{record-whole}
 use Rattle.reader.proofs.Changes.{IsTable}
-use Rattle.passes.proofs.Known.{thread-short}
-use Rattle.passes.proofs.Places.{report-bounds}
-use Rattle.first_pass.specs.Models.Count.{tablesIn, slotsIn, wordsIn, wordsRead, unresolvedIn, anyUnresolved, lookupGood, lookupSlots, lookupsGood, lookupsSlots}
+use Rattle.format.proofs.Headers.{part-from}
+use Rattle.passes.specs.Models.Memory.{recalled}
+use Rattle.passes.proofs.Memory.{recalled-is}
+use Rattle.passes.proofs.Rooms.{slots-back}
+use Rattle.passes.proofs.Places.{LookupStands, LookupsStand, report-stands, arguments-stand}
+use Rattle.first_pass.proofs.Memory.{can-stand, stands-can, recalled-low, recalled-counts, remembers-lookup, remembers-lookups}
+use Rattle.tally.specs.Models.Slots.{usedAgain}
+use Rattle.tally.specs.Models.Tally.{Wide}
+use Rattle.first_pass.specs.Models.Count.{tablesIn, slotsIn, CanCount, Recalls, CanStand, wordsIn, wordsRead, unresolvedIn, anyUnresolved, lookupGood, lookupSlots, lookupsGood, lookupsSlots}
 
 -- ---- the room
 
@@ -59,6 +63,22 @@ room-after n room slots after h e =
       stand = rw e (drop-at (take n room) slots n l);
       wide = rw (e, length-append (take n room) slots, l) (omega arith);
     }
+
+-- slots that are lent on twice: the second call finds what the first left, and the room has what the second left
+pub lent-twice : (n : ℕ) (room first second : List ℕ) → n ≤ length room
+    → (drop n (take n room ++ (first ++ drop (length room - n) (drop n room))) ≡ first)
+    × (take n (take n room ++ (first ++ drop (length room - n) (drop n room)))
+    ++ (second ++ drop (length (take n room ++ (first ++ drop (length room - n) (drop n room))) - n)
+    (drop n (take n room ++ (first ++ drop (length room - n) (drop n room)))))
+    ≡ take n room ++ second)
+lent-twice n room first second h =
+    let back = slots-back n room first in
+    let l = length-take-le n room h in
+    let tables : take n (take n room ++ first) ≡ take n room = take-at (take n room) first n l in
+    rw back (
+      drop-at (take n room) first n l,
+      slots-back n (take n room ++ first) second ∙ ap (λ (x : List ℕ). x ++ second) tables,
+    )
 
 -- the part of an archive between two places ends at the second
 pub part-ends : (archive : List ℕ) (from to : ℕ) → from ≤ to → to ≤ length archive → from + length (take (to - from) (drop from archive)) ≡ to
@@ -183,6 +203,8 @@ pub record Walk (f : Format) (archive start : List ℕ) (context until : ℕ) (a
       ≡ lookupsSlots f archive (tablesIn f start) (slotsIn f room) context until (argumentLookups (argumentsRead f left rest at))
   pub sum : wordsRead all ≡ words + wordsRead (argumentsRead f left rest at)
   pub inside : at + length rest ≡ end
+  pub behind : 0 < at
+  pub recalls : Recalls f archive room until
   pub few : words + 2 * left ≤ 2 * most
 
 module _ (f : Format) (archive start : List ℕ) (context until : ℕ) (all : List Argument) (end : ℕ) (room : List ℕ) (left : ℕ) (rest : List ℕ) (at : ℕ)
@@ -210,9 +232,10 @@ module _ (f : Format) (archive start : List ℕ) (context until : ℕ) (all : Li
   -- an argument is counted, and the walk goes on behind it
   pub walk-turns : (a : Argument) (size : ℕ) (counted : Bool) (after : List ℕ) → 0 < left → argumentOf f rest at ≡ Read a size
       → tableWords f ≤ length room → length after ≡ length room → Counted f archive room context until (argumentLookups (a ∷ [])) counted after
+      → Recalls f archive after until
       → Walk f archive start context until all end after (left - 1) (drop size rest) (at + size) (good && counted) (words + (1 + wordsIn (a .value))) most
   unfolding wordsRead
-  walk-turns a size counted after h e wide long x =
+  walk-turns a size counted after h e wide long x recalls =
       let own = argumentLookups (a ∷ []) in
       let more = argumentsRead f (left - 1) (drop size rest) (at + size) in
       let turn : argumentsRead f left rest at ≡ a ∷ more = read-turn f left rest at h ∙ rw e in
@@ -228,6 +251,8 @@ module _ (f : Format) (archive start : List ℕ) (context until : ℕ) (all : Li
         slots = w .slots ∙ rw (turn, slots-both f archive (tablesIn f start) context until (slotsIn f room) own (argumentLookups more), ← stand);
         sum = let s = rw turn at (w .sum) in omega (arith, s);
         inside = omega (arith, w .inside, argument-read f rest at a size e .inside, length-drop size rest);
+        behind = omega (arith, w .behind);
+        recalls = recalls;
         few = omega (arith, w .few, words-in-few (a .value));
       }
 
@@ -253,41 +278,101 @@ pub stream-few : (from to : ℕ) (r : Reference) → Inside from to r → inline
 stream-few from to (Inline place long) i = omega (arith, i .1)
 stream-few from to (Index index) i = omega arith
 
--- a reference that can be counted: its table is one of the two, and its place and its length fit
-pub record Countable (l : Lookup) : Type 0 where
+-- a reference that can be counted: its table is one of the two, and its bytes stand in the archive
+pub record Countable (archive : List ℕ) (l : Lookup) : Type 0 where
   pub least : 2 ≤ l .table
   pub most : l .table ≤ 3
-  pub fits : ReferenceFits (l .reference)
+  pub stands : CanStand archive (l .reference)
 
--- a reference that stands inside a record before such an end is one
-lookup-countable : (from to : ℕ) (l : Lookup) → LookupFits l → (l .table ≡ 2 → lengthOf (l .reference) < 65536) → Inside from to (l .reference)
-    → to < 2 ^ 31 → Countable l
-lookup-countable from to l fit short i low = go (fit .table)
+-- one that stands in the archive is
+pub lookup-countable : (archive : List ℕ) (l : Lookup) → LookupStands archive l → Countable archive l
+lookup-countable archive l h = go (h .table)
   where
-    of-reference : (r : Reference) → lengthOf r < 65536 → Inside from to r → ReferenceFits r
-    of-reference (Inline place long) s i = (omega (arith, i .1), s)
-    of-reference (Index index) s i = tt
+    go : IsTable (l .table) → Countable archive l
+    go (inl k) = record { least = omega (arith, k); most = omega (arith, k); stands = stands-can archive (l .reference) (h .stands) }
+    go (inr k) = record { least = omega (arith, k); most = omega (arith, k); stands = stands-can archive (l .reference) (h .stands) }
 
-    go : IsTable (l .table) → Countable l
-    go (inl k) = record { least = omega (arith, k); most = omega (arith, k); fits = of-reference (l .reference) (short k) i }
-    go (inr k) =
-        record {
-          least = omega (arith, k);
-          most = omega (arith, k);
-          fits = of-reference (l .reference) (thread-short (l .reference) (fit .thread k)) i;
-        }
+-- the references of a record that was read, and does not begin the archive, stand in it
+pub report-countable : (f : Format) (archive : List ℕ) (place : ℕ) (r : Report) (next : ℕ) → 0 < place
+    → recordAt f archive place ≡ record { content = ReportRead r; next = next } → LookupsStand archive (reportLookups f archive r next)
+report-countable f archive place r next behind k =
+    let stands = report-stands f archive place r behind (ap (λ x. x .content) k) in rw k at stands
 
--- those of every record that was read are
-pub report-countable : (f : Format) (archive : List ℕ) (place : ℕ) (r : Report) (next : ℕ) → place ≤ length archive → length archive < 2 ^ 31
-    → recordAt f archive place ≡ record { content = ReportRead r; next = next }
-    → Countable (r .first) × Countable (r .second) × Countable (r .third)
-report-countable f archive place r next h low k =
-    let content = ap (λ x. x .content) k in
-    let i : ContentInside place next (ReportRead r) = rw k at (record-whole f archive place .inside) in
-    let fit = report-fits f archive place r content in
-    let s : ContentShort (ReportRead r) = rw k at (record-short f archive place) in
-    let ends = report-bounds f archive place r next h k .last in (
-      lookup-countable place next (r .first) (fit .first) (s .first) (i .first) (omega (arith, ends, low)),
-      lookup-countable place next (r .second) (fit .second) (s .second) (i .second) (omega (arith, ends, low)),
-      lookup-countable place next (r .third) (fit .third) (s .third) (i .third) (omega (arith, ends, low)),
-    )
+-- its arguments start behind the archive's first byte
+pub arguments-behind : (f : Format) (archive : List ℕ) (place : ℕ) (r : Report) (next : ℕ) → 0 < place
+    → recordAt f archive place ≡ record { content = ReportRead r; next = next } → 0 < r .arguments
+arguments-behind f archive place r next behind k =
+    let i : ContentInside place next (ReportRead r) = rw k at (record-whole f archive place .inside) in omega (arith, i .behind)
+
+-- so do those of an argument that was read behind the archive's first byte
+pub argument-countable : (f : Format) (archive rest : List ℕ) (place : ℕ) (a : Argument) (size : ℕ) → 0 < place → place + length rest ≤ length archive
+    → argumentOf f rest place ≡ Read a size → LookupsStand archive (argumentLookups (a ∷ []))
+unfolding argumentsRead
+argument-countable f archive rest place a size behind inside e =
+    let stands = arguments-stand f archive 1 rest place behind inside in rw e at stands
+
+-- ---- rooms that are counted in one after the other
+
+-- the slots of a room that can be counted in are wide
+slots-wide : (f : Format) (archive room : List ℕ) (context : ℕ) → CanCount f archive room context → Wide (tableWords f) (slotsIn f room)
+slots-wide f archive room context can =
+    record { some = omega arith; low = omega (arith, can .fits .indexes); long = omega (arith, can .wide, length-drop (tableWords f) room) }
+
+module _ (f : Format) (archive room : List ℕ) (context until : ℕ) (can : CanCount f archive room context) (after : List ℕ)
+    (long : length after ≡ length room) where
+  -- a room as long can be counted in
+  pub can-after : CanCount f archive after context
+  can-after = record { fits = can .fits; short = can .short; wide = omega (arith, can .wide, long); low = can .low }
+
+  -- what is remembered in it may be used, where a reference that stands in the archive was counted
+  pub recalls-after-one : (l : Lookup) → 2 ≤ l .table → l .table ≤ 3 → CanStand archive (l .reference) → Recalls f archive room until
+      → after ≡ tablesIn f room ++ lookupSlots f archive (tablesIn f room) (slotsIn f room) context until l → Recalls f archive after until
+  recalls-after-one l least most stands recalls e =
+      let q = room-after (tableWords f) room _ after (omega (arith, can .wide)) e in
+      rw (q .tables, q .stand)
+      (remembers-lookup f archive (tablesIn f room) context until (can .short) (can .low) (slotsIn f room) l (slots-wide f archive room context can) least most
+      (can-stand archive (l .reference) stands) recalls)
+
+  -- and where several were
+  pub recalls-after : (ls : List Lookup) → LookupsStand archive ls → Recalls f archive room until
+      → after ≡ tablesIn f room ++ lookupsSlots f archive (tablesIn f room) (slotsIn f room) context until ls → Recalls f archive after until
+  recalls-after ls stands recalls e =
+      let q = room-after (tableWords f) room _ after (omega (arith, can .wide)) e in
+      rw (q .tables, q .stand)
+      (remembers-lookups f archive (tablesIn f room) context until (can .short) (can .low) ls stands (slotsIn f room) (slots-wide f archive room context can) recalls)
+
+-- ---- a slot that is remembered, whose room is lent from its n-th word on
+
+module _ (f : Format) (archive room : List ℕ) (context until : ℕ) (l : Lookup) (n word : ℕ) (can : CanCount f archive room context)
+    (recalls : Recalls f archive room until) (least : 2 ≤ l .table) (most : l .table ≤ 3) (words : n ≡ tableWords f)
+    (told : word ≡ recalled f (take (length room - n) (drop n room)) context (l .table) (l .reference)) (some : word ≡ 0 → ⊥) where
+  -- what is told of the slots that are lent is told of the room's
+  told-in : recalled f (slotsIn f room) context (l .table) (l .reference) ≡ word
+  told-in = sym (rw (part-from n room, words) at told)
+
+  -- the slots are wide, and the one that is remembered is one of them
+  pub again-fits : Wide n (take (length room - n) (drop n room)) × (word - 1 < n - 18)
+  again-fits =
+      let wide = slots-wide f archive room context can in (
+        rw (part-from n room, words) wide,
+        omega (
+          arith,
+          words,
+          recalled-low f archive (tablesIn f room) (slotsIn f room) context (l .table) until (l .reference) word wide recalls (can .low) least
+              most some told-in,
+        ),
+      )
+
+  -- one use more of its key counts the reference, and the room has the slots back
+  pub again-counts : (slots : List ℕ) → slots ≡ usedAgain n (take (length room - n) (drop n room)) (word - 1)
+      → (true ≡ lookupGood f archive (tablesIn f room) (slotsIn f room) context until l)
+      × (take n room ++ (slots ++ drop (length room - n) (drop n room))
+      ≡ tablesIn f room ++ lookupSlots f archive (tablesIn f room) (slotsIn f room) context until l)
+  again-counts slots used =
+      let is : word ≡ word - 1 + 1 = omega arith in
+      let r = recalled-is f archive (tablesIn f room) (slotsIn f room) context (l .table) until (l .reference) (word - 1) recalls (can .low) least most
+      (told-in ∙ is) in
+      let q = recalled-counts f archive (tablesIn f room) context until (slotsIn f room) l (word - 1)
+      (slots-wide f archive room context can) r (told-in ∙ is) in
+      let used-in = rw (part-from n room, words) at used in
+      (sym (q .0), slots-back n room slots ∙ rw words (ap (λ (x : List ℕ). tablesIn f room ++ x) (used-in ∙ sym (q .1))))

@@ -3,6 +3,7 @@ pub mod References
 pub mod Told
 pub mod Kept
 pub mod Counts
+pub mod Memory
 pub mod Findings
 pub mod Checked
 pub mod Counting

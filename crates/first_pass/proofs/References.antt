@@ -1,18 +1,18 @@
 -- What the references of a record come to where they stand in the archive: no use, or one use of a plain key whose bytes stand at a place.
 -- A record's uses, its unresolved references and its words, by the list of its references. Assumes nothing.
-use Prim.Native.Nat.{ℕ, zero, suc, _+_, _-_, _*_, _/_, _≤_, _<_}
-use mathlib.Core.Path.{_≡_, refl, sym, ap, _∙_}
+use Prim.Native.Nat.{ℕ, _+_, _-_, _/_, _≤_, _<_}
+use mathlib.Core.Path.{_≡_, refl, sym}
 use mathlib.Core.List.{List, [], _∷_, _++_}
-use mathlib.Core.Bool.{Bool, true, false, _||_}
+use mathlib.Core.Bool.{Bool, true, false}
 use mathlib.Core.Option.{Option, some}
 use mathlib.Core.Logic.{_⊎_, inl, inr}
 use native.Mathlib.Omega.{arith}
-use borrow.Author.Tests.{eqb-true, eqb-false}
-use lib.Dec.{eqb}
-use lib.ListN.{length, take, drop, length-append}
+use borrow.Author.Tests.{eqb-true, eqb-false, ltb-false}
+use lib.Dec.{eqb, ltb}
+use lib.ListN.{length}
 use Rattle.passes.specs.Models.Codes.{codeOf}
 use Rattle.passes.specs.Models.Item.{referentAt, textAt, argumentsAt, reportAt}
-use Rattle.tally.specs.Models.Slots.{labelOf, keyOf, findOf, isAdded, added}
+use Rattle.tally.specs.Models.Slots.{labelOf, keyOf, findOf, isAdded, added, remembering}
 use Rattle.records.specs.Models.Fixed.{valueWords, argumentsWords}
 use Rattle.format.specs.Models.Bounds.{Inside}
 use Rattle.words.specs.Word.{wordAt}
@@ -26,9 +26,7 @@ use Rattle.format.specs.Part.{inlineBytes}
 use Rattle.arguments.specs.declared.Value.{Value as ReadValue}
 use Rattle.arguments.specs.declared.Value.the-variants.{Scalar as ScalarValue, Text as TextValue}
 use Rattle.arguments.specs.declared.Argument.{Argument as ReadArgument}
-use Rattle.arguments.specs.declared.Argued.{Argued}
-use Rattle.arguments.specs.declared.Argued.the-variants.{Refused as ArgumentRefused, Argument as ArgumentRead}
-use Rattle.arguments.specs.Argument.{argumentOf, onArgued, textIn, argumentsRead}
+use Rattle.arguments.specs.Argument.{textIn}
 use Rattle.records.specs.declared.Lookup.{Lookup}
 use Rattle.records.specs.declared.Report.{Report as ReadReport}
 use Rattle.records.specs.Lookups.{argumentLookups, argumentsTo, reportLookups}
@@ -38,13 +36,17 @@ use Rattle.contexts.specs.declared.State.{State}
 use Rattle.contexts.specs.Context.{providerOf}
 use Rattle.tables.specs.declared.Resolved.{Resolved}
 use Rattle.tables.specs.declared.Resolved.the-variants.{Bad, Known, Unresolved}
-use Rattle.tables.specs.Table.{tableWords, highestOf, resolved, lookedUp}
+use Rattle.tables.specs.Table.{tableWords, highestOf, position, resolved, lookedUp}
+use Rattle.tables.specs.Models.Entries.{FormatFits}
+use Rattle.tables.proofs.Tables.{position-lt}
+use Rattle.format.specs.Limits.{longestArchive}
+use Rattle.passes.specs.Models.Memory.{noted}
 use Rattle.views.specs.Shown.{shownText, shownThread, shownReferent, shownStream, shownValue}
 use Rattle.reader.specs.Reads.{textItem, referentItem, streamItem, providerItem, valueItem}
 use Rattle.reader.proofs.Changes.{IsTable}
 use Rattle.rule.specs.Refusal.{itemUnresolved, limitOf}
-use Rattle.passes.proofs.Places.{KnownStands, LookupStands, LookupsStand, lookup-known, part-inside}
-use Rattle.passes.proofs.Codes.{KeyPlain, UsesPlain, plain-both, text-code, thread-code}
+use Rattle.passes.proofs.Places.{KnownStands, LookupStands, lookup-known, part-inside}
+use Rattle.passes.proofs.Codes.{KeyPlain, text-code, thread-code}
 use Rattle.first_pass.specs.Models.Count.{unresolvedIn, countGood, countSlots, lookupGood, lookupSlots, anyUnresolved, wordsIn, wordsRead, reportUnresolved, reportWords}
 
 -- ---- the uses of references
@@ -70,12 +72,26 @@ no-use : (provider : Option ℕ) (bytes : List ℕ) → length bytes ≡ 0 → t
 no-use provider [] h = refl
 no-use provider (b ∷ bs) h = absurd (omega arith)
 
--- a key whose bytes stand at a place under this label of a context: it is plain, and `most` is its limit
+-- slots in which a word is remembered, or the same slots
+abbrev pub Noted : Format → List ℕ → List ℕ → Type 0
+Noted f slots after = (after ≡ slots) ⊎ ((entry word : ℕ) × (entry < tableWords f) × (after ≡ remembering (tableWords f) slots entry word))
+
+-- what is noted for a reference in one of the nine contexts is so
+noted-is : (f : Format) (slots : List ℕ) (context table : ℕ) (r : Reference) (word : ℕ) → context ≤ 8 → Noted f slots (noted f slots context table r word)
+unfolding noted
+noted-is f slots context table (Inline place long) word low = inl refl
+noted-is f slots context table (Index index) word low =
+    cases (ltb (highestOf f table) index) (λ q. rw q (inl refl))
+    (λ q. rw q (inr (position f context table index, word, position-lt f context table index low (ltb-false (highestOf f table) index q), refl)))
+
+-- a key whose bytes stand at a place under this label of a context: it is plain, `most` is its limit, and both fit a slot
 pub record KeyStands (f : Format) (archive : List ℕ) (context : ℕ) (key : Key) (place label most : ℕ) : Type 0 where
   pub plain : KeyPlain key
   pub own : keyOf archive place label ≡ codeOf f context key
   pub limited : most ≡ limitOf f key
   pub behind : 0 < place
+  pub small : place < 16777216
+  pub few : most < 65536
 
 -- what holds of a reference that comes to nothing, unresolved or empty, and of one that is one use of such a key, by uses, whether it is
 -- unresolved, whether it is counted, and the slots after it
@@ -83,25 +99,27 @@ pub record OfLookup (f : Format) (archive slots : List ℕ) (provider : Option �
     : Type 0 where
   pub missing : P [] true false slots
   pub empty : P [] false true slots
-  pub used : (key : Key) (place label most : ℕ) → KeyStands f archive context key place label most
+  pub used : (key : Key) (place label most : ℕ) → KeyStands f archive context key place label most → (after : List ℕ)
+      → Noted f (added (tableWords f) slots place label most (findOf archive (tableWords f) slots (keyOf archive place label))) after
       → P (record { provider = provider; key = key } ∷ []) false
-      (isAdded (tableWords f) slots label most (findOf archive (tableWords f) slots (keyOf archive place label)))
-      (added (tableWords f) slots place label most (findOf archive (tableWords f) slots (keyOf archive place label)))
+      (isAdded (tableWords f) slots label most (findOf archive (tableWords f) slots (keyOf archive place label))) after
 
 -- what holds of what a reference was looked up as
-abbrev Holds : Format → List ℕ → List ℕ → Option ℕ → ℕ → ℕ → Resolved → (List Use → Bool → Bool → List ℕ → Type 0) → Type 0
-Holds f archive slots provider context table r P =
+abbrev Holds : Format → List ℕ → List ℕ → Option ℕ → ℕ → ℕ → Reference → Resolved → (List Use → Bool → Bool → List ℕ → Type 0) → Type 0
+Holds f archive slots provider context table reference r P =
     P (referentUses provider (referentItem archive (shownReferent f archive table r))) (unresolvedIn r) (countGood f archive slots context table r)
-    (countSlots f archive slots context table r)
+    (countSlots f archive slots context table reference r)
 
-module _ (f : Format) (archive : List ℕ) (bytes : AllBytes archive) (provider : Option ℕ) (context : ℕ) where
+module _ (f : Format) (archive : List ℕ) (fits : FormatFits f) (bytes : AllBytes archive) (small : length archive ≤ longestArchive) (provider : Option ℕ)
+    (context : ℕ) (low : context ≤ 8) where
   -- a text
-  on-text : (slots : List ℕ) (P : List Use → Bool → Bool → List ℕ → Type 0) → OfLookup f archive slots provider context P → (r : Resolved)
-      → ((place long : ℕ) → r ≡ Known place long → KnownStands archive place long) → Holds f archive slots provider context 2 r P
+  on-text : (slots : List ℕ) (P : List Use → Bool → Bool → List ℕ → Type 0) → OfLookup f archive slots provider context P → (reference : Reference)
+      (r : Resolved) → ((place long : ℕ) → r ≡ Known place long → KnownStands archive place long)
+      → Holds f archive slots provider context 2 reference r P
   unfolding shownReferent shownText unresolvedIn countGood countSlots highestOf
-  on-text slots P of Bad stands = of .missing
-  on-text slots P of (Unresolved index) stands = of .missing
-  on-text slots P of (Known place long) stands =
+  on-text slots P of reference Bad stands = of .missing
+  on-text slots P of reference (Unresolved index) stands = of .missing
+  on-text slots P of reference (Known place long) stands =
       let k = stands place long refl in
       let part = partOf archive place long in
       let whole = part-inside archive place long (k .inside) .1 in
@@ -114,15 +132,18 @@ module _ (f : Format) (archive : List ℕ) (bytes : AllBytes archive) (provider 
         own = text-code f archive place long context (k .short) whole;
         limited = refl;
         behind = k .behind (omega arith);
-      })))
+        small = omega (arith, k .inside);
+        few = omega (arith, fits .indexes);
+      }) _ (noted-is f _ context 2 reference _ low)))
 
   -- a thread
-  on-thread : (slots : List ℕ) (P : List Use → Bool → Bool → List ℕ → Type 0) → OfLookup f archive slots provider context P → (r : Resolved)
-      → ((place long : ℕ) → r ≡ Known place long → KnownStands archive place long × (long ≡ 16)) → Holds f archive slots provider context 3 r P
+  on-thread : (slots : List ℕ) (P : List Use → Bool → Bool → List ℕ → Type 0) → OfLookup f archive slots provider context P → (reference : Reference)
+      (r : Resolved) → ((place long : ℕ) → r ≡ Known place long → KnownStands archive place long × (long ≡ 16))
+      → Holds f archive slots provider context 3 reference r P
   unfolding shownReferent shownThread unresolvedIn countGood countSlots highestOf
-  on-thread slots P of Bad stands = of .missing
-  on-thread slots P of (Unresolved index) stands = of .missing
-  on-thread slots P of (Known place long) stands =
+  on-thread slots P of reference Bad stands = of .missing
+  on-thread slots P of reference (Unresolved index) stands = of .missing
+  on-thread slots P of reference (Known place long) stands =
       let k = stands place long refl in
       let t = thread (wordAt (f .order) archive place) (wordAt (f .order) archive (place + 8)) in
       let sixteen = k .1 in
@@ -133,7 +154,9 @@ module _ (f : Format) (archive : List ℕ) (bytes : AllBytes archive) (provider 
         own = thread-code f archive place context bytes (omega arith);
         limited = refl;
         behind = k .0 .behind (omega arith);
-      }))
+        small = omega (arith, inside);
+        few = omega arith;
+      }) _ (noted-is f _ context 3 reference _ low))
 
   module _ (tables : List ℕ) (until : ℕ) where
     -- any reference
@@ -143,54 +166,15 @@ module _ (f : Format) (archive : List ℕ) (bytes : AllBytes archive) (provider 
         (lookupGood f archive tables slots context until l) (lookupSlots f archive tables slots context until l)
     on-lookup slots P of l stands = go (stands .table)
       where
-        go : IsTable (l .table) → Holds f archive slots provider context (l .table) (lookedUp f archive tables context until l) P
+        go : IsTable (l .table) → Holds f archive slots provider context (l .table) (l .reference) (lookedUp f archive tables context until l) P
         go (inl k) =
-            rw k (on-text slots P of (resolved f archive tables context 2 until (l .reference))
+            rw k (on-text slots P of (l .reference) (resolved f archive tables context 2 until (l .reference))
             (λ place long e. lookup-known f archive tables context until l place long stands (rw k e) .0))
         go (inr k) =
-            rw k (on-thread slots P of (resolved f archive tables context 3 until (l .reference))
+            rw k (on-thread slots P of (l .reference) (resolved f archive tables context 3 until (l .reference))
             (λ place long e. let q = lookup-known f archive tables context until l place long stands (rw k e) in (q .0, q .1 k)))
 
-    -- references that stand in the archive have plain uses
-    pub lookups-plain : (ls : List Lookup) → LookupsStand archive ls → UsesPlain (lookupsUses f archive tables provider context until ls)
-    lookups-plain [] stands = tt
-    lookups-plain (l ∷ more) stands =
-        plain-both (lookupUses f archive tables provider context until l) (lookupsUses f archive tables provider context until more)
-        (on-lookup [] (λ us bad good slots. UsesPlain us)
-        (record { missing = tt; empty = tt; used = λ key place label most k. (k .plain, tt) }) l (stands .0))
-        (lookups-plain more (stands .1))
-
-    -- and one each at most
-    pub lookups-few : (ls : List Lookup) → LookupsStand archive ls → length (lookupsUses f archive tables provider context until ls) ≤ length ls
-    lookups-few [] stands = omega arith
-    lookups-few (l ∷ more) stands =
-        let one : length (lookupUses f archive tables provider context until l) ≤ 1 =
-        on-lookup [] (λ us bad good slots. length us ≤ 1)
-        (record { missing = omega arith; empty = omega arith; used = λ key place label most k. omega arith }) l (stands .0) in
-        omega (
-          arith,
-          one,
-          lookups-few more (stands .1),
-          length-append (lookupUses f archive tables provider context until l) (lookupsUses f archive tables provider context until more),
-        )
-
 -- ---- arguments as they are read
-
--- no more are read than there are, with two references each
-arguments-few : (f : Format) (n : ℕ) (rest : List ℕ) (place : ℕ) → length (argumentLookups (argumentsRead f n rest place)) ≤ 2 * n
-unfolding argumentsRead
-arguments-few f zero rest place = omega arith
-arguments-few f (suc n) rest place = go (λ more at. arguments-few f n more at) (argumentOf f rest place)
-  where
-    go : ((more : List ℕ) (at : ℕ) → length (argumentLookups (argumentsRead f n more at)) ≤ 2 * n) → (x : Argued)
-        → length (argumentLookups (onArgued x (λ number. []) (λ a size. a ∷ argumentsRead f n (drop size rest) (place + size)))) ≤ 2 * suc n
-    go few (ArgumentRefused number) = omega arith
-    go few (ArgumentRead a size) = omega (arith, few (drop size rest) (place + size))
-
--- a record of 15 arguments at most has 33 references at most
-pub report-few : (f : Format) (archive : List ℕ) (r : ReadReport) (next : ℕ) → r .count ≤ 15 → length (reportLookups f archive r next) ≤ 33
-report-few f archive r next low =
-    omega (arith, low, arguments-few f (r .count) (take (next - r .arguments) (drop (r .arguments) archive)) (r .arguments))
 
 module _ (f : Format) (archive tables : List ℕ) (context until : ℕ) where
   -- a value's text is what its text reference stands for; a scalar has none

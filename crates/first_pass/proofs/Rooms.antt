@@ -1,9 +1,10 @@
 -- The first pass in its room, the reading tables and behind them the slots of the tally: what holds before each record, that it holds at first and
 -- behind each record, what its calls ask for, and what follows where it stops or ends.
 -- Assumes nothing.
-use Prim.Native.Nat.{ℕ, _+_, _*_, _^_, _≤_, _<_}
+use Prim.Native.Nat.{ℕ, _+_, _-_, _*_, _^_, _≤_, _<_}
 use mathlib.Core.Path.{_≡_, refl, sym, ap, _∙_}
 use mathlib.Core.List.{List, _++_}
+use mathlib.Core.Bool.{true}
 use native.Mathlib.Omega.{arith}
 use lib.Dec.{eqb}
 use lib.ListN.{length, take, drop, getD, length-append, length-drop}
@@ -20,20 +21,30 @@ use Rattle.contexts.specs.Context.{opening}
 use Rattle.tables.specs.Table.{tableWords}
 use Rattle.reader.specs.Step.{openingNumber}
 use Rattle.effects.specs.declared.Followed.{Followed}
+use Rattle.passes.proofs.Rooms.{slots-back}
 use Rattle.passes.proofs.Turns.{turn-tables, turn-place}
 use Rattle.first_pass.specs.declared.Counted.{Counted}
 use Rattle.first_pass.specs.declared.Finding.{Finding}
 use Rattle.first_pass.specs.declared.Count.{Count}
 use Rattle.first_pass.specs.declared.Count.the-variants.{Refused}
-use Rattle.first_pass.specs.Models.Count.{recordChecked, checkedSlots}
+use Rattle.first_pass.specs.Models.Count.{Recalls, recordChecked, checkedSlots}
 use Rattle.first_pass.specs.Models.Found.{lowestOf, concluded, CountIs}
 use Rattle.first_pass.specs.Models.Left.{SlotsLeft}
-use Rattle.first_pass.proofs.Counting.{Counting, counting-start, counting-short, counting-words, counting-turn, counting-stop, stop-slots, stop-tables, end-tables, end-slots, counting-end}
-use Rattle.first_pass.proofs.Laws.{room-after}
+use Rattle.first_pass.proofs.Counting.{Counting, counting-noted, counting-start, counting-short, counting-words, counting-turn, counting-stop, stop-slots, stop-tables, end-tables, end-slots, counting-end}
+use Rattle.first_pass.proofs.Laws.{RoomAfter, room-after}
+use Rattle.first_pass.proofs.References.{Noted}
+use Rattle.first_pass.proofs.Counts.{kept-noted}
+use Rattle.first_pass.proofs.Memory.{renewed-noted, report-remembers, checked-remembers}
+use Rattle.passes.specs.Models.Memory.{renewed, Remembers}
+use Rattle.passes.proofs.Memory.{remembers-none, record-renews}
+use Rattle.format.specs.Limits.{longestArchive}
+use Rattle.records.specs.declared.Report.{Report}
+use Rattle.records.specs.declared.Content.the-variants.{Report as ReportRead}
 
 -- what holds of the room before each record; `start` is the room at first
 pub record RoomCounting (f : Format) (archive start room : List ℕ) (s : State) (found : Finding) (words : ℕ) : Type 0 where
   pub counting : Counting f archive s (take (tableWords f) room) (drop (tableWords f) start) (drop (tableWords f) room) found words
+  pub remembers : Remembers f archive (take (tableWords f) room) (drop (tableWords f) room) (s .place)
   pub long : length room ≡ length start
   pub wide : 4 * tableWords f ≤ length start
 
@@ -53,11 +64,13 @@ pub room-starts : (f : Format) (archive room : List ℕ) → FormatFits f → Al
     → RoomCounting f archive room room opening (record { number = 0; place = 0 }) 0
 room-starts f archive room fits bytes opens wide zeros =
     record {
-      counting = counting-start f archive (take (tableWords f) room) (drop (tableWords f) room) bytes opens
+      counting = counting-start f archive (take (tableWords f) room) (drop (tableWords f) room) fits bytes opens
           (length-take-le (tableWords f) room (omega arith))
           (λ i l. getD-take (tableWords f) room i 0 l ∙ zeros i (omega arith))
           (record { some = omega arith; low = omega (arith, fits .indexes); long = omega (arith, length-drop (tableWords f) room) })
           (λ i l. getD-drop (tableWords f) room i 0 ∙ zeros (tableWords f + i) (omega arith));
+      remembers = remembers-none f archive (take (tableWords f) room) (drop (tableWords f) room) 0
+          (λ entry l. getD-drop (tableWords f) room (2 * tableWords f + entry) 0 ∙ zeros (tableWords f + (2 * tableWords f + entry)) (omega arith));
       long = refl;
       wide = wide;
     }
@@ -70,7 +83,7 @@ behind-slots f room =
 
 module _ (f : Format) (archive start room : List ℕ) (s : State) (found : Finding) (words : ℕ) (h : RoomCounting f archive start room s found words) where
   -- the archive is short, and the state is one that the calls take
-  pub room-state : (length archive < 2 ^ 31) × (s .count ≤ 8) × (s .current ≤ 8) × (s .place ≤ length archive) × (s .place < 2 ^ 32)
+  pub room-state : (length archive ≤ longestArchive) × (s .count ≤ 8) × (s .current ≤ 8) × (s .place ≤ length archive) × (s .place < 2 ^ 32)
   room-state =
       let short = counting-short f archive s (take (tableWords f) room) (drop (tableWords f) start) (drop (tableWords f) room) found words (h .counting) in
       let sound = h .counting .sound in
@@ -156,40 +169,94 @@ module _ (f : Format) (archive start room : List ℕ) (s : State) (found : Findi
       record-ends =
           rw (steps, reads) (turn-place f archive (take (tableWords f) room) s (h .counting .sound) (h .counting .opens) more goes-on)
 
-      module _ (counted : Counted)
+      -- the room when the entry that the record sets is renewed in the slots
+      module _ (left : List ℕ) (renews : left ≡ renewed f archive (drop stretch (tables ++ drop stretch room)) s (r .content)) where
+        -- the room as it was followed
+        abbrev followed-room : List ℕ
+        followed-room = tables ++ drop stretch room
+
+        -- and with the slots that renewing left
+        abbrev pub room′ : List ℕ
+        room′ = take stretch followed-room ++ (left ++ drop (length followed-room - stretch) (drop stretch followed-room))
+
+        -- these slots, by the archive's record
+        abbrev slots′ : List ℕ
+        slots′ = renewed f archive (drop (tableWords f) room) s (recordAt f archive (s .place) .content)
+
+        -- the tables stay as they were followed, and the slots stand behind them
+        room-renewed : RoomAfter (tableWords f) (tables ++ drop stretch room) slots′ room′
+        room-renewed =
+            room-after (tableWords f) (tables ++ drop stretch room) slots′ room′ (omega (arith, followed-long, h .wide))
+            (slots-back stretch followed-room left
+            ∙ (ap (λ (l : List ℕ). take stretch followed-room ++ l) renews
+            ∙ (ap (λ (n : ℕ). take n followed-room ++ renewed f archive (drop n followed-room) s (r .content)) words-are
+            ∙ (ap (λ (l : List ℕ). take (tableWords f) followed-room ++ renewed f archive l s (r .content)) slots-stay
+            ∙ ap (λ x. take (tableWords f) followed-room ++ renewed f archive (drop (tableWords f) room) s (x .content)) reads))))
+
+        renewed-first : take (tableWords f) room′ ≡ tablesAfter f (take (tableWords f) room) s (recordAt f archive (s .place) .content)
+        renewed-first = room-renewed .tables ∙ tables-first
+
+        -- what was renewed is a word that is remembered
+        slots-noted : Noted f (drop (tableWords f) room) slots′
+        slots-noted =
+            renewed-noted f archive (drop (tableWords f) room) s (recordAt f archive (s .place) .content) (room-state .2) (record-renews f archive (s .place))
+
+        -- so the room is as long as it was
+        renewed-long : length room′ ≡ length start
+        renewed-long =
+            let kept = kept-noted f (drop (tableWords f) room) slots′ slots-noted .long in
+            let all = ap length (room-renewed .stand) in
+            omega (arith, kept, all, length-drop (tableWords f) room′, length-drop (tableWords f) room, room-renewed .wide, room-wide, h .long)
+
+        -- it holds of them what held of the slots before
+        counting′ : Counting f archive s (take (tableWords f) room) (drop (tableWords f) start) slots′ found words
+        counting′ =
+            counting-noted f archive s (take (tableWords f) room) (drop (tableWords f) start) (drop (tableWords f) room) found words (h .counting) slots′
+            slots-noted
+
+        -- at a record that refers to texts and threads, what is remembered may be used
+        pub room-recalls : (q : Report) → r .content ≡ ReportRead q → Recalls f archive room′ (s .place) × (0 < s .place)
+        room-recalls q e =
+            rw (renewed-first, room-renewed .stand)
+            (report-remembers f archive (take (tableWords f) room) (drop (tableWords f) room) s (h .counting .sound) (h .counting .opens) (h .counting .wide)
+            (h .remembers) true (recordAt f archive (s .place) .content) q refl (ap (λ x. x .content) (sym reads) ∙ e))
+
+      module _ (left : List ℕ) (renews : left ≡ renewed f archive (drop stretch (tables ++ drop stretch room)) s (r .content)) (counted : Counted)
           (checks : counted
-          ≡ recordChecked f archive (take (tableWords f) (tables ++ drop stretch room)) (drop (tableWords f) (tables ++ drop stretch room)) s (r .content) (r .next)
+          ≡ recordChecked f archive (take (tableWords f) (room′ left renews)) (drop (tableWords f) (room′ left renews)) s (r .content) (r .next)
           (eqb (found .number) 0)) where
         -- what is found at it is by the archive's record
         checked-so : counted
-            ≡ recordChecked f archive (tablesAfter f (take (tableWords f) room) s (recordAt f archive (s .place) .content)) (drop (tableWords f) room) s
+            ≡ recordChecked f archive (tablesAfter f (take (tableWords f) room) s (recordAt f archive (s .place) .content)) (slots′ left renews) s
             (recordAt f archive (s .place) .content) (recordAt f archive (s .place) .next) (eqb (found .number) 0)
-        checked-so = checks ∙ rw (tables-first, slots-stay, reads)
+        checked-so = checks ∙ rw (renewed-first left renews, room-renewed left renews .stand, reads)
 
         -- all words counted up to it stand in the archive
         pub room-words : 8 * (words + counted .words) ≤ length archive
         room-words =
-            let all = counting-words f archive s (take (tableWords f) room) (drop (tableWords f) start) (drop (tableWords f) room) found words
-            (h .counting) more goes-on in
+            let all = counting-words f archive s (take (tableWords f) room) (drop (tableWords f) start) (slots′ left renews) found words
+            (counting′ left renews) more goes-on in
             let ends = turn-place f archive (take (tableWords f) room) s (h .counting .sound) (h .counting .opens) more goes-on in
             rw checked-so (omega (arith, all, ends))
 
         -- and behind it, it holds again
-        pub room-turns : (last : List ℕ) (worst : Finding) → length last ≡ length (tables ++ drop stretch room)
+        pub room-turns : (last : List ℕ) (worst : Finding) → length last ≡ length (room′ left renews)
             → last
-            ≡ take (tableWords f) (tables ++ drop stretch room)
-            ++ checkedSlots f archive (take (tableWords f) (tables ++ drop stretch room)) (drop (tableWords f) (tables ++ drop stretch room)) s (r .content)
-            (r .next) (eqb (found .number) 0)
+            ≡ take (tableWords f) (room′ left renews)
+            ++ checkedSlots f archive (take (tableWords f) (room′ left renews)) (drop (tableWords f) (room′ left renews)) s (r .content) (r .next) (eqb (found .number) 0)
             → worst ≡ lowestOf found (counted .number) (s .place)
             → RoomCounting f archive start last (step .state) worst (words + counted .words)
         room-turns last worst long leaves lowers =
-            let wide : tableWords f ≤ length (tables ++ drop stretch room) = omega (arith, followed-long, h .wide) in
-            let q = room-after (tableWords f) (tables ++ drop stretch room) _ last wide leaves in
+            let wide : tableWords f ≤ length (room′ left renews) = omega (arith, renewed-long left renews, h .wide) in
+            let q = room-after (tableWords f) (room′ left renews) _ last wide leaves in
             let state : step .state ≡ afterRecord s (recordAt f archive (s .place) .content) (recordAt f archive (s .place) .next) .state = rw (steps, reads) in
             record {
-              counting = rw (q .tables, q .stand, lowers, checked-so, tables-first, slots-stay, state, reads)
-                  (counting-turn f archive s (take (tableWords f) room) (drop (tableWords f) start) (drop (tableWords f) room) found words (h .counting) more
-                  goes-on);
-              long = long ∙ followed-long;
+              counting = rw (q .tables, q .stand, lowers, checked-so, renewed-first left renews, room-renewed left renews .stand, state, reads)
+                  (counting-turn f archive s (take (tableWords f) room) (drop (tableWords f) start) (slots′ left renews) found words
+                  (counting′ left renews) more goes-on);
+              remembers = rw (q .tables, q .stand, renewed-first left renews, room-renewed left renews .stand, record-ends .0, reads)
+                  (checked-remembers f archive (take (tableWords f) room) (drop (tableWords f) room) s (h .counting .sound) (h .counting .opens)
+                  (h .counting .wide) (h .remembers) (eqb (found .number) 0) (recordAt f archive (s .place) .content) refl);
+              long = long ∙ renewed-long left renews;
               wide = h .wide;
             }

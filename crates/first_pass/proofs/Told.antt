@@ -1,13 +1,14 @@
 -- What slots tell of some uses within the limits, and what counting one use more, and uses one after the other, comes to.
 -- Assumes nothing.
-use Prim.Native.Nat.{ℕ, _+_, _-_, _/_, _^_, _≤_, _<_}
+use Prim.Native.Nat.{ℕ, _+_, _-_, _/_, _≤_, _<_}
 use mathlib.Core.Path.{_≡_, refl, sym, ap, _∙_}
 use mathlib.Core.List.{List, [], _∷_, _++_}
 use mathlib.Core.Bool.{Bool, true, false, _&&_, _||_, true≢false}
 use mathlib.Core.Option.{Option}
+use mathlib.Core.Logic.{inl, inr}
 use native.Mathlib.Omega.{arith}
 use borrow.Author.Tests.{le-ltb, lt-ltb}
-use lib.ListN.{length, getD, length-append}
+use lib.ListN.{getD}
 use Rattle.passes.specs.Models.Codes.{contextIn, codeOf, codeIn, codes}
 use Rattle.tally.specs.Models.Tally.{distinct, Tallies}
 use Rattle.tally.specs.Models.Slots.{keyOf, keyMark, findOf, isAdded, added}
@@ -25,10 +26,10 @@ use Rattle.rule.specs.Refusal.{alike, limitOf, passesLimit}
 use Rattle.tally.specs.declared.Slot.{Slot}
 use Rattle.tally.specs.declared.Slot.the-variants.{Here, Free, Full}
 use Rattle.tally.proofs.Sums.{distinct-alike}
-use Rattle.tally.proofs.Tallied.{tally-alike, add-tally, added-within, not-added}
-use Rattle.passes.proofs.Codes.{KeyPlain, UsesPlain, plain-both, codes-both, codes-length, tableMark, code-mark, alike-distinct}
+use Rattle.tally.proofs.Tallied.{tally-alike, add-tally, added-within, not-added, remembering-tally}
+use Rattle.passes.proofs.Codes.{KeyPlain, UsesPlain, plain-both, codes-both, tableMark, code-mark, alike-distinct}
 use Rattle.first_pass.specs.Models.Left.{withinLimit}
-use Rattle.first_pass.proofs.References.{KeyStands}
+use Rattle.first_pass.proofs.References.{KeyStands, Noted}
 use Rattle.first_pass.proofs.Limits.{limitsOf, mark-limit, limits-sum, limit-more, limit-last}
 
 -- ---- uses of open contexts
@@ -83,6 +84,26 @@ pub record Outcome (f : Format) (archive : List ℕ) (last : State) (slots : Lis
   pub clean : good ≡ true → (bad ≡ false) × Told f archive last slots uses
   pub over : good ≡ false → bad ≡ false → passesLimit f uses uses ≡ true
 
+-- where a word is remembered, slots tell of what they told of
+pub told-noted : (f : Format) (archive : List ℕ) (last : State) (slots after : List ℕ) (uses : List Use) → Noted f slots after
+    → Told f archive last slots uses → Told f archive last after uses
+told-noted f archive last slots after uses (inl e) told = rw e told
+told-noted f archive last slots after uses (inr (entry, word, low, e)) told =
+    rw e (record {
+      plain = told .plain;
+      contexts = told .contexts;
+      tally = remembering-tally (told .tally) entry word;
+      within = told .within;
+    })
+
+-- and the same comes of it
+pub outcome-noted : (f : Format) (archive : List ℕ) (last : State) (slots after : List ℕ) (uses : List Use) (good bad : Bool) → Noted f slots after
+    → Outcome f archive last slots uses good bad → Outcome f archive last after uses good bad
+outcome-noted f archive last slots after uses good bad noted o = record {
+  clean = λ e. let c = o .clean e in (c .0, told-noted f archive last slots after uses noted (c .1));
+  over = o .over;
+}
+
 -- a use that is not counted leaves the slots
 not-added-same : (stretch : ℕ) (slots : List ℕ) (place label most : ℕ) (slot : Slot) → isAdded stretch slots label most slot ≡ false
     → added stretch slots place label most slot ≡ slots
@@ -135,7 +156,7 @@ module _ (f : Format) (archive : List ℕ) (last : State) where
 
     module _ (slots : List ℕ) (uses : List Use) (told : Told f archive last slots uses) (provider : Option ℕ) (context : ℕ)
         (here : contextIn last provider ≡ context) (low : context ≤ 8) (key : Key) (place label most : ℕ)
-        (stands : KeyStands f archive context key place label most) (short : length (uses ++ (record { provider = provider; key = key } ∷ [])) < 2 ^ 32) where
+        (stands : KeyStands f archive context key place label most) where
       -- the words of a stretch, the use, and the uses with it
       abbrev stretch : ℕ
       stretch = tableWords f
@@ -180,8 +201,7 @@ module _ (f : Format) (archive : List ℕ) (last : State) where
             plain = plain-both uses (u ∷ []) (told .plain) (stands .plain, tt);
             contexts = open-both last uses (u ∷ []) (told .contexts) (known, tt);
             tally = tally-alike (keyOf archive place label ∷ codes f last uses) (codes f last all)
-                (add-tally (told .tally) place label most (stands .behind) mark
-                (omega (arith, short, length-append uses (u ∷ []), codes-length f last uses)) good) counts;
+                (add-tally (told .tally) place label most (stands .behind) (stands .small) mark (stands .few) good) counts;
             within = λ m l. rw (← distinct-alike m (keyOf archive place label ∷ codes f last uses) (codes f last all) counts)
                 (added-within (told .tally) (limitsOf f) place label (told .within) mark (rw limit-is at good) m l);
           }

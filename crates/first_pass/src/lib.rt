@@ -3,17 +3,17 @@
 ghost use mathlib.Core.Path.{_≡_};
 ghost use mathlib.Core.List.{[], _∷_, _++_};
 ghost use mathlib.Core.Bool.{_&&_};
-ghost use Prim.Native.Nat.{ℕ, _+_, _*_, _^_, _<_, _≤_};
+ghost use Prim.Native.Nat.{ℕ, _+_, _*_, _<_, _≤_};
 ghost use lib.ListN.{length, take, drop, getD};
 ghost use Rattle.passes.specs.Models.Last.{tablesOf};
-ghost use Rattle.passes.specs.Models.Known.{ReferenceFits};
+ghost use Rattle.format.specs.Limits.{longestArchive};
 ghost use Rattle.tables.specs.Models.Entries.{FormatFits};
 ghost use Rattle.words.specs.Word.{pick};
 ghost use Rattle.arguments.specs.Argument.{textIn, argumentsRead};
 ghost use Rattle.records.specs.Lookups.{argumentLookups};
 ghost use Rattle.tables.specs.Table.{tableWords, resolved};
 ghost use Rattle.reader.specs.Step.{openingNumber};
-ghost use Rattle.first_pass.specs.Models.Count.{tablesIn, slotsIn, CanCount, RecordIs, wordsIn, wordsRead, unresolvedIn, lookupGood, lookupSlots, lookupsGood};
+ghost use Rattle.first_pass.specs.Models.Count.{tablesIn, slotsIn, CanCount, Recalls, CanStand, RecordIs, countGood, countSlots, wordsIn, wordsRead, unresolvedIn, lookupGood, lookupSlots, lookupsGood};
 ghost use Rattle.first_pass.specs.Models.Count.{lookupsSlots, anyUnresolved, reportGood, reportSlots, reportUnresolved, reportWords, reportChecked, plainWords, recordChecked, checkedSlots};
 ghost use Rattle.first_pass.specs.Models.Found.{lowestOf, concluded, CountIs};
 ghost use Rattle.first_pass.specs.Models.Left.{SlotsLeft};
@@ -76,8 +76,39 @@ fn value_words(value: Value) -> usize
     }
 }
 
-// What a reference stands for is counted; false where it is unresolved, or where it is new and its table would hold no more.
-fn count_reference(
+// Bytes that a reference stands for are counted, and their slot is remembered for it; false where they are new and their table would hold no
+// more.
+fn count_known(
+    f: Format,
+    archive: &[u8],
+    room: &mut [u32],
+    context: usize,
+    table: u64,
+    reference: Reference,
+    place: usize,
+    length: usize,
+) -> bool
+    requires { ⌜ CanCount f (now archive) (now room) context × (2 ≤ table) × (table ≤ 3) × (place + length ≤ longestArchive) × (length < 65536) ⌝ }
+    ensures { λ r. ⌜ r ≡ countGood f (now (archive .entry)) (slotsIn f (now (room .entry))) context table (Resolved.Known place length) ⌝ }
+    ensures { λ _. ⌜ now (room .exit) ≡ tablesIn f (now (room .entry)) ++ countSlots f (now (archive .entry)) (slotsIn f (now (room .entry))) context table reference (Resolved.Known place length) ⌝ }
+{
+    let words = tables::table_words(f);
+    if length == 0 {
+        return true;
+    }
+    let label = tally::label_of(context, table, length);
+    let highest = tables::highest_of(f, table);
+    let slot = tally::add_use(archive, &mut room[words..], words, place, label, highest);
+    passes::note(f, &mut room[words..], context, table, reference, slot);
+    if slot == 0 {
+        return false;
+    }
+    true
+}
+
+// What a reference stands for is looked up and counted; false where it is unresolved, or where it is new and its table would hold no more. It has
+// two callers, so that it stays a function, and their quick way is small enough to be put where they are called.
+fn count_resolved(
     f: Format,
     archive: &[u8],
     room: &mut [u32],
@@ -86,7 +117,7 @@ fn count_reference(
     reference: Reference,
     until: usize,
 ) -> bool
-    requires { ⌜ CanCount f (now archive) (now room) context × (2 ≤ table) × (table ≤ 3) × ReferenceFits reference ⌝ }
+    requires { ⌜ CanCount f (now archive) (now room) context × (2 ≤ table) × (table ≤ 3) × CanStand (now archive) reference ⌝ }
     ensures { λ r. ⌜ r ≡ lookupGood f (now (archive .entry)) (tablesIn f (now (room .entry))) (slotsIn f (now (room .entry))) context until (record { table = table; reference = reference }) ⌝ }
     ensures { λ _. ⌜ now (room .exit) ≡ tablesIn f (now (room .entry)) ++ lookupSlots f (now (archive .entry)) (tablesIn f (now (room .entry))) (slotsIn f (now (room .entry))) context until (record { table = table; reference = reference }) ⌝ }
 {
@@ -96,14 +127,54 @@ fn count_reference(
         Resolved::Bad => false,
         Resolved::Unresolved { index: _ } => false,
         Resolved::Known { place, length } => {
-            if length == 0 {
-                return true;
-            }
-            let label = tally::label_of(context, table, length);
-            let highest = tables::highest_of(f, table);
-            tally::add_use(archive, &mut room[words..], words, place, label, highest)
+            count_known(f, archive, room, context, table, reference, place, length)
         }
     }
+}
+
+// The same; where a slot is remembered for the reference, nothing is looked up and no key is searched for.
+fn count_reference(
+    f: Format,
+    archive: &[u8],
+    room: &mut [u32],
+    context: usize,
+    table: u64,
+    reference: Reference,
+    until: usize,
+) -> bool
+    requires { ⌜ CanCount f (now archive) (now room) context × (2 ≤ table) × (table ≤ 3) × CanStand (now archive) reference × Recalls f (now archive) (now room) until ⌝ }
+    ensures { λ r. ⌜ r ≡ lookupGood f (now (archive .entry)) (tablesIn f (now (room .entry))) (slotsIn f (now (room .entry))) context until (record { table = table; reference = reference }) ⌝ }
+    ensures { λ _. ⌜ now (room .exit) ≡ tablesIn f (now (room .entry)) ++ lookupSlots f (now (archive .entry)) (tablesIn f (now (room .entry))) (slotsIn f (now (room .entry))) context until (record { table = table; reference = reference }) ⌝ }
+{
+    let words = tables::table_words(f);
+    let known = passes::recall(f, &room[words..], context, table, reference);
+    if known != 0 {
+        tally::use_again(&mut room[words..], words, known - 1);
+        return true;
+    }
+    count_resolved(f, archive, room, context, table, reference, until)
+}
+
+// The same for a text: arguments refer to texts alone.
+fn count_text(
+    f: Format,
+    archive: &[u8],
+    room: &mut [u32],
+    context: usize,
+    reference: Reference,
+    until: usize,
+) -> bool
+    requires { ⌜ CanCount f (now archive) (now room) context × CanStand (now archive) reference × Recalls f (now archive) (now room) until ⌝ }
+    ensures { λ r. ⌜ r ≡ lookupGood f (now (archive .entry)) (tablesIn f (now (room .entry))) (slotsIn f (now (room .entry))) context until (record { table = 2; reference = reference }) ⌝ }
+    ensures { λ _. ⌜ now (room .exit) ≡ tablesIn f (now (room .entry)) ++ lookupSlots f (now (archive .entry)) (tablesIn f (now (room .entry))) (slotsIn f (now (room .entry))) context until (record { table = 2; reference = reference }) ⌝ }
+{
+    let words = tables::table_words(f);
+    let known = passes::recall(f, &room[words..], context, 2, reference);
+    if known != 0 {
+        tally::use_again(&mut room[words..], words, known - 1);
+        return true;
+    }
+    count_resolved(f, archive, room, context, 2, reference, until)
 }
 
 // The name and the text of an argument are counted.
@@ -115,15 +186,15 @@ fn count_argument(
     argument: Argument,
     until: usize,
 ) -> bool
-    requires { ⌜ CanCount f (now archive) (now room) context × ReferenceFits (argument .name) × ReferenceFits (textIn (argument .value)) ⌝ }
+    requires { ⌜ CanCount f (now archive) (now room) context × CanStand (now archive) (argument .name) × CanStand (now archive) (textIn (argument .value)) × Recalls f (now archive) (now room) until ⌝ }
     ensures { λ r. ⌜ r ≡ lookupsGood f (now (archive .entry)) (tablesIn f (now (room .entry))) (slotsIn f (now (room .entry))) context until (argumentLookups (argument ∷ [])) ⌝ }
     ensures { λ _. ⌜ now (room .exit) ≡ tablesIn f (now (room .entry)) ++ lookupsSlots f (now (archive .entry)) (tablesIn f (now (room .entry))) (slotsIn f (now (room .entry))) context until (argumentLookups (argument ∷ [])) ⌝ }
 {
     let name = argument.name;
     let value = argument.value;
     let text = passes::value_text(value);
-    let named = count_reference(f, archive, room, context, 2, name, until);
-    let valued = count_reference(f, archive, room, context, 2, text, until);
+    let named = count_text(f, archive, room, context, name, until);
+    let valued = count_text(f, archive, room, context, text, until);
     both(named, valued)
 }
 
@@ -144,7 +215,7 @@ fn count_arguments(
     place: usize,
     count: usize,
 ) -> Added
-    requires { ⌜ CanCount f (now archive) (now room) context × (place + length (now part) < 2 ^ 31) × (count < 16) ⌝ }
+    requires { ⌜ CanCount f (now archive) (now room) context × (place + length (now part) ≤ length (now archive)) × (count < 16) × (0 < place) × Recalls f (now archive) (now room) until ⌝ }
     ensures { λ r. ⌜ r .good ≡ lookupsGood f (now (archive .entry)) (tablesIn f (now (room .entry))) (slotsIn f (now (room .entry))) context until (argumentLookups (argumentsRead f count (now (part .entry)) place)) ⌝ }
     ensures { λ r. ⌜ r .words ≡ wordsRead (argumentsRead f count (now (part .entry)) place) ⌝ }
     ensures { λ _. ⌜ now (room .exit) ≡ tablesIn f (now (room .entry)) ++ lookupsSlots f (now (archive .entry)) (tablesIn f (now (room .entry))) (slotsIn f (now (room .entry))) context until (argumentLookups (argumentsRead f count (now (part .entry)) place)) ⌝ }
@@ -185,7 +256,7 @@ fn count_report(
     report: Report,
     next: usize,
 ) -> Added
-    requires { ⌜ CanCount f (now archive) (now room) (s .current) × RecordIs f (now archive) s (Content.Report report) next ⌝ }
+    requires { ⌜ CanCount f (now archive) (now room) (s .current) × RecordIs f (now archive) s (Content.Report report) next × (0 < s .place) × Recalls f (now archive) (now room) (s .place) ⌝ }
     ensures { λ r. ⌜ r .good ≡ reportGood f (now (archive .entry)) (tablesIn f (now (room .entry))) (slotsIn f (now (room .entry))) s report next ⌝ }
     ensures { λ r. ⌜ r .words ≡ reportWords f (now (archive .entry)) (tablesIn f (now (room .entry))) s report next ⌝ }
     ensures { λ _. ⌜ now (room .exit) ≡ tablesIn f (now (room .entry)) ++ reportSlots f (now (archive .entry)) (tablesIn f (now (room .entry))) (slotsIn f (now (room .entry))) s report next ⌝ }
@@ -241,7 +312,7 @@ fn is_unresolved(
     reference: Reference,
     until: usize,
 ) -> bool
-    requires { ⌜ FormatFits f × (length (now archive) < 2 ^ 31) × (tableWords f ≤ length (now tables)) × (context ≤ 8) ⌝ }
+    requires { ⌜ FormatFits f × (length (now archive) ≤ longestArchive) × (tableWords f ≤ length (now tables)) × (context ≤ 8) ⌝ }
     ensures { λ r. ⌜ r ≡ unresolvedIn (resolved f (now (archive .entry)) (now (tables .entry)) context table until reference) ⌝ }
 {
     let resolved = tables::resolve(f, archive, tables, context, table, reference, until);
@@ -266,7 +337,7 @@ fn arguments_unresolved(
     place: usize,
     count: usize,
 ) -> bool
-    requires { ⌜ FormatFits f × (length (now archive) < 2 ^ 31) × (tableWords f ≤ length (now tables)) × (context ≤ 8) × (place + length (now part) < 2 ^ 31) ⌝ }
+    requires { ⌜ FormatFits f × (length (now archive) ≤ longestArchive) × (tableWords f ≤ length (now tables)) × (context ≤ 8) × (place + length (now part) ≤ longestArchive) ⌝ }
     ensures { λ r. ⌜ r ≡ anyUnresolved f (now (archive .entry)) (now (tables .entry)) context until (argumentLookups (argumentsRead f count (now (part .entry)) place)) ⌝ }
 {
     let mut rest = part;
@@ -303,7 +374,7 @@ fn report_unresolved(
     report: Report,
     next: usize,
 ) -> bool
-    requires { ⌜ (tableWords f ≤ length (now tables)) × FormatFits f × (length (now archive) < 2 ^ 31) × (s .current ≤ 8) × RecordIs f (now archive) s (Content.Report report) next ⌝ }
+    requires { ⌜ (tableWords f ≤ length (now tables)) × FormatFits f × (length (now archive) ≤ longestArchive) × (s .current ≤ 8) × RecordIs f (now archive) s (Content.Report report) next ⌝ }
     ensures { λ r. ⌜ r ≡ reportUnresolved f (now (archive .entry)) (now (tables .entry)) s report next ⌝ }
 {
     let place = s.place;
@@ -356,7 +427,7 @@ fn check_report(
     next: usize,
     clean: bool,
 ) -> Counted
-    requires { ⌜ CanCount f (now archive) (now room) (s .current) × RecordIs f (now archive) s (Content.Report report) next ⌝ }
+    requires { ⌜ CanCount f (now archive) (now room) (s .current) × RecordIs f (now archive) s (Content.Report report) next × (0 < s .place) × Recalls f (now archive) (now room) (s .place) ⌝ }
     ensures { λ r. ⌜ r ≡ reportChecked f (now (archive .entry)) (tablesIn f (now (room .entry))) (slotsIn f (now (room .entry))) s report next clean ⌝ }
     ensures { λ _. ⌜ now (room .exit) ≡ tablesIn f (now (room .entry)) ++ pick clean (reportSlots f (now (archive .entry)) (tablesIn f (now (room .entry))) (slotsIn f (now (room .entry))) s report next) (slotsIn f (now (room .entry))) ⌝ }
 {
@@ -432,7 +503,7 @@ fn check_record(
     next: usize,
     clean: bool,
 ) -> Counted
-    requires { ⌜ CanCount f (now archive) (now room) (s .current) × (s .place + 8 ≤ next) × (next ≤ length (now archive)) × RecordIs f (now archive) s content next ⌝ }
+    requires { ⌜ CanCount f (now archive) (now room) (s .current) × (s .place + 8 ≤ next) × (next ≤ length (now archive)) × RecordIs f (now archive) s content next × ((q : Report) → content ≡ Content.Report q → Recalls f (now archive) (now room) (s .place) × (0 < s .place)) ⌝ }
     ensures { λ r. ⌜ r ≡ recordChecked f (now (archive .entry)) (tablesIn f (now (room .entry))) (slotsIn f (now (room .entry))) s content next clean ⌝ }
     ensures { λ _. ⌜ now (room .exit) ≡ tablesIn f (now (room .entry)) ++ checkedSlots f (now (archive .entry)) (tablesIn f (now (room .entry))) (slotsIn f (now (room .entry))) s content next clean ⌝ }
 {
@@ -512,6 +583,7 @@ pub fn count_all(f: Format, archive: &[u8], room: &mut [u32]) -> Count
                 place,
             };
         }
+        passes::renew(f, archive, &mut room[stretch..], s, content);
         let counted = check_record(f, archive, room, s, content, next, found.number == 0);
         found = lowest(found, counted.number, place);
         words += counted.words;

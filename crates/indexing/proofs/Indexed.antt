@@ -1,5 +1,5 @@
 -- A table once the uses are counted: the choices that it holds, the index that is found of a key, and one index more. Assumes nothing.
-use Prim.Native.Nat.{ℕ, _+_, _-_, _*_, _/_, _^_, _<_}
+use Prim.Native.Nat.{ℕ, _+_, _-_, _/_, _%_, _<_, min}
 use mathlib.Core.Path.{_≡_, refl, sym, ap, _∙_}
 use mathlib.Core.List.{List}
 use mathlib.Core.Bool.{Bool, true, false, cond, _&&_, true≢false}
@@ -7,36 +7,45 @@ use native.Mathlib.Omega.{arith}
 use lib.Dec.{eqb}
 use lib.ListN.{length, getD, length-set}
 use borrow.Author.Tests.{eqb-true, eqb-false, eq-eqb, ne-eqb}
-use Rattle.words.specs.Stream.{sameBytes}
+use Rattle.words.specs.Word.{pick}
+use Rattle.words.specs.Stream.{sameBytes, streamWords}
 use Rattle.words.proofs.Same.{same-true, same-refl}
 use Rattle.words.proofs.Tests.{cases, both-true}
 use Rattle.registering.specs.Counting.{count}
 use Rattle.registering.specs.Registers.{registers}
 use Rattle.tally.specs.declared.Slot.{Slot}
 use Rattle.tally.specs.declared.Slot.the-variants.{Here, Free, Full}
-use Rattle.tally.specs.Models.Slots.{keyWords, placeAt, labelAt, usesAt, counterAt, isFree, keyAt, findOf, raised, countAt}
+use Rattle.tally.specs.Models.Slots.{keyWords, placeIn, labelIn, usesIn, usesAt, counterAt, isFree, keyAt, findOf, raised, countAt}
 use Rattle.tally.specs.Models.Tally.{Tallies}
 use Rattle.tally.proofs.Probing.{found-low, here-key, find-alike}
-use Rattle.tally.proofs.Frames.{raised-more}
-use Rattle.tally.proofs.Tallied.{here-used}
-use Rattle.indexing.specs.Models.Indexes.{choiceOf, chosenTo, indexAt, indexOf, newIndex, indexed, Indexes, chosenKey, withIndex}
-use Rattle.indexing.proofs.Frames.{chosen-length, chosen-other, chosen-own, index-other, index-uses, index-counter}
+use Rattle.tally.proofs.Frames.{raised-more, label-length, word-uses, same-label}
+use Rattle.tally.proofs.Tallied.{here-used, registers-capped}
+use Rattle.indexing.specs.Models.Indexes.{chosenWord, chosenTo, indexAt, indexOf, newIndex, indexed, Indexes, chosenKey, withIndex}
+use Rattle.indexing.proofs.Frames.{chosen-length, chosen-other, chosen-own, index-other, index-uses, index-key, index-counter}
 
 -- ---- the choices
 
--- the choice of a free slot is 0
-choice-free : (place label uses : ℕ) → place ≡ 0 → choiceOf place label uses ≡ 0
-unfolding choiceOf
-choice-free place label uses e = rw (eq-eqb place 0 e)
+-- the word of a slot without a key is 0
+choice-free : (first second : ℕ) → placeIn first ≡ 0 → chosenWord first second ≡ 0
+unfolding chosenWord
+choice-free first second e = rw (eq-eqb (placeIn first) 0 e)
 
--- the choice of a slot that holds a key with its uses is whether the key is registered
+-- the word of a slot with a key keeps its label
+choice-label : (first second : ℕ) → eqb (placeIn first) 0 ≡ false → labelIn first (chosenWord first second) ≡ labelIn first second
+unfolding chosenWord
+choice-label first second e = rw e (same-label first (pick (registers (streamWords (second % 65536)) (usesIn second)) 1 0) second)
+
+-- the choice of a slot that holds a key is whether the key is registered, by its uses up to the highest that half a word holds
 choice-taken : (archive : List ℕ) (stretch : ℕ) (slots : List ℕ) (s : ℕ) (key : List ℕ) (n : ℕ) → isFree slots s ≡ false
-    → keyAt archive stretch slots s ≡ key → usesAt stretch slots s ≡ n
-    → choiceOf (placeAt slots s) (labelAt stretch slots s) (usesAt stretch slots s) ≡ cond (registers (keyWords key) n) (1 + 0) 0
-unfolding choiceOf
+    → keyAt archive stretch slots s ≡ key → usesAt stretch slots s ≡ min 65535 n
+    → usesIn (chosenWord (getD slots s 0) (getD slots (stretch + s) 0)) ≡ cond (registers (keyWords key) n) (1 + 0) 0
+unfolding chosenWord
 choice-taken archive stretch slots s key n f k u =
-    rw (f, u, ← k)
-    (cases (registers (keyWords (keyAt archive stretch slots s)) n) (λ e. rw e) (λ e. rw e))
+    let second = getD slots (stretch + s) 0 in
+    let words : streamWords (second % 65536) ≡ keyWords key =
+    ap streamWords (sym (label-length (getD slots s 0) second)) ∙ ap keyWords k in
+    rw (f, word-uses (pick (registers (streamWords (second % 65536)) (usesIn second)) 1 0) second, words, u, registers-capped (keyWords key) n)
+    (cases (registers (keyWords key) n) (λ e. rw e) (λ e. rw e))
 
 -- after the choices, a key is chosen by the rule, and no index is given yet
 pub choose-indexes : {archive : List ℕ} {stretch : ℕ} {slots : List ℕ} {us : List (List ℕ)} → Tallies archive stretch slots us
@@ -51,7 +60,7 @@ choose-indexes {archive} {stretch} {slots} {us} T = record {
         s,
         low,
         searched key ∙ e,
-        chosen-own stretch stretch slots (T .wide) (omega arith) s (omega arith)
+        ap usesIn (chosen-own stretch stretch slots (T .wide) (omega arith) s (omega arith))
             ∙ choice-taken archive stretch slots s key (count sameBytes key us) (holds .0) (holds .1) (here-used T key s e .0),
       );
   missing = λ key none s e. let used = here-used T key s (sym (searched key) ∙ e) in omega (arith, used .1);
@@ -60,23 +69,25 @@ choose-indexes {archive} {stretch} {slots} {us} T = record {
       ∙ here-key archive stretch slots b (T .wide .some) s (sym (searched b) ∙ g) .1;
   counters = λ mark l.
       let x = stretch - 18 + mark in
-      let i : counterAt stretch mark ≡ 2 * stretch + x = omega (arith, T .wide .some) in
+      let i : counterAt stretch mark ≡ stretch + x = omega (arith, T .wide .some) in
       ap (λ (i : ℕ). getD (chosenTo stretch stretch slots) i 0) i
       ∙ chosen-own stretch stretch slots (T .wide) (omega arith) x (omega (arith, T .wide .some))
-      ∙ choice-free (placeAt slots x) (labelAt stretch slots x) (usesAt stretch slots x) (T .spare x (omega arith) (omega (arith, T .wide .some)));
+      ∙ choice-free (getD slots x 0) (getD slots (stretch + x) 0) (T .spare x (omega arith) (omega (arith, T .wide .some)));
 }
   where
     searched : (key : List ℕ) → findOf archive stretch (chosenTo stretch stretch slots) key ≡ findOf archive stretch slots key
     searched =
         find-alike archive stretch slots (chosenTo stretch stretch slots) (T .wide .some)
-        (λ s l. (
-          chosen-other stretch stretch slots s (λ x g q. omega arith),
-          chosen-other stretch stretch slots (stretch + s) (λ x g q. omega arith),
+        (λ s l. let first = chosen-other stretch stretch slots s (λ x g q. omega arith) in (
+          ap placeIn first,
+          λ f.
+              rw (first, chosen-own stretch stretch slots (T .wide) (omega arith) s (omega arith))
+              (choice-label (getD slots s 0) (getD slots (stretch + s) 0) f),
         ))
 
 -- ---- what is found
 
--- the third word of a slot is 1 exactly where its key is chosen and has no index
+-- what stands for the uses of a slot is 1 exactly where its key is chosen and has no index
 first-index : (b : Bool) (i n : ℕ) → n ≡ cond b (1 + i) 0 → eqb n 1 ≡ (b && eqb i 0)
 first-index true i n h =
     cases (eqb i 0)
@@ -106,12 +117,12 @@ module _ {archive : List ℕ} {stretch : ℕ} {slots : List ℕ} {us : List (Lis
   -- ---- one index more
 
   -- the counter of a mark, raised, is the next number of that mark
-  next-number : (label : ℕ) → label / 65536 < 18 → given (label / 65536) < 2 ^ 32 - 1
+  next-number : (label : ℕ) → label / 65536 < 18 → given (label / 65536) < 65535
       → raised (countAt stretch slots label) ≡ given (label / 65536) + 1
   next-number label mark few = rw (I .counters (label / 65536) mark) (raised-more (given (label / 65536)) few)
 
   -- an index written at the slot of a key that is chosen
-  index-written : (key : List ℕ) (label s : ℕ) → label / 65536 < 18 → given (label / 65536) < 2 ^ 32 - 2 → s < stretch - 18
+  index-written : (key : List ℕ) (label s : ℕ) → label / 65536 < 18 → given (label / 65536) < 65534 → s < stretch - 18
       → findOf archive stretch slots key ≡ Here s → chosen key ≡ true
       → Indexes archive stretch (withIndex stretch slots label s) us chosen
       (λ k. cond (sameBytes k key) (given (label / 65536) + 1) (index k))
@@ -131,7 +142,7 @@ module _ {archive : List ℕ} {stretch : ℕ} {slots : List ℕ} {us : List (Lis
           r .0,
           r .1,
           searched k ∙ r .2,
-          index-other stretch slots label s low mark (2 * stretch + r .0) (λ z. n (omega arith)) (λ z. omega (arith, r .1)) ∙ rw q (r .3),
+          ap usesIn (index-other stretch slots label s low mark (stretch + r .0) (λ z. n (omega arith)) (λ z. omega (arith, r .1))) ∙ rw q (r .3),
         ));
     missing = λ k none x p. I .missing k none x (sym (searched k) ∙ p);
     apart = λ a b x p q. I .apart a b x (sym (searched a) ∙ p) (sym (searched b) ∙ q);
@@ -152,16 +163,13 @@ module _ {archive : List ℕ} {stretch : ℕ} {slots : List ℕ} {us : List (Lis
       searched : (k : List ℕ) → findOf archive stretch (withIndex stretch slots label s) k ≡ findOf archive stretch slots k
       searched =
           find-alike archive stretch slots (withIndex stretch slots label s) (I .wide .some)
-          (λ x l. (
-            index-other stretch slots label s low mark x (λ q. omega arith) (λ q. omega arith),
-            index-other stretch slots label s low mark (stretch + x) (λ q. omega arith) (λ q. omega arith),
-          ))
+          (λ x l. let k = index-key stretch slots label s low mark (I .wide) x l in (k .0, λ f. k .1))
 
       twice : raised (raised (countAt stretch slots label)) ≡ 1 + (given (label / 65536) + 1)
       twice = ap raised (next-number label mark (omega arith)) ∙ raised-more (given (label / 65536) + 1) (omega arith) ∙ omega arith
 
   -- a key that was used and is chosen gets the next index of its mark where it has none; nothing else changes
-  pub give-index : (key : List ℕ) (label : ℕ) → 0 < count sameBytes key us → label / 65536 < 18 → given (label / 65536) < 2 ^ 32 - 2
+  pub give-index : (key : List ℕ) (label : ℕ) → 0 < count sameBytes key us → label / 65536 < 18 → given (label / 65536) < 65534
       → (newIndex stretch slots label (findOf archive stretch slots key) ≡ cond (chosen key && eqb (index key) 0) (given (label / 65536) + 1) 0)
       × Indexes archive stretch (indexed stretch slots label (findOf archive stretch slots key)) us chosen
       (λ k. cond ((chosen key && eqb (index key) 0) && sameBytes k key) (given (label / 65536) + 1) (index k))

@@ -25,7 +25,7 @@ use Rattle.tally.proofs.Tallied.{measure-best}
 use Rattle.passes.specs.Models.Codes.{codes, lastOf}
 use Rattle.passes.proofs.Codes.{UsesPlain, best-codes, last-sound}
 use Rattle.rule.proofs.Length.{rule-length}
-use Rattle.second_pass.proofs.Ready.{items-plain, accepted-fit}
+use Rattle.rewriting.proofs.Ready.{items-plain, accepted-fit}
 
 -- ---- accepted archives
 

@@ -5,11 +5,12 @@ use mathlib.Core.List.{List, [], _++_, append-nil}
 use mathlib.Core.Option.{none}
 use native.Mathlib.Omega.{arith}
 use lib.ListN.{length, take, drop, getD, replicate, length-append, length-drop, length-replicate, drop-of-length-le}
-use lib.Seq.{length-take-le, drop-at, drop-drop}
+use lib.Seq.{length-take-le, take-at, drop-at, drop-drop, getD-take, getD-drop}
 use Rattle.words.proofs.Words.{AllBytes}
 use Rattle.registering.specs.Counting.{sumBy}
 use Rattle.indexing.specs.Models.Indexes.{chosenTo, Indexes, chosenKey}
-use Rattle.indexing.proofs.Frames.{chosen-length, chosen-behind}
+use Rattle.indexing.proofs.Frames.{chosen-length, chosen-behind, chosen-other}
+use Rattle.tally.proofs.Tallied.{words-tally}
 use Rattle.indexing.proofs.Indexed.{choose-indexes}
 use Rattle.format.specs.declared.Format.{Format}
 use Rattle.format.specs.Limits.{smallFormat, longestArchive}
@@ -51,7 +52,7 @@ cleared-last f room first used last stretch is clear behind again =
     let again′ : last ≡ cleared (roomWords f) used = rw is at again in
     again′ ∙ cleared-again (roomWords f) room used (behind ∙ ap (drop (roomWords f)) clear′)
 
--- ---- the slots are lent
+-- ---- a part is lent
 
 -- a room whose words from n on were lent and came back as these
 abbrev pub handedBack : ℕ → List ℕ → List ℕ → List ℕ
@@ -63,6 +64,65 @@ handed-behind n room back low =
     let none-left : drop (length room - n) (drop n room) ≡ [] = drop-of-length-le (drop n room) {i = length room - n} (omega (arith, length-drop n room)) in
     drop-at (take n room) (back ++ drop (length room - n) (drop n room)) n (length-take-le n room low)
     ∙ ap (λ (rest : List ℕ). back ++ rest) none-left ∙ append-nil back
+
+-- ---- what was remembered is forgotten
+
+-- the last stretch of a room was lent and came back cleared
+module _ (room back : List ℕ) (stretch : ℕ) (long : 4 * stretch ≤ length room)
+    (clear : back ≡ cleared stretch (take (length room - 3 * stretch) (drop (3 * stretch) room))) where
+  -- the room then
+  abbrev forgotten : List ℕ
+  forgotten = handedBack (3 * stretch) room back
+
+  -- behind three stretches stands what came back, which is cleared
+  back-is : drop (3 * stretch) forgotten ≡ cleared stretch (drop (3 * stretch) room)
+  back-is = handed-behind (3 * stretch) room back (omega arith) ∙ clear ∙ ap (cleared stretch) (part-from (3 * stretch) room)
+
+  -- the room is as long as it was
+  pub forgotten-long : length forgotten ≡ length room
+  forgotten-long =
+      let short = drop-of-length-le (drop (3 * stretch) room) {i = length room - 3 * stretch} (omega (arith, length-drop (3 * stretch) room)) in
+      let cut = length-cleared stretch (drop (3 * stretch) room) (omega (arith, length-drop (3 * stretch) room)) in
+      let same : length back ≡ length room - 3 * stretch =
+      omega (arith, ap length (clear ∙ ap (cleared stretch) (part-from (3 * stretch) room)), cut, length-drop (3 * stretch) room) in
+      rw short
+      (omega (
+        arith,
+        length-append (take (3 * stretch) room) (back ++ []),
+        length-append back [],
+        length-take-le (3 * stretch) room (omega arith),
+        same,
+      ))
+
+  -- the words before are as they were
+  pub forgotten-before : (i : ℕ) → i < 3 * stretch → getD forgotten i 0 ≡ getD room i 0
+  forgotten-before i low =
+      let first = take-at (take (3 * stretch) room) (back ++ drop (length room - 3 * stretch) (drop (3 * stretch) room)) (3 * stretch)
+      (length-take-le (3 * stretch) room (omega arith)) in
+      sym (getD-take (3 * stretch) forgotten i 0 low) ∙ (ap (λ (l : List ℕ). getD l i 0) first ∙ getD-take (3 * stretch) room i 0 low)
+
+  -- nothing is remembered
+  pub forgotten-zeros : (i : ℕ) → i < stretch → getD forgotten (3 * stretch + i) 0 ≡ 0
+  forgotten-zeros i low =
+      sym (getD-drop (3 * stretch) forgotten i 0)
+      ∙ (ap (λ (l : List ℕ). getD l i 0) back-is ∙ cleared-zero stretch (drop (3 * stretch) room) i low)
+
+  -- and the words behind are as they were
+  pub forgotten-behind : drop (4 * stretch) forgotten ≡ drop (4 * stretch) room
+  forgotten-behind =
+      let on : 3 * stretch + stretch ≡ 4 * stretch = omega arith in
+      rw on at
+      (sym (drop-drop stretch (3 * stretch) forgotten) ∙ ap (drop stretch) back-is ∙ cleared-behind stretch (drop (3 * stretch) room)
+      ∙ drop-drop stretch (3 * stretch) room)
+
+  -- so the slots tell of what they told of
+  pub forgotten-tallies : (archive : List ℕ) (us : List (List ℕ)) → Tallies archive stretch (drop stretch room) us
+      → Tallies archive stretch (drop stretch forgotten) us
+  forgotten-tallies archive us tallies =
+      words-tally tallies (drop stretch forgotten) (omega (arith, length-drop stretch forgotten, length-drop stretch room, forgotten-long))
+      (λ i low. getD-drop stretch forgotten i 0 ∙ (forgotten-before (stretch + i) (omega arith) ∙ sym (getD-drop stretch room i 0)))
+
+-- ---- the slots are lent
 
 -- slots that tell of uses can be lent: they are wide enough
 pub lent-wide : (f : Format) (archive room : List ℕ) (us : List (List ℕ)) (stretch : ℕ) → stretch ≡ tableWords f
@@ -114,13 +174,26 @@ module _ (archive room back after : List ℕ) (us : List (List ℕ)) (stretch : 
   behind-after : drop (4 * stretch) after ≡ drop (4 * stretch) room
   behind-after =
       let on : stretch + 3 * stretch ≡ 4 * stretch = omega arith in
+      let two : 2 * stretch + stretch ≡ 3 * stretch = omega arith in
+      let behind = rw two at
+      (sym (drop-drop stretch (2 * stretch) (chosenTo stretch stretch (drop stretch room)))
+      ∙ ap (drop stretch) (chosen-behind stretch stretch (drop stretch room) (omega arith)) ∙ drop-drop stretch (2 * stretch) (drop stretch room)) in
       rw on at
-      (sym (drop-drop (3 * stretch) stretch after) ∙ ap (drop (3 * stretch)) slots-after
-      ∙ chosen-behind stretch stretch (drop stretch room) (omega arith) ∙ drop-drop (3 * stretch) stretch room)
+      (sym (drop-drop (3 * stretch) stretch after) ∙ ap (drop (3 * stretch)) slots-after ∙ behind ∙ drop-drop (3 * stretch) stretch room)
 
   -- the words before them are 0
   zeros-after : (i : ℕ) → i < stretch → getD after i 0 ≡ 0
   zeros-after i low = rw clear (cleared-zero stretch (handedBack stretch room back) i low)
+
+  -- and where nothing was remembered nothing is
+  memory-after : ((i : ℕ) → i < stretch → getD room (3 * stretch + i) 0 ≡ 0) → (i : ℕ) → i < stretch → getD after (3 * stretch + i) 0 ≡ 0
+  memory-after clean i low =
+      let on : stretch + (2 * stretch + i) ≡ 3 * stretch + i = omega arith in
+      let there = getD-drop stretch after (2 * stretch + i) 0 in
+      let here = getD-drop stretch room (2 * stretch + i) 0 in
+      let kept = ap (λ (l : List ℕ). getD l (2 * stretch + i) 0) slots-after
+      ∙ chosen-other stretch stretch (drop stretch room) (2 * stretch + i) (λ s l q. omega arith) in
+      rw on at (sym there ∙ kept ∙ here) ∙ clean i low
 
   -- no key has an index yet
   indexes-after : Indexes archive stretch (drop stretch after) us (chosenKey us) (λ key. 0) (λ mark. 0)
@@ -131,20 +204,31 @@ pub record Ready (f : Format) (archive room after : List ℕ) : Type 0 where
   pub same-length : length after ≡ length room
   pub behind : drop (roomWords f) after ≡ drop (roomWords f) room
   pub zeros : (i : ℕ) → i < tableWords f → getD after i 0 ≡ 0
+  pub forgets : (i : ℕ) → i < tableWords f → getD after (3 * tableWords f + i) 0 ≡ 0
   pub chosen : Chosen f archive (drop (tableWords f) after)
 
--- a room whose slots tell of an archive's uses is ready once choices stand for them and the first words are cleared
-pub choices-ready : (f : Format) (archive room back after : List ℕ) (stretch : ℕ) → stretch ≡ tableWords f → roomWords f ≤ length room
+-- a room whose slots tell of an archive's uses is ready once what was remembered is forgotten, choices stand for uses, and the first words are
+-- cleared
+pub choices-ready : (f : Format) (archive room last back after : List ℕ) (stretch : ℕ) → stretch ≡ tableWords f → roomWords f ≤ length room
     → Tallies archive (tableWords f) (drop (tableWords f) room) (codes f (lastOf f archive) (usesAll (itemsOf (runOf f archive))))
-    → back ≡ chosenTo stretch stretch (take (length room - stretch) (drop stretch room))
-    → after ≡ cleared stretch (handedBack stretch room back) → Ready f archive room after
-choices-ready f archive room back after stretch is long tallies chosen clear =
+    → last ≡ cleared stretch (take (length room - 3 * stretch) (drop (3 * stretch) room))
+    → back ≡ chosenTo stretch stretch
+    (take (length (handedBack (3 * stretch) room last) - stretch) (drop stretch (handedBack (3 * stretch) room last)))
+    → after ≡ cleared stretch (handedBack stretch (handedBack (3 * stretch) room last) back) → Ready f archive room after
+choices-ready f archive room last back after stretch is long tallies forgets chosen clear =
     let us = codes f (lastOf f archive) (usesAll (itemsOf (runOf f archive))) in
-    let long′ : 4 * stretch ≤ length room = omega (arith, is) in
-    let tallies′ : Tallies archive stretch (drop stretch room) us = rw is tallies in
+    let room′ = handedBack (3 * stretch) room last in
+    let long₀ : 4 * stretch ≤ length room = omega (arith, is) in
+    let same = forgotten-long room last stretch long₀ forgets in
+    let long′ : 4 * stretch ≤ length room′ = omega (arith, same) in
+    let tallies₀ : Tallies archive stretch (drop stretch room) us = rw is tallies in
+    let tallies′ = forgotten-tallies room last stretch long₀ forgets archive us tallies₀ in
     record {
-      same-length = length-after archive room back after us stretch long′ tallies′ chosen clear;
-      behind = rw is at (behind-after archive room back after us stretch long′ tallies′ chosen clear);
-      zeros = rw is at (zeros-after archive room back after us stretch long′ tallies′ chosen clear);
-      chosen = rw is at (indexes-after archive room back after us stretch long′ tallies′ chosen clear);
+      same-length = length-after archive room′ back after us stretch long′ tallies′ chosen clear ∙ same;
+      behind =
+          rw is at (behind-after archive room′ back after us stretch long′ tallies′ chosen clear ∙ forgotten-behind room last stretch long₀ forgets);
+      zeros = rw is at (zeros-after archive room′ back after us stretch long′ tallies′ chosen clear);
+      forgets = rw is at
+          (memory-after archive room′ back after us stretch long′ tallies′ chosen clear (forgotten-zeros room last stretch long₀ forgets));
+      chosen = rw is at (indexes-after archive room′ back after us stretch long′ tallies′ chosen clear);
     }

@@ -29,7 +29,7 @@ fn packing_number(f: Format, archive: &[u8], room: usize) -> u8
     format::archive_number(archive, 13, 4 * tables::table_words(f), room)
 }
 
-// The bytes are written, where the output holds them.
+// The bytes are written, where the output holds them. What the first pass remembered of its tables is forgotten with them.
 fn write(f: Format, archive: &[u8], room: &mut [u32], output: &mut [u8], long: usize) -> Packed
     requires { ⌜ (f ≡ smallFormat) × (openingNumber f (now archive) (tableWords f) ≡ 0) × (refusalOf f (runOf f (now archive)) ≡ none) × (long ≡ writtenLength f (now archive)) ⌝ }
     requires { ⌜ (roomWords f ≤ length (now room)) × Tallies (now archive) (tableWords f) (drop (tableWords f) (now room)) (codes f (lastOf f (now archive)) (usesAll (itemsOf (runOf f (now archive))))) ⌝ }
@@ -44,6 +44,7 @@ fn write(f: Format, archive: &[u8], room: &mut [u32], output: &mut [u8], long: u
         };
     }
     let stretch = tables::table_words(f);
+    tables::clear(&mut room[3 * stretch..], stretch);
     indexing::choose(&mut room[stretch..], stretch);
     tables::clear(room, stretch);
     second_pass::write_all(f, archive, room, output);

@@ -1,7 +1,7 @@
 -- Uses as keys of the tally: where keys are short enough for a label, two uses are the same exactly if their codes are, so counts, distinct keys and
 -- the least cost are those of the codes; and the current context is the one that its provider's uses are coded by.
 -- Assumes nothing.
-use Prim.Native.Nat.{ℕ, zero, suc, _+_, _-_, _*_, _/_, _%_, _^_, _≤_, _<_, min}
+use Prim.Native.Nat.{ℕ, zero, suc, _+_, _-_, _*_, _/_, _^_, _≤_, _<_, min}
 use mathlib.Core.Path.{_≡_, refl, sym, ap, _∙_}
 use mathlib.Core.List.{[], List, _∷_, _++_, append-nil}
 use mathlib.Core.Bool.{cond, _&&_, true≢false}
@@ -9,7 +9,7 @@ use mathlib.Core.Option.{Option, none, some}
 use native.Mathlib.Omega.{arith}
 use borrow.Author.Tests.{eq-eqb, ne-eqb, eqb-true, eqb-false, ltb-true, ltb-false, le-leb}
 use lib.Dec.{eqb, ltb}
-use lib.ListN.{length, getD, take, drop}
+use lib.ListN.{length, getD, drop}
 use lib.Seq.{take-add, drop-drop}
 use Rattle.words.specs.Word.{pick, wordAt, wordBytes}
 use Rattle.words.specs.Stream.{sameBytes, partOf}
@@ -65,11 +65,6 @@ keys-plain seen (u ∷ us) h =
 pub codes-both : (f : Format) (s : State) (us vs : List Use) → codes f s (us ++ vs) ≡ codes f s us ++ codes f s vs
 codes-both f s [] vs = refl
 codes-both f s (u ∷ us) vs = ap (λ (l : List (List ℕ)). codeIn f s u ∷ l) (codes-both f s us vs)
-
--- there are as many
-pub codes-length : (f : Format) (s : State) (us : List Use) → length (codes f s us) ≡ length us
-codes-length f s [] = refl
-codes-length f s (u ∷ us) = ap suc (codes-length f s us)
 
 -- ---- what a code tells
 

@@ -1,6 +1,6 @@
 -- What a reference that was read stands for, where it is known: its place and its length fit a word and a label, and its bytes stand in the archive.
 -- Assumes nothing.
-use Prim.Native.Nat.{ℕ, _+_, _-_, _^_, _≤_, _<_}
+use Prim.Native.Nat.{ℕ, _+_, _-_, _≤_, _<_}
 use mathlib.Core.Path.{_≡_, refl, ap}
 use mathlib.Core.List.{[], List, _∷_}
 use mathlib.Core.Logic.{_⊎_, inl, inr}
@@ -11,15 +11,13 @@ use Rattle.records.proofs.Passes.{ThreadReference}
 use Rattle.words.specs.Word.{pick, wordAt, field}
 use Rattle.words.proofs.Tests.{on-pick, cases}
 use Rattle.format.specs.declared.Format.{Format}
+use Rattle.format.specs.Limits.{longestArchive}
 use Rattle.format.specs.declared.Reference.{Reference}
 use Rattle.format.specs.declared.Reference.the-variants.{Inline, Index}
 use Rattle.format.specs.declared.Taken.{Taken}
 use Rattle.format.specs.declared.Taken.the-variants.{Refused as PartRefused, Part as PartRead}
 use Rattle.format.specs.declared.Part.the-variants.{Words as words}
 use Rattle.format.specs.Part.{takeText, takePart, Body, refused as bodyRefused, body, prepend, onTaken, takeParts, onBody, part}
-use Rattle.format.specs.Models.Bounds.{Inside}
-use Rattle.arguments.specs.declared.Value.{Value}
-use Rattle.arguments.specs.declared.Value.the-variants.{Scalar as ScalarValue, Text as TextValue}
 use Rattle.arguments.specs.declared.Argument.{Argument}
 use Rattle.arguments.specs.declared.Argued.the-variants.{Argument as ArgumentRead}
 use Rattle.arguments.specs.declared.Texts.{Texts}
@@ -27,8 +25,7 @@ use Rattle.arguments.specs.declared.Texts.the-variants.{Refused as TextsRefused
 use Rattle.arguments.specs.declared.ValueTaken.the-variants.{Refused as ValueTextRefused, Text as ValueText}
 use Rattle.arguments.specs.Argument.{argumentType, argumentSize, holdsWord, argumentOf, textIn}
 use Rattle.arguments.specs.Models.Reading.{textsOf, valueText}
-use Rattle.arguments.specs.Models.Bounds.{ValueInside}
-use Rattle.arguments.proofs.Arguments.{textsNamed, onNameTexts, name-then-text, argument-read}
+use Rattle.arguments.proofs.Arguments.{textsNamed, onNameTexts, name-then-text}
 use Rattle.records.specs.declared.Content.{Content}
 use Rattle.records.specs.declared.Content.the-variants.{Refused, Magic, ProviderInfo, Section, ProviderEvent, Initialization, String, Thread, Report as ReportRead, Ignored, Skipped}
 use Rattle.records.specs.Record.{recordAt}
@@ -106,18 +103,13 @@ registered f archive entry table index place long e =
 
 -- ---- references that fit
 
--- a short reference that stands before the end of a record fits
-inside-fits : (from to : ℕ) (r : Reference) → Inside from to r → Short r → to < 2 ^ 31 → ReferenceFits r
-inside-fits from to (Inline place long) i s h = (omega (arith, i .1), s)
-inside-fits from to (Index index) i s h = tt
-
 -- a thread's 16 bytes are short
 pub thread-short : (r : Reference) → ThreadReference r → Short r
 thread-short (Inline place long) h = omega arith
 thread-short (Index index) h = omega arith
 
 -- what a reference that fits stands for fits, whatever the tables hold
-pub reference-fits : (f : Format) (archive tables : List ℕ) (context table until : ℕ) (r : Reference) → ReferenceFits r → length archive < 2 ^ 31
+pub reference-fits : (f : Format) (archive tables : List ℕ) (context table until : ℕ) (r : Reference) → ReferenceFits r → length archive ≤ longestArchive
     → KnownFits (resolved f archive tables context table until r)
 unfolding resolved
 reference-fits f archive tables context table until (Inline place long) h low = h
@@ -194,19 +186,3 @@ pub argument-short : (f : Format) (rest : List ℕ) (place : ℕ) (a : Argument)
     → Short (a .name) × Short (textIn (a .value))
 unfolding textsOf
 argument-short f rest place a size e = rw e at (texts-short f rest place)
-
--- the text of a value that stands before the end of a record fits; a scalar has none
-value-reference-fits : (from to : ℕ) (v : Value) → ValueInside from to v → Short (textIn v) → to < 2 ^ 31 → ReferenceFits (textIn v)
-value-reference-fits from to (ScalarValue a) i s h = (omega arith, omega arith)
-value-reference-fits from to (TextValue r) i s h = inside-fits from to r i s h
-
--- the name of an argument that was read and the text of its value fit
-pub argument-references-fit : (f : Format) (rest : List ℕ) (place : ℕ) (a : Argument) (size : ℕ) → place + length rest < 2 ^ 31
-    → argumentOf f rest place ≡ ArgumentRead a size → ReferenceFits (a .name) × ReferenceFits (textIn (a .value))
-unfolding textsOf
-argument-references-fit f rest place a size low e =
-    let k = argument-read f rest place a size e in
-    let s = argument-short f rest place a size e in (
-      inside-fits place (place + size) (a .name) (k .name) (s .0) (omega (arith, k .inside)),
-      value-reference-fits place (place + size) (a .value) (k .value) (s .1) (omega (arith, k .inside)),
-    )

@@ -4,3 +4,4 @@ pub mod Rooms
 pub mod Places
 pub mod Turns
 pub mod Last
+pub mod Memory

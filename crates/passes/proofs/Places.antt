@@ -1,7 +1,7 @@
 -- Where the bytes that a reference stands for stand: inside the archive, behind its first byte, and a thread's are 16. What is answered for such
 -- a place and length, and that no event stands at the archive's first byte.
 -- Assumes nothing.
-use Prim.Native.Nat.{ℕ, zero, suc, _+_, _-_, _≤_, _<_, _^_}
+use Prim.Native.Nat.{ℕ, zero, suc, _+_, _-_, _≤_, _<_}
 use mathlib.Core.Path.{_≡_, refl, sym, ap, subst, _∙_}
 use mathlib.Core.List.{[], List, _∷_}
 use mathlib.Core.Bool.{true}
@@ -96,7 +96,7 @@ inside-stands archive from to (Inline place long) i s h l = record { inside = om
 inside-stands archive from to (Index index) i s h l = tt
 
 -- a reference that stands in an archive of bytes that can be counted fits a word and a label
-stands-fit : (archive : List ℕ) (r : Reference) → length archive < 2 ^ 31 → ReferenceStands archive r → ReferenceFits r
+stands-fit : (archive : List ℕ) (r : Reference) → length archive ≤ longestArchive → ReferenceStands archive r → ReferenceFits r
 stands-fit archive (Inline place long) low h = (omega (arith, h .inside), h .short)
 stands-fit archive (Index index) low h = tt
 
@@ -112,7 +112,7 @@ LookupsStand archive [] = Unit {0}
 LookupsStand archive (l ∷ more) = LookupStands archive l × LookupsStand archive more
 
 -- so it fits
-pub lookup-fits : (archive : List ℕ) (l : Lookup) → length archive < 2 ^ 31 → LookupStands archive l → ReferenceFits (l .reference)
+pub lookup-fits : (archive : List ℕ) (l : Lookup) → length archive ≤ longestArchive → LookupStands archive l → ReferenceFits (l .reference)
 lookup-fits archive l low h = stands-fit archive (l .reference) low (h .stands)
 
 -- what such a reference stands for in any tables, where it is known: bytes that stand in the archive, a thread's 16
@@ -235,7 +235,14 @@ first-magic f archive e =
     (drop 8 archive, sym (take-append-drop 8 archive) ∙ rw (same-true (take 8 archive) magicBytes e, magic-record f (λ key. 0))))
     ∙ magic-read f (λ key. 0) 0
 
--- so no record that refers to anything stands there
+-- an archive that is let in begins with the magic
+pub opening-magic : (f : Format) (archive : List ℕ) (room : ℕ) → openingNumber f archive room ≡ 0 → startsWithMagic archive ≡ true
+unfolding openingNumber archiveNumber
+opening-magic f archive room =
+    on-pick (λ n. n ≡ 0 → startsWithMagic archive ≡ true) (ltb longestArchive (length archive)) _ _ (λ q z. absurd (omega arith))
+    (λ q. cases (startsWithMagic archive) (λ m z. m) (λ m. rw m (λ z. absurd (omega arith))))
+
+-- so no record that refers to anything stands at its first byte
 pub report-later : (f : Format) (archive : List ℕ) (place : ℕ) (r : Report) → startsWithMagic archive ≡ true
     → recordAt f archive place .content ≡ ReportRead r → 0 < place
 report-later f archive zero r m k =
@@ -245,10 +252,4 @@ report-later f archive (suc place) r m k = omega arith
 -- nor in an archive that is let in
 pub opening-report : (f : Format) (archive : List ℕ) (room place : ℕ) (r : Report) → openingNumber f archive room ≡ 0
     → recordAt f archive place .content ≡ ReportRead r → 0 < place
-unfolding openingNumber archiveNumber
-opening-report f archive room place r =
-    on-pick P (ltb longestArchive (length archive)) _ _ (λ q z. absurd (omega arith))
-    (λ q. cases (startsWithMagic archive) (λ m z k. report-later f archive place r m k) (λ m. rw m (λ z. absurd (omega arith))))
-  where
-    P : ℕ → Type 0
-    P n = n ≡ 0 → recordAt f archive place .content ≡ ReportRead r → 0 < place
+opening-report f archive room place r opens k = report-later f archive place r (opening-magic f archive room opens) k

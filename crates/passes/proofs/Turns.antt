@@ -38,7 +38,7 @@ use Rattle.reader.specs.Ask.{shownArgument, argumentReply}
 use Rattle.reader.specs.Reads.{prepend as prependItem, argumentItems, itemOf}
 use Rattle.views.proofs.Lookups.{ContentFits, record-whole, report-fits, report-arguments}
 use Rattle.reader.proofs.Steps.{index-fits}
-use Rattle.reader.proofs.Runs.{Sound, step-sound, Grown, step-grows}
+use Rattle.reader.proofs.Runs.{Sound, step-sound}
 use Rattle.rule.specs.Refusal.{Run, ended, passed, keepsAt, onAnswer, runFrom}
 use Rattle.rule.proofs.Events.{asked-is}
 use Rattle.rule.proofs.Items.{decision-is, end-is}
@@ -62,7 +62,7 @@ use Rattle.passes.specs.Models.Item.{argumentsAt, itemAt, reportAt, plai
 -- ---- the arguments of a record
 
 -- an entry that belongs, belongs at every later place and stands for the same
-resolved-later : (f : Format) (archive tables : List ℕ) (context table until later : ℕ) (r : Reference) → until ≤ later
+pub resolved-later : (f : Format) (archive tables : List ℕ) (context table until later : ℕ) (r : Reference) → until ≤ later
     → isBad (resolved f archive tables context table until r) ≡ false
     → resolved f archive tables context table later r ≡ resolved f archive tables context table until r
 unfolding resolved entryAt isBad
@@ -380,11 +380,7 @@ module _ (f : Format) (archive tables : List ℕ) (s : State) (sound : Sound f a
     pub turn-sound : Sound f archive (afterRecord s content next .state) (tablesAfter f tables s content)
     turn-sound = rw (← turn-state, ← turn-tables-step) (step-sound f archive tables s sound)
 
-    -- places and ids only grow
-    pub turn-grows : Grown s (afterRecord s content next .state)
-    turn-grows = rw (← turn-state) (step-grows f archive tables s)
-
-    -- and the state stands behind the record, a word further at least, and inside the archive
+    -- the state stands behind the record, a word further at least, and inside the archive
     pub turn-place : (afterRecord s content next .state .place ≡ next) × (s .place + 8 ≤ next) × (next ≤ length archive)
     unfolding effectOf followed
     turn-place = (

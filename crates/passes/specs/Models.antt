@@ -3,3 +3,4 @@ pub mod Follow
 pub mod Item
 pub mod Known
 pub mod Last
+pub mod Memory

@@ -99,13 +99,16 @@ module _ (free mine free′ mine′ : ℕ → Bool) (capacity : ℕ)
       (λ q. cc (rw (p, q) at e))
       (λ q. rw (stay a h p .0, stay a h p .1, q) (probe-taken left (nextOf capacity a) s (next-low capacity a h) f m (rw (p, q) at e))))
 
--- slots that are alike are searched alike
-probe-alike : (free mine free′ mine′ : ℕ → Bool) (capacity : ℕ) → ((s : ℕ) → s < capacity → (free′ s ≡ free s) × (mine′ s ≡ mine s))
+-- slots of which the same are free, and the others alike, are searched alike
+probe-alike : (free mine free′ mine′ : ℕ → Bool) (capacity : ℕ)
+    → ((s : ℕ) → s < capacity → (free′ s ≡ free s) × (free s ≡ false → mine′ s ≡ mine s))
     → (left a : ℕ) → a < capacity → probe free′ mine′ capacity left a ≡ probe free mine capacity left a
 unfolding probe
 probe-alike free mine free′ mine′ capacity alike zero a h = refl
 probe-alike free mine free′ mine′ capacity alike (suc left) a h =
-    rw (alike a h .0, alike a h .1, probe-alike free mine free′ mine′ capacity alike left (nextOf capacity a) (next-low capacity a h))
+    cases (free a)
+    (λ e. rw (alike a h .0, e))
+    (λ e. rw (alike a h .0, e, alike a h .1 e, probe-alike free mine free′ mine′ capacity alike left (nextOf capacity a) (next-low capacity a h)))
 
 -- ---- the search for a key in a table
 
@@ -187,13 +190,17 @@ pub key-alike : (archive : List ℕ) (stretch : ℕ) (slots table′ : List ℕ)
     → labelAt stretch table′ s ≡ labelAt stretch slots s → keyAt archive stretch table′ s ≡ keyAt archive stretch slots s
 key-alike archive stretch slots table′ s p l = rw (p, l)
 
--- a search reads only the places and the labels
+-- a search reads only the places, and the labels of the slots that are taken
 pub find-alike : (archive : List ℕ) (stretch : ℕ) (slots table′ : List ℕ) → 18 < stretch
-    → ((s : ℕ) → s < stretch - 18 → (placeAt table′ s ≡ placeAt slots s) × (labelAt stretch table′ s ≡ labelAt stretch slots s))
+    → ((s : ℕ) → s < stretch - 18
+    → (placeAt table′ s ≡ placeAt slots s) × (isFree slots s ≡ false → labelAt stretch table′ s ≡ labelAt stretch slots s))
     → (key : List ℕ) → findOf archive stretch table′ key ≡ findOf archive stretch slots key
 unfolding findOf seek
 find-alike archive stretch slots table′ some alike key =
     probe-alike (isFree slots) (λ x. sameBytes (keyAt archive stretch slots x) key)
     (isFree table′) (λ x. sameBytes (keyAt archive stretch table′ x) key) (stretch - 18)
-    (λ s l. (rw (alike s l .0), ap (λ (k : List ℕ). sameBytes k key) (key-alike archive stretch slots table′ s (alike s l .0) (alike s l .1))))
+    (λ s l. (
+      rw (alike s l .0),
+      λ f. ap (λ (k : List ℕ). sameBytes k key) (key-alike archive stretch slots table′ s (alike s l .0) (alike s l .1 f)),
+    ))
     (stretch - 18) (startOf (stretch - 18) key) (start-low (stretch - 18) key (omega arith))

@@ -5,7 +5,6 @@ use mathlib.Core.List.{[], List, _∷_}
 use mathlib.Core.Bool.{Bool, true, false, cond, _||_}
 use native.Mathlib.Omega.{arith}
 use lib.Dec.{eqb}
-use lib.ListN.{length}
 use borrow.Author.Tests.{eqb-true, eqb-false, eq-eqb, ne-eqb}
 use Rattle.words.specs.Word.{pick}
 use Rattle.words.specs.Stream.{sameBytes}
@@ -103,24 +102,6 @@ module _ (free : ℕ → Bool) (key : ℕ → List ℕ) where
   held-keys n us h f = held-sum f n ∙ cover sameBytes same-true same-refl f [] us (held free key n) (λ k m. h k)
 
 -- ---- the distinct keys of a mark
-
--- a key is used at most as often as there are uses
-pub count-low : (key : List ℕ) (us : List (List ℕ)) → count sameBytes key us ≤ length us
-count-low key [] = omega arith
-count-low key (u ∷ us) = cases (sameBytes u key) (λ e. rw e (omega (arith, count-low key us))) (λ e. rw e (omega (arith, count-low key us)))
-
--- of the distinct keys outside a list, those of a mark are at most as many as the uses
-keys-low : (mark : ℕ) (seen us : List (List ℕ)) → sumBy (λ key. cond (eqb (keyMark key) mark) 1 0) (keys sameBytes seen us) ≤ length us
-keys-low mark seen [] = omega arith
-keys-low mark seen (u ∷ us) =
-    cases (member sameBytes u seen)
-    (λ e. rw e (omega (arith, keys-low mark seen us)))
-    (λ e. rw e (cases (eqb (keyMark u) mark)
-    (λ q. rw q (omega (arith, keys-low mark (u ∷ seen) us))) (λ q. rw q (omega (arith, keys-low mark (u ∷ seen) us)))))
-
--- there are at most as many distinct keys as uses
-pub distinct-low : (mark : ℕ) (us : List (List ℕ)) → distinct mark us ≤ length us
-distinct-low mark us = keys-low mark [] us
 
 -- a use of a key that was used adds no distinct key
 pub distinct-old : (mark : ℕ) (key : List ℕ) (us : List (List ℕ)) → 0 < count sameBytes key us → distinct mark (key ∷ us) ≡ distinct mark us

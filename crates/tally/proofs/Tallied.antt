@@ -1,38 +1,72 @@
 -- A table that tells of some uses: an empty one, one use more, what is found, the most keys of each mark, and the words that all keys take.
 -- Assumes nothing.
-use Prim.Native.Nat.{ℕ, _+_, _-_, _*_, _/_, _^_, _<_, _≤_, min}
+use Prim.Native.Nat.{ℕ, _+_, _-_, _*_, _/_, _<_, _≤_, min}
 use mathlib.Core.Path.{_≡_, refl, sym, ap, _∙_}
 use mathlib.Core.List.{[], List, _∷_}
 use mathlib.Core.Bool.{true, false, true≢false}
+use mathlib.Core.Logic.{_⊎_, inl, inr, ⊎-elim}
 use native.Mathlib.Omega.{arith}
-use lib.Dec.{eqb}
+use lib.Dec.{eqb, ltb}
 use lib.ListN.{length, getD, length-set}
-use lib.Seq.{getD-set-same, getD-set-other}
-use borrow.Author.Tests.{eqb-true, eqb-false, ne-eqb, ltb-true, ltb-false}
+use borrow.Author.Tests.{eqb-true, eqb-false, ltb-true, ltb-false}
 use Rattle.words.specs.Word.{pick}
 use Rattle.words.specs.Stream.{sameBytes}
 use Rattle.words.proofs.Same.{same-true, same-refl}
 use Rattle.words.proofs.Tests.{cases}
 use Rattle.registering.specs.Counting.{sumBy, count, keys}
 use Rattle.registering.specs.Registers.{registers}
+use Rattle.registering.proofs.Registers.{registers-empty, registers-often}
 use Rattle.tally.specs.declared.Slot.{Slot}
 use Rattle.tally.specs.declared.Slot.the-variants.{Here, Free, Full}
-use Rattle.tally.specs.Models.Slots.{keyOf, keyMark, keyWords, placeAt, usesAt, counterAt, isFree, keyAt, findOf, raised, countAt, usedAgain, filled, isAdded, added, costOf, sumTo, measureOf}
+use Rattle.tally.specs.Models.Slots.{keyOf, keyMark, keyWords, placeIn, usesIn, placeAt, usesAt, counterAt, isFree, keyAt, findOf, raised, countAt, usedAgain, filled, remembering, isAdded, added, costOf, sumTo, measureOf}
 use Rattle.tally.specs.Models.Tally.{distinct, Wide, Tallies}
-use Rattle.tally.proofs.Probing.{found-low, here-key, free-slot, full-slots, find-still, find-taken, key-alike}
-use Rattle.tally.proofs.Frames.{raised-more, filled-other, filled-place, filled-label, filled-uses, filled-counter}
-use Rattle.tally.proofs.Sums.{sum-alike, sum-ones, at-bounds, held, held-none, held-once, held-keys, count-low, distinct-low, distinct-old, distinct-own, distinct-other, distinct-alike, distinct-sum}
+use Rattle.tally.proofs.Probing.{found-low, here-key, free-slot, full-slots, find-still, find-taken, find-alike}
+use Rattle.tally.proofs.Frames.{raised-more, raised-least, word-uses, filled-other, filled-uses, filled-counter}
+use Rattle.tally.proofs.Stays.{Stay, used-word, used-other, used-place, used-stay, filled-taken, filled-key, filled-words, filled-stay, remembering-other}
+use Rattle.tally.proofs.Sums.{sum-alike, sum-ones, at-bounds, held, held-none, held-once, held-keys, distinct-old, distinct-own, distinct-other, distinct-alike, distinct-sum}
+
+-- a key used more often than half a word holds is registered, as one used as often as that is; or it has no words
+often-registered : (words uses : ℕ) → 65535 < uses → (words ≡ 0) ⊎ ((registers words 65535 ≡ true) × (registers words uses ≡ true))
+often-registered words uses often =
+    cases (eqb words 0) (λ e. inl (eqb-true words 0 e))
+    (λ e. let some = eqb-false words 0 e in
+    inr (registers-often words 65535 (omega arith) (omega arith), registers-often words uses (omega arith) (omega arith)))
+
+-- so whether a key is registered can be told from as many of its uses as half a word holds
+pub registers-capped : (words uses : ℕ) → registers words (min 65535 uses) ≡ registers words uses
+registers-capped words uses =
+    cases (ltb uses 65536)
+    (λ e. let same : min 65535 uses ≡ uses = omega (arith, ltb-true uses 65536 e) in rw same)
+    (λ e. let often = ltb-false uses 65536 e in
+    let most : min 65535 uses ≡ 65535 = omega arith in
+    rw most (⊎-elim (λ z. no-words 65535 z ∙ sym (no-words uses z)) (λ r. r .0 ∙ sym (r .1)) (often-registered words uses (omega arith))))
+  where
+    no-words : (n : ℕ) → words ≡ 0 → registers words n ≡ false
+    no-words n z = ap (λ (w : ℕ). registers w n) z ∙ registers-empty n
+
+-- and so can the words that it takes
+cost-capped : (words uses : ℕ)
+    → pick (registers words (min 65535 uses)) (1 + words) (min 65535 uses * words) ≡ pick (registers words uses) (1 + words) (uses * words)
+cost-capped words uses =
+    cases (ltb uses 65536)
+    (λ e. let same : min 65535 uses ≡ uses = omega (arith, ltb-true uses 65536 e) in rw same)
+    (λ e. rw (registers-capped words uses) (go (often-registered words uses (omega (arith, ltb-false uses 65536 e)))))
+  where
+    go : (words ≡ 0) ⊎ ((registers words 65535 ≡ true) × (registers words uses ≡ true))
+        → pick (registers words uses) (1 + words) (min 65535 uses * words) ≡ pick (registers words uses) (1 + words) (uses * words)
+    go (inl z) = rw z (cases (registers 0 uses) (λ e. rw e) (λ e. rw e (omega arith)))
+    go (inr r) = rw (r .1)
 
 -- a table of zeros tells of no uses
 pub empty-tally : (archive : List ℕ) (stretch : ℕ) (slots : List ℕ) → Wide stretch slots → ((i : ℕ) → i < 3 * stretch → getD slots i 0 ≡ 0)
     → Tallies archive stretch slots []
 empty-tally archive stretch slots wide zeros = record {
   wide = wide;
-  counted = λ s l f. absurd (eqb-false (placeAt slots s) 0 f (zeros s (omega arith)));
-  used = λ s l f. absurd (eqb-false (placeAt slots s) 0 f (zeros s (omega arith)));
-  own = λ s l f. absurd (eqb-false (placeAt slots s) 0 f (zeros s (omega arith)));
+  counted = λ s l f. absurd (eqb-false (placeAt slots s) 0 f (ap placeIn (zeros s (omega arith))));
+  used = λ s l f. absurd (eqb-false (placeAt slots s) 0 f (ap placeIn (zeros s (omega arith))));
+  own = λ s l f. absurd (eqb-false (placeAt slots s) 0 f (ap placeIn (zeros s (omega arith))));
   kept = λ key h. absurd (omega arith);
-  spare = λ s g l. zeros s (omega arith);
+  spare = λ s g l. ap placeIn (zeros s (omega arith));
   marks = λ mark l. zeros (counterAt stretch mark) (omega arith);
 }
 
@@ -41,7 +75,7 @@ pub tally-alike : {archive : List ℕ} {stretch : ℕ} {slots : List ℕ} (us vs
     → ((key : List ℕ) → count sameBytes key us ≡ count sameBytes key vs) → Tallies archive stretch slots vs
 tally-alike {archive} {stretch} {slots} us vs T h = record {
   wide = T .wide;
-  counted = λ s l f. T .counted s l f ∙ h (keyAt archive stretch slots s);
+  counted = λ s l f. T .counted s l f ∙ ap (min 65535) (h (keyAt archive stretch slots s));
   used = T .used;
   own = T .own;
   kept = λ key p. T .kept key (omega (arith, h key));
@@ -52,14 +86,14 @@ tally-alike {archive} {stretch} {slots} us vs T h = record {
 module _ {archive : List ℕ} {stretch : ℕ} {slots : List ℕ} {us : List (List ℕ)} (T : Tallies archive stretch slots us) where
   -- ---- what a search finds
 
-  -- a key that is found was used as often as its slot says
+  -- a key that is found was used as often as its slot says, up to the highest that this holds
   pub here-used : (key : List ℕ) (s : ℕ) → findOf archive stretch slots key ≡ Here s
-      → (usesAt stretch slots s ≡ count sameBytes key us) × (0 < count sameBytes key us)
+      → (usesAt stretch slots s ≡ min 65535 (count sameBytes key us)) × (0 < count sameBytes key us)
   here-used key s e =
       let l = found-low archive stretch slots key (T .wide .some) (Here s) e in
       let h = here-key archive stretch slots key (T .wide .some) s e in
-      let same : usesAt stretch slots s ≡ count sameBytes key us =
-      T .counted s l (h .0) ∙ ap (λ (k : List ℕ). count sameBytes k us) (h .1) in
+      let same : usesAt stretch slots s ≡ min 65535 (count sameBytes key us) =
+      T .counted s l (h .0) ∙ ap (λ (k : List ℕ). min 65535 (count sameBytes k us)) (h .1) in
       (same, omega (arith, T .used s l (h .0)))
 
   -- a key that is not found was not used
@@ -123,7 +157,9 @@ module _ {archive : List ℕ} {stretch : ℕ} {slots : List ℕ} {us : List (Lis
       (λ s. pick (isFree slots s) 0
       (pick (registers (keyWords (keyAt archive stretch slots s)) (count sameBytes (keyAt archive stretch slots s) us))
       (1 + keyWords (keyAt archive stretch slots s)) (count sameBytes (keyAt archive stretch slots s) us * keyWords (keyAt archive stretch slots s))))
-      (λ s l. cases (isFree slots s) (λ e. rw e) (λ e. rw (e, T .counted s l e)))
+      (λ s l. cases (isFree slots s) (λ e. rw e)
+      (λ e. rw (e, T .counted s l e)
+      (cost-capped (keyWords (keyAt archive stretch slots s)) (count sameBytes (keyAt archive stretch slots s) us))))
       ∙ slots-sum (λ key. pick (registers (keyWords key) (count sameBytes key us)) (1 + keyWords key) (count sameBytes key us * keyWords key))
 
   -- where no slot is left, there are as many distinct keys as slots
@@ -139,7 +175,7 @@ module _ {archive : List ℕ} {stretch : ℕ} {slots : List ℕ} {us : List (Lis
       (stay : (x : ℕ) → x < stretch - 18 → isFree slots x ≡ false
       → (isFree table′ x ≡ false) × (keyAt archive stretch table′ x ≡ keyAt archive stretch slots x))
       (other : (x : ℕ) → x < stretch - 18 → (x ≡ s → ⊥) → (isFree table′ x ≡ isFree slots x) × (usesAt stretch table′ x ≡ usesAt stretch slots x))
-      (holds : keyAt archive stretch table′ s ≡ key) (more : usesAt stretch table′ s ≡ 1 + count sameBytes key us)
+      (holds : keyAt archive stretch table′ s ≡ key) (more : usesAt stretch table′ s ≡ min 65535 (1 + count sameBytes key us))
       (found : findOf archive stretch table′ key ≡ Here s) where
     -- any other slot that is taken was taken
     was-taken : (x : ℕ) → x < stretch - 18 → (x ≡ s → ⊥) → isFree table′ x ≡ false → isFree slots x ≡ false
@@ -157,13 +193,13 @@ module _ {archive : List ℕ} {stretch : ℕ} {slots : List ℕ} {us : List (Lis
 
     -- each slot that is taken has the number of uses of its key
     counted-more : (x : ℕ) → x < stretch - 18 → isFree table′ x ≡ false
-        → usesAt stretch table′ x ≡ count sameBytes (keyAt archive stretch table′ x) (key ∷ us)
+        → usesAt stretch table′ x ≡ min 65535 (count sameBytes (keyAt archive stretch table′ x) (key ∷ us))
     counted-more x l f =
         cases (eqb x s)
         (λ e. let i = eqb-true x s e in
         let same : keyAt archive stretch table′ x ≡ key = ap (keyAt archive stretch table′) i ∙ holds in
         let one : count sameBytes key (key ∷ us) ≡ 1 + count sameBytes key us = rw (same-refl key) in
-        ap (usesAt stretch table′) i ∙ more ∙ sym (ap (λ (k : List ℕ). count sameBytes k (key ∷ us)) same ∙ one))
+        ap (usesAt stretch table′) i ∙ more ∙ ap (min 65535) (sym (ap (λ (k : List ℕ). count sameBytes k (key ∷ us)) same ∙ one)))
         (λ e. let n = eqb-false x s e in
         let g = was-taken x l n f in
         cases (sameBytes key (keyAt archive stretch table′ x))
@@ -206,17 +242,17 @@ module _ {archive : List ℕ} {stretch : ℕ} {slots : List ℕ} {us : List (Lis
   wide-more table′ e = record { some = T .wide .some; low = T .wide .low; long = rw e (T .wide .long) }
 
   -- one use more of a key that has a slot
-  raised-tally : (key : List ℕ) (s : ℕ) → length us < 2 ^ 32 - 1 → findOf archive stretch slots key ≡ Here s
+  pub raised-tally : (key : List ℕ) (s : ℕ) → findOf archive stretch slots key ≡ Here s
       → Tallies archive stretch (usedAgain stretch slots s) (key ∷ us)
-  raised-tally key s short e =
+  raised-tally key s e =
       tally-more table′ key s stay other
       (stay s l (h .0) .1 ∙ h .1)
-      (getD-set-same slots (2 * stretch + s) (raised (usesAt stretch slots s)) 0 (omega (arith, l))
-      ∙ raised-more (usesAt stretch slots s) (omega (arith, u .0, count-low key us)) ∙ omega (arith, u .0))
+      (ap usesIn (used-word archive stretch slots (T .wide) s l) ∙ word-uses (raised (usesAt stretch slots s)) (getD slots (stretch + s) 0)
+      ∙ ap raised (u .0) ∙ raised-least (count sameBytes key us))
       (find-still archive stretch slots table′ (T .wide .some) stay key s e)
-      (wide-more table′ (length-set slots (2 * stretch + s) (raised (usesAt stretch slots s))))
-      (λ x g k. place-same x k ∙ T .spare x g k)
-      (λ m g. left (counterAt stretch m) (λ q. omega (arith, l)) ∙ T .marks m g ∙ sym (distinct-old m key us (u .1)))
+      (wide-more table′ (simp length-set))
+      (λ x g k. used-place archive stretch slots (T .wide) s l x k ∙ T .spare x g k)
+      (λ m g. used-other archive stretch slots (T .wide) s l (counterAt stretch m) (λ q. omega (arith, l)) ∙ T .marks m g ∙ sym (distinct-old m key us (u .1)))
     where
       table′ : List ℕ
       table′ = usedAgain stretch slots s
@@ -227,35 +263,31 @@ module _ {archive : List ℕ} {stretch : ℕ} {slots : List ℕ} {us : List (Lis
       h : (isFree slots s ≡ false) × (keyAt archive stretch slots s ≡ key)
       h = here-key archive stretch slots key (T .wide .some) s e
 
-      u : (usesAt stretch slots s ≡ count sameBytes key us) × (0 < count sameBytes key us)
+      u : (usesAt stretch slots s ≡ min 65535 (count sameBytes key us)) × (0 < count sameBytes key us)
       u = here-used key s e
 
-      left : (i : ℕ) → (i ≡ 2 * stretch + s → ⊥) → getD table′ i 0 ≡ getD slots i 0
-      left i n = getD-set-other slots (2 * stretch + s) i (raised (usesAt stretch slots s)) 0 n
-
-      place-same : (x : ℕ) → x < stretch → placeAt table′ x ≡ placeAt slots x
-      place-same x g = left x (λ q. omega arith)
-
-      stay : (x : ℕ) → x < stretch - 18 → isFree slots x ≡ false
-          → (isFree table′ x ≡ false) × (keyAt archive stretch table′ x ≡ keyAt archive stretch slots x)
-      stay x g f = (
-        ap (λ (p : ℕ). eqb p 0) (place-same x (omega arith)) ∙ f,
-        key-alike archive stretch slots table′ x (place-same x (omega arith)) (left (stretch + x) (λ q. omega arith)),
-      )
+      stay : Stay archive stretch slots table′
+      stay = used-stay archive stretch slots (T .wide) s l
 
       other : (x : ℕ) → x < stretch - 18 → (x ≡ s → ⊥) → (isFree table′ x ≡ isFree slots x) × (usesAt stretch table′ x ≡ usesAt stretch slots x)
-      other x g n = (ap (λ (p : ℕ). eqb p 0) (place-same x (omega arith)), left (2 * stretch + x) (λ q. n (omega arith)))
+      other x g n = (
+        ap (λ (p : ℕ). eqb p 0) (used-place archive stretch slots (T .wide) s l x (omega arith)),
+        ap usesIn (used-other archive stretch slots (T .wide) s l (stretch + x) (λ q. n (omega arith))),
+      )
 
   -- the first use of a key, in a free slot
-  filled-tally : (place label s : ℕ) → 0 < place → label / 65536 < 18 → length us < 2 ^ 32 - 1
+  filled-tally : (place label s : ℕ) → 0 < place → place < 16777216 → label / 65536 < 18 → countAt stretch slots label < 65535
       → findOf archive stretch slots (keyOf archive place label) ≡ Free s
       → Tallies archive stretch (filled stretch slots place label s) (keyOf archive place label ∷ us)
-  filled-tally place label s some mark short e =
-      tally-more table′ (keyOf archive place label) s stay other own-key
+  filled-tally place label s some small mark few e =
+      tally-more table′ (keyOf archive place label) s stay other
+      (filled-key archive stretch slots (T .wide) place label s some small mark l free)
       (filled-uses stretch slots place label s l mark (T .wide) ∙ omega (arith, new))
-      (find-taken archive stretch slots table′ (T .wide .some) stay (keyOf archive place label) s taken own-key e)
-      (wide-more table′ long)
-      (λ x g k. left x (λ q. omega (arith, l)) (λ q. omega arith) (λ q. omega arith) (λ q. omega arith) ∙ T .spare x g k)
+      (find-taken archive stretch slots table′ (T .wide .some) stay (keyOf archive place label) s
+      (filled-taken archive stretch slots (T .wide) place label s some small mark l free)
+      (filled-key archive stretch slots (T .wide) place label s some small mark l free) e)
+      (wide-more table′ (simp length-set))
+      (λ x g k. ap placeIn (left x (λ q. omega (arith, l)) (λ q. omega arith) (λ q. omega (arith, T .wide .some))) ∙ T .spare x g k)
       marks
     where
       table′ : List ℕ
@@ -264,40 +296,23 @@ module _ {archive : List ℕ} {stretch : ℕ} {slots : List ℕ} {us : List (Lis
       l : s < stretch - 18
       l = found-low archive stretch slots (keyOf archive place label) (T .wide .some) (Free s) e
 
+      free : isFree slots s ≡ true
+      free = free-slot archive stretch slots (keyOf archive place label) (T .wide .some) s e
+
       new : count sameBytes (keyOf archive place label) us ≡ 0
       new = free-new (keyOf archive place label) s e
 
-      long : length table′ ≡ length slots
-      long = simp length-set
-
-      left : (i : ℕ) → (i ≡ s → ⊥) → (i ≡ stretch + s → ⊥) → (i ≡ 2 * stretch + s → ⊥) → (i ≡ counterAt stretch (label / 65536) → ⊥)
+      left : (i : ℕ) → (i ≡ s → ⊥) → (i ≡ stretch + s → ⊥) → (i ≡ counterAt stretch (label / 65536) → ⊥)
           → getD table′ i 0 ≡ getD slots i 0
       left = filled-other stretch slots place label s l mark
 
-      taken : isFree table′ s ≡ false
-      taken = rw (filled-place stretch slots place label s l mark (T .wide)) (ne-eqb place 0 (λ z. omega arith))
-
-      own-key : keyAt archive stretch table′ s ≡ keyOf archive place label
-      own-key = rw (filled-place stretch slots place label s l mark (T .wide), filled-label stretch slots place label s l mark (T .wide))
-
-      place-same : (x : ℕ) → x < stretch - 18 → (x ≡ s → ⊥) → placeAt table′ x ≡ placeAt slots x
-      place-same x g n = left x n (λ q. omega arith) (λ q. omega arith) (λ q. omega arith)
-
-      stay : (x : ℕ) → x < stretch - 18 → isFree slots x ≡ false
-          → (isFree table′ x ≡ false) × (keyAt archive stretch table′ x ≡ keyAt archive stretch slots x)
-      stay x g f =
-          let n : x ≡ s → ⊥ =
-          λ i. true≢false (sym (free-slot archive stretch slots (keyOf archive place label) (T .wide .some) s e) ∙ ap (isFree slots) (sym i) ∙ f) in (
-            ap (λ (p : ℕ). eqb p 0) (place-same x g n) ∙ f,
-            key-alike archive stretch slots table′ x (place-same x g n)
-                (left (stretch + x) (λ q. omega (arith, l)) (λ q. n (omega arith)) (λ q. omega arith) (λ q. omega arith)),
-          )
+      stay : Stay archive stretch slots table′
+      stay = filled-stay archive stretch slots (T .wide) place label s some small mark l free
 
       other : (x : ℕ) → x < stretch - 18 → (x ≡ s → ⊥) → (isFree table′ x ≡ isFree slots x) × (usesAt stretch table′ x ≡ usesAt stretch slots x)
-      other x g n = (
-        ap (λ (p : ℕ). eqb p 0) (place-same x g n),
-        left (2 * stretch + x) (λ q. omega (arith, l)) (λ q. omega (arith, l)) (λ q. n (omega arith)) (λ q. omega arith),
-      )
+      other x g n =
+          let w = filled-words archive stretch slots (T .wide) place label s some small mark l free x g n in
+          (rw (w .0), ap usesIn (w .1))
 
       marks : (m : ℕ) → m < 18 → getD table′ (counterAt stretch m) 0 ≡ distinct m (keyOf archive place label ∷ us)
       marks m g =
@@ -308,24 +323,58 @@ module _ {archive : List ℕ} {stretch : ℕ} {slots : List ℕ} {us : List (Lis
           let more = distinct-own m (keyOf archive place label) us new i in
           ap (λ (x : ℕ). getD table′ (counterAt stretch x) 0) (sym i)
           ∙ filled-counter stretch slots place label s l mark (T .wide)
-          ∙ raised-more (countAt stretch slots label) (omega (arith, distinct-low m us))
+          ∙ raised-more (countAt stretch slots label) few
           ∙ omega arith)
           (λ q. let i = eqb-false (label / 65536) m q in
-          left (counterAt stretch m) (λ z. omega (arith, l)) (λ z. omega (arith, l)) (λ z. omega (arith, l)) (λ z. i (omega arith))
+          left (counterAt stretch m) (λ z. omega (arith, l)) (λ z. omega (arith, l)) (λ z. i (omega arith))
           ∙ T .marks m g ∙ sym (distinct-other m (keyOf archive place label) us new i))
 
   -- a use that is counted keeps the tally
-  pub add-tally : (place label most : ℕ) → 0 < place → label / 65536 < 18 → length us < 2 ^ 32 - 1
+  pub add-tally : (place label most : ℕ) → 0 < place → place < 16777216 → label / 65536 < 18 → most < 65536
       → isAdded stretch slots label most (findOf archive stretch slots (keyOf archive place label)) ≡ true
       → Tallies archive stretch (added stretch slots place label most (findOf archive stretch slots (keyOf archive place label)))
       (keyOf archive place label ∷ us)
-  add-tally place label most some mark short = go (findOf archive stretch slots (keyOf archive place label)) refl
+  add-tally place label most some small mark few = go (findOf archive stretch slots (keyOf archive place label)) refl
     where
       go : (slot : Slot) → findOf archive stretch slots (keyOf archive place label) ≡ slot → isAdded stretch slots label most slot ≡ true
           → Tallies archive stretch (added stretch slots place label most slot) (keyOf archive place label ∷ us)
-      go (Here s) e a = raised-tally (keyOf archive place label) s short e
-      go (Free s) e a = rw a (filled-tally place label s some mark short e)
+      go (Here s) e a = raised-tally (keyOf archive place label) s e
+      go (Free s) e a =
+          rw a (filled-tally place label s some small mark (omega (arith, ltb-true (countAt stretch slots label) most a)) e)
       go Full e a = absurd (true≢false (sym a))
+
+  -- slots with the same words in the first two stretches tell the same
+  pub words-tally : (after : List ℕ) → length after ≡ length slots → ((i : ℕ) → i < 2 * stretch → getD after i 0 ≡ getD slots i 0)
+      → Tallies archive stretch after us
+  words-tally after long same =
+      record {
+        wide = wide-more after long;
+        counted = λ s l f. rw (second s l, first s (omega arith)) (T .counted s l (free s l f));
+        used = λ s l f. rw (second s l) (T .used s l (free s l f));
+        own = λ s l f. rw (searched (keyAt archive stretch after s), second s l, first s (omega arith)) (T .own s l (free s l f));
+        kept = λ key h. let r = T .kept key h in (r .0, searched key ∙ r .1);
+        spare = λ s g l. ap placeIn (first s l) ∙ T .spare s g l;
+        marks = λ mark l. same (counterAt stretch mark) (omega (arith, T .wide .some)) ∙ T .marks mark l;
+      }
+    where
+      first : (s : ℕ) → s < stretch → getD after s 0 ≡ getD slots s 0
+      first s l = same s (omega arith)
+
+      second : (s : ℕ) → s < stretch - 18 → getD after (stretch + s) 0 ≡ getD slots (stretch + s) 0
+      second s l = same (stretch + s) (omega arith)
+
+      free : (s : ℕ) → s < stretch - 18 → isFree after s ≡ false → isFree slots s ≡ false
+      free s l f = rw (first s (omega arith)) at f
+
+      searched : (key : List ℕ) → findOf archive stretch after key ≡ findOf archive stretch slots key
+      searched =
+          find-alike archive stretch slots after (T .wide .some)
+          (λ s l. (ap placeIn (first s (omega arith)), λ f. rw (first s (omega arith), second s l)))
+
+  -- so a word that is remembered keeps the tally
+  pub remembering-tally : (entry word : ℕ) → Tallies archive stretch (remembering stretch slots entry word) us
+  remembering-tally entry word =
+      words-tally (remembering stretch slots entry word) (length-set slots (2 * stretch + entry) word) (remembering-other stretch slots entry word)
 
   -- ---- the most keys of each mark
 

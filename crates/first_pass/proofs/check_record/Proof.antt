@@ -26,41 +26,46 @@ record-keeps-requires c κs =
 
 check-report-requires : tie.Need-check-report-requires
 check-report-requires c κs =
+    let content′ = c .before .before .content in
     let a = c .before .before .before .before .before .before .before .before .before .args in
-    let p = c .before .before .before .before .before .before .before .before .before .pre in (
+    let p = c .before .before .before .before .before .before .before .before .before .pre in
+    let q = p .4 _ (content′ .given .1) in (
       p .0,
       (
         p .3 .0,
-        subst (λ (x : Content). recordAt (a .f) (a .archive .now) (a .s .place) ≡ record { content = x; next = a .next })
-            (c .before .before .content .given .1) (p .3 .1),
+        subst (λ (x : Content). recordAt (a .f) (a .archive .now) (a .s .place) ≡ record { content = x; next = a .next }) (content′ .given .1) (p .3 .1),
       ),
+      q .1,
+      q .0,
     )
 
 returns : tie.Need-returns
 unfolding recordChecked checkedSlots
 returns c =
-    let record-keeps′ = c .before .before .before .before .before .before .before .before .record-keeps in
-    let if1′ = c .before .before .before .before .before .before .before .if1 in
-    let content′ = c .before .before .before .before .before .content in
-    rw (← record-keeps′ .ensures, if1′ .taken, content′ .given .1) (c .before .before .check-report .ensures)
+    let record-keeps = c .before .before .before .before .before .before .before .before .record-keeps in
+    let if1 = c .before .before .before .before .before .before .before .if1 in
+    let content = c .before .before .before .before .before .content in
+    rw (← record-keeps .ensures, if1 .taken, content .given .1) (c .before .before .check-report .ensures)
 
 returns-2 : tie.Need-returns-2
 unfolding recordChecked checkedSlots
 returns-2 c =
+    let match = c .before .match in
+    let record-keeps = c .before .before .before .record-keeps in
     let a = c .before .before .before .before .before .before .before .args in
     let tables = tablesIn (a .f) (a .room .now) in
     let slots = slotsIn (a .f) (a .room .now) in
     let found = other-arm (a .content) (counts 0 (plainWords (a .content)))
-    (λ r. reportChecked (a .f) (a .archive .now) tables slots (a .s) r (a .next) (a .clean)) (c .before .match .keys2) in
+    (λ r. reportChecked (a .f) (a .archive .now) tables slots (a .s) r (a .next) (a .clean)) (match .keys2) in
     let stay = other-arm (a .content) slots
-    (λ r. pick (a .clean) (reportSlots (a .f) (a .archive .now) tables slots (a .s) r (a .next)) slots) (c .before .match .keys2) in
-    rw (← c .before .before .before .record-keeps .ensures, c .before .before .if1 .taken, c .plain-words .ensures, found, stay) (refl, sym (take-append-drop (tableWords (a .f)) (a .room .now)))
+    (λ r. pick (a .clean) (reportSlots (a .f) (a .archive .now) tables slots (a .s) r (a .next)) slots) (match .keys2) in
+    rw (← record-keeps .ensures, c .before .before .if1 .taken, c .plain-words .ensures, found, stay) (refl, sym (take-append-drop (tableWords (a .f)) (a .room .now)))
 
 returns-3 : tie.Need-returns-3
 unfolding recordChecked checkedSlots
 returns-3 c =
-    let a = c .before .before .before .before .before .args in
-    rw (← c .before .record-keeps .ensures, c .if1 .left) (refl, sym (take-append-drop (tableWords (a .f)) (a .room .now)))
+    let given = c .before .before .before .before .before .args in
+    rw (← c .before .record-keeps .ensures, c .if1 .left) (refl, sym (take-append-drop (tableWords (given .f)) (given .room .now)))
 
 pub check-record-spec : {M : Type 1} → statement M
 check-record-spec =

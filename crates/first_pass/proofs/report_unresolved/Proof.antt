@@ -1,5 +1,4 @@
 -- `first_pass::report_unresolved` meets its contract: one reference after the other is asked for, as the definition does. Assumes nothing.
-use mathlib.Core.Path.{sym}
 use native.Mathlib.Omega.{arith}
 use Rattle.passes.proofs.Places.{report-bounds}
 use Rattle.first_pass.specs.Models.Count.{anyUnresolved}

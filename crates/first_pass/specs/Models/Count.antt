@@ -1,17 +1,21 @@
 -- The uses of a record as the first pass counts them, reference after reference. `tables` are the reading tables, `slots` the words of the tally.
-use Prim.Native.Nat.{ℕ, _+_, _-_, _*_, _^_, _≤_, _<_}
+use Prim.Native.Nat.{ℕ, _+_, _-_, _*_, _≤_, _<_}
 use mathlib.Core.Path.{_≡_}
 use mathlib.Core.List.{List, [], _∷_}
 use mathlib.Core.Bool.{Bool, true, false, _&&_, _||_}
 use lib.ListN.{length, take, drop}
 use lib.Dec.{eqb}
 use Rattle.passes.specs.Models.Item.{reportAt}
-use Rattle.tally.specs.Models.Slots.{labelOf, keyOf, findOf, isAdded, added}
+use Rattle.passes.specs.Models.Memory.{noted, Remembers}
+use Rattle.tally.specs.Models.Slots.{labelOf, keyOf, findOf, isAdded, addedSlot, added}
 use Rattle.tables.specs.Models.Entries.{FormatFits}
 use Rattle.records.specs.Models.Fixed.{fixedWords}
 use Rattle.words.specs.Word.{pick}
 use Rattle.words.specs.Stream.{streamWords}
 use Rattle.format.specs.declared.Format.{Format}
+use Rattle.format.specs.declared.Reference.{Reference}
+use Rattle.format.specs.declared.Reference.the-variants.{Inline, Index}
+use Rattle.format.specs.Limits.{longestArchive}
 use Rattle.arguments.specs.declared.Argument.{Argument}
 use Rattle.arguments.specs.declared.Value.{Value}
 use Rattle.arguments.specs.declared.Value.the-variants.{Scalar as ScalarValue, Text}
@@ -39,10 +43,10 @@ tablesIn f room = take (tableWords f) room
 abbrev pub slotsIn : Format → List ℕ → List ℕ
 slotsIn f room = drop (tableWords f) room
 
--- what counting in a context asks for: a format whose indexes fit, an archive whose places fit a word, a room of four stretches, one of nine contexts
+-- what counting in a context asks for: a format whose indexes fit, an archive whose places fit a slot, a room of four stretches, one of nine contexts
 pub record CanCount (f : Format) (archive room : List ℕ) (context : ℕ) : Type 0 where
   pub fits : FormatFits f
-  pub short : length archive < 2 ^ 31
+  pub short : length archive ≤ longestArchive
   pub wide : 4 * tableWords f ≤ length room
   pub low : context ≤ 8
 
@@ -50,7 +54,16 @@ pub record CanCount (f : Format) (archive room : List ℕ) (context : ℕ) : Typ
 abbrev pub RecordIs : Format → List ℕ → State → Content → ℕ → Type 0
 RecordIs f archive s content next = (s .place ≤ length archive) × (recordAt f archive (s .place) ≡ record { content = content; next = next })
 
+-- the slots that are remembered are those of what the entries of the tables stand for at `until`
+abbrev pub Recalls : Format → List ℕ → List ℕ → ℕ → Type 0
+Recalls f archive room until = Remembers f archive (tablesIn f room) (slotsIn f room) until
+
 -- ---- references
+
+-- an inline reference whose bytes can be counted: they stand in the archive, behind its first byte where there are any, and are fewer than 65,536
+abbrev pub CanStand : List ℕ → Reference → Type 0
+CanStand archive (Inline place long) = (place + long ≤ length archive) × (long < 65536) × (0 < long → 0 < place)
+CanStand archive (Index index) = Unit {0}
 
 -- whether a reference is shown as unresolved
 unfoldable pub unresolvedIn : Resolved → Bool
@@ -67,21 +80,23 @@ countGood f archive slots context table (Known place long) =
     (findOf archive (tableWords f) slots (keyOf archive place (labelOf context table long))))
 countGood f archive slots context table (Unresolved index) = false
 
--- the slots after it
-unfoldable pub countSlots : Format → List ℕ → List ℕ → ℕ → ℕ → Resolved → List ℕ
-countSlots f archive slots context table Bad = slots
-countSlots f archive slots context table (Known place long) =
+-- the slots after it, in which its slot is remembered for the reference
+unfoldable pub countSlots : Format → List ℕ → List ℕ → ℕ → ℕ → Reference → Resolved → List ℕ
+countSlots f archive slots context table reference Bad = slots
+countSlots f archive slots context table reference (Known place long) =
+    let label = labelOf context table long in
+    let slot = findOf archive (tableWords f) slots (keyOf archive place label) in
     pick (eqb long 0) slots
-    (added (tableWords f) slots place (labelOf context table long) (highestOf f table)
-    (findOf archive (tableWords f) slots (keyOf archive place (labelOf context table long))))
-countSlots f archive slots context table (Unresolved index) = slots
+    (noted f (added (tableWords f) slots place label (highestOf f table) slot) context table reference
+    (addedSlot (tableWords f) slots label (highestOf f table) slot))
+countSlots f archive slots context table reference (Unresolved index) = slots
 
 -- a reference looked up in its table
 abbrev pub lookupGood : Format → List ℕ → List ℕ → List ℕ → ℕ → ℕ → Lookup → Bool
 lookupGood f archive tables slots context until l = countGood f archive slots context (l .table) (lookedUp f archive tables context until l)
 
 abbrev pub lookupSlots : Format → List ℕ → List ℕ → List ℕ → ℕ → ℕ → Lookup → List ℕ
-lookupSlots f archive tables slots context until l = countSlots f archive slots context (l .table) (lookedUp f archive tables context until l)
+lookupSlots f archive tables slots context until l = countSlots f archive slots context (l .table) (l .reference) (lookedUp f archive tables context until l)
 
 -- references one after the other
 unfoldable pub lookupsGood : Format → List ℕ → List ℕ → List ℕ → ℕ → ℕ → List Lookup → Bool

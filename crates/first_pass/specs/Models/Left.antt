@@ -1,11 +1,12 @@
 -- What the first pass leaves in the words of the tally, whatever it answers: which uses it counted, and that a slot without a key is clear.
-use Prim.Native.Nat.{ℕ, _-_, _<_}
+use Prim.Native.Nat.{ℕ, _+_, _-_, _<_}
+use lib.ListN.{getD}
 use mathlib.Core.Path.{_≡_}
 use mathlib.Core.List.{List, [], _∷_, _++_}
 use mathlib.Core.Bool.{_||_}
 use Rattle.passes.specs.Models.Codes.{codes, lastOf}
 use Rattle.tally.specs.Models.Tally.{Tallies}
-use Rattle.tally.specs.Models.Slots.{placeAt, labelAt, usesAt}
+use Rattle.tally.specs.Models.Slots.{placeAt}
 use Rattle.words.specs.Word.{pick}
 use Rattle.format.specs.declared.Format.{Format}
 use Rattle.records.specs.Item.{Use}
@@ -32,10 +33,10 @@ countedFrom f uses (passed place keeps item run) =
 abbrev pub countedOf : Format → List ℕ → List Use
 countedOf f archive = countedFrom f [] (runOf f archive)
 
--- a slot with no place has no label and no uses, and the words of the first two stretches that are no slots are clear with it
+-- the words of a slot with no place are 0, and so are those of the first stretch that are no slots
 abbrev pub FreeClear : ℕ → List ℕ → Type 0
 FreeClear stretch slots =
-    (s : ℕ) → s < stretch → placeAt slots s ≡ 0 → (labelAt stretch slots s ≡ 0) × (s < stretch - 18 → usesAt stretch slots s ≡ 0)
+    (s : ℕ) → s < stretch → placeAt slots s ≡ 0 → (getD slots s 0 ≡ 0) × (s < stretch - 18 → getD slots (stretch + s) 0 ≡ 0)
 
 -- the slots after the pass
 pub record SlotsLeft (f : Format) (archive slots : List ℕ) : Type 0 where

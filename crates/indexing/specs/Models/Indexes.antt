@@ -1,5 +1,5 @@
 -- The table of a tally once the uses are counted: choices and indexes stand in it for uses. The indexes that are given are counted for each mark.
-use Prim.Native.Nat.{ℕ, zero, suc, _+_, _-_, _*_, _/_, _%_, _<_, _≤_}
+use Prim.Native.Nat.{ℕ, zero, suc, _+_, _-_, _/_, _%_, _<_, _≤_}
 use mathlib.Core.Path.{_≡_}
 use mathlib.Core.List.{List}
 use mathlib.Core.Bool.{Bool, cond}
@@ -11,19 +11,20 @@ use Rattle.registering.specs.Counting.{count}
 use Rattle.registering.specs.Registers.{registers}
 use Rattle.tally.specs.declared.Slot.{Slot}
 use Rattle.tally.specs.declared.Slot.the-variants.{Here, Free, Full}
-use Rattle.tally.specs.Models.Slots.{keyWords, placeAt, labelAt, usesAt, counterAt, findOf, raised, countAt}
+use Rattle.tally.specs.Models.Slots.{keyWords, placeIn, usesIn, withUses, usesAt, counterAt, findOf, raised, countAt}
 use Rattle.tally.specs.Models.Tally.{Wide}
 
--- what stands for a key's uses once they are counted: 0 where it is spelled inline, 1 where it is registered and has no index yet;
--- later it is one more than the index
-unfoldable pub choiceOf : ℕ → ℕ → ℕ → ℕ
-choiceOf place label uses = pick (eqb place 0) 0 (pick (registers (streamWords (label % 65536)) uses) 1 0)
+-- a slot's second word once the uses are counted: for its uses stands 0 where its key is spelled inline, 1 where it is registered and has no index
+-- yet; later it is one more than the index. Where the slot has no key the word is 0
+unfoldable pub chosenWord : ℕ → ℕ → ℕ
+chosenWord first second =
+    pick (eqb (placeIn first) 0) 0 (withUses (pick (registers (streamWords (second % 65536)) (usesIn second)) 1 0) second)
 
--- the table once the first so many words of the third stretch are choices
+-- the table once the first so many words of the second stretch have choices
 unfoldable pub chosenTo : ℕ → ℕ → List ℕ → List ℕ
 chosenTo stretch zero slots = slots
 chosenTo stretch (suc s) slots =
-    set (chosenTo stretch s slots) (2 * stretch + s) (choiceOf (placeAt slots s) (labelAt stretch slots s) (usesAt stretch slots s))
+    set (chosenTo stretch s slots) (stretch + s) (chosenWord (getD slots s 0) (getD slots (stretch + s) 0))
 
 -- the index of the key whose slot is given, or 0
 abbrev pub indexAt : ℕ → List ℕ → Slot → ℕ
@@ -44,7 +45,7 @@ newIndex stretch slots label Full = 0
 abbrev pub withIndex : ℕ → List ℕ → ℕ → ℕ → List ℕ
 withIndex stretch slots label s =
     let index = raised (countAt stretch slots label) in
-    set (set slots (counterAt stretch (label / 65536)) index) (2 * stretch + s) (raised index)
+    set (set slots (counterAt stretch (label / 65536)) index) (stretch + s) (withUses (raised index) (getD slots (stretch + s) 0))
 
 -- the table after the index that the key whose slot is given gets now
 abbrev pub indexed : ℕ → List ℕ → ℕ → Slot → List ℕ

@@ -3,8 +3,8 @@ use Prim.Native.Nat.{ℕ, _-_, _*_, _^_, _≤_}
 use mathlib.Core.Path.{_≡_, refl, _∙_}
 use native.Mathlib.Omega.{arith}
 use native.Mathlib.Numerals.{add-one}
-use borrow.Author.Needs.{needs}
 use Rattle.tally.specs.Models.Slots.{placeAt, labelAt, usesAt, costOf, sumTo, measureOf}
+use borrow.Author.Needs.{needs}
 use Rattle.tally.proofs.measure.Statement.{statement}
 use Rattle.tally.proofs.measure.Tie as tie
 
@@ -19,7 +19,9 @@ loop-holds : tie.Need-loop-holds Inv-loop μ-loop
 loop-holds c = (search needs, search needs, refl)
 
 loop-again : tie.Need-loop-again Inv-loop μ-loop
-loop-again c = let h = c .before .before .before .before .before .loop in (search needs, search needs, rw (add-one (h .s), ← h .inv .2, ← c .cost .ensures .0))
+loop-again c =
+    let loop′ = c .before .before .before .before .loop in
+    let h = loop′ in (search needs, search needs, rw (add-one (h .s), ← h .inv .2, ← c .cost .ensures .0))
 
 returns : tie.Need-returns Inv-loop μ-loop
 unfolding measureOf
@@ -31,5 +33,4 @@ returns c =
 pub measure-spec : {M : Type 1} → statement M
 measure-spec =
     tie.close (tie.spec Inv-loop μ-loop loop-holds (λ c. search needs) (λ c. search needs) (λ c. search needs) (λ c. search needs) (λ c. search needs)
-    (λ c. search needs) (λ c. search needs) (λ c. search needs) (λ c. search needs) (λ c. search needs) (λ c κs. search needs)
-    (λ c. search needs) (λ c. search needs) (λ c. search needs) loop-again returns)
+    (λ c. search needs) (λ c κs. search needs) (λ c. search needs) (λ c. search needs) (λ c. search needs) loop-again returns)

@@ -4,9 +4,9 @@ use Rattle.tally.proofs.use_again.Statement.{statement}
 use Rattle.tally.proofs.use_again.Tie as tie
 
 returns : tie.Need-returns
-returns c = rw (c .raise .ensures)
+returns c = rw (c .with-uses .ensures, c .before .raise .ensures .0, c .before .before .uses-in .ensures .0)
 
 pub use-again-spec : {M : Type 1} → statement M
 use-again-spec =
-    tie.close (tie.spec (λ c. search needs) (λ c. search needs) (λ c. search needs) (λ c. search needs) (λ c κs. search needs) (λ c. search needs)
-    (λ c. search needs) (λ c. search needs) returns)
+    tie.close (tie.spec (λ c. search needs) (λ c. search needs) (λ c. search needs) (λ c κs. search needs) (λ c κs. search needs) (λ c κs. search needs)
+    (λ c. search needs) (λ c. search needs) (λ c. search needs) (λ c. search needs) returns)

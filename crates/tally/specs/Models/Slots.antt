@@ -1,6 +1,7 @@
--- One hashed table of keys for all contexts, in lent words: three stretches of one length. Of slot s, the byte place of its key, the key's label
--- and its uses stand at word s of each; a place of 0 is a free slot. The last 18 words of a stretch are no slots: in the third they count the
--- distinct keys of each mark.
+-- One hashed table of keys for all contexts, in lent words: three stretches of one length. Of slot s, word s of the first has the byte place of
+-- its key and, above 24 bits, the key's mark; word s of the second has the length of the key's bytes and, above 16 bits, its uses. A place of 0 is a
+-- free slot. The last 18 words of these two are no slots: in the second they count the distinct keys of each mark. The third stretch remembers slots:
+-- its word at a number that the caller chooses has one more than a slot, or 0.
 use Prim.Native.Nat.{ℕ, zero, suc, _+_, _-_, _*_, _/_, _%_, _^_}
 use mathlib.Core.List.{List, _∷_}
 use mathlib.Core.Bool.{Bool, true, false}
@@ -35,18 +36,35 @@ keyMark key = keyLabel key / 65536
 abbrev pub keyWords : List ℕ → ℕ
 keyWords key = streamWords (keyLabel key % 65536)
 
+-- what the two words of a slot have: the place, the label and the uses of its key
+abbrev pub placeIn : ℕ → ℕ
+placeIn first = first % 16777216
+
+abbrev pub labelIn : ℕ → ℕ → ℕ
+labelIn first second = first / 16777216 * 65536 + second % 65536
+
+abbrev pub usesIn : ℕ → ℕ
+usesIn second = second / 65536
+
+-- and the words that have them
+abbrev pub firstWord : ℕ → ℕ → ℕ
+firstWord place label = label / 65536 * 16777216 + place
+
+abbrev pub withUses : ℕ → ℕ → ℕ
+withUses uses second = uses * 65536 + second % 65536
+
 -- the words of a slot, and the counter of a mark
 abbrev pub placeAt : List ℕ → ℕ → ℕ
-placeAt slots s = getD slots s 0
+placeAt slots s = placeIn (getD slots s 0)
 
 abbrev pub labelAt : ℕ → List ℕ → ℕ → ℕ
-labelAt stretch slots s = getD slots (stretch + s) 0
+labelAt stretch slots s = labelIn (getD slots s 0) (getD slots (stretch + s) 0)
 
 abbrev pub usesAt : ℕ → List ℕ → ℕ → ℕ
-usesAt stretch slots s = getD slots (2 * stretch + s) 0
+usesAt stretch slots s = usesIn (getD slots (stretch + s) 0)
 
 abbrev pub counterAt : ℕ → ℕ → ℕ
-counterAt stretch mark = 3 * stretch - 18 + mark
+counterAt stretch mark = 2 * stretch - 18 + mark
 
 -- whether a slot is free, and the key that it holds
 abbrev pub isFree : List ℕ → ℕ → Bool
@@ -77,9 +95,9 @@ seek archive stretch slots key left s =
 unfoldable pub findOf : List ℕ → ℕ → List ℕ → List ℕ → Slot
 findOf archive stretch slots key = seek archive stretch slots key (stretch - 18) (startOf (stretch - 18) key)
 
--- one more, up to the highest number of a word
+-- one more, up to the highest number of half a word
 unfoldable pub raised : ℕ → ℕ
-raised n = pick (ltb n (2 ^ 32 - 1)) (n + 1) n
+raised n = pick (ltb n 65535) (n + 1) 65535
 
 -- what the counter of a label's mark has
 abbrev pub countAt : ℕ → List ℕ → ℕ → ℕ
@@ -87,18 +105,37 @@ countAt stretch slots label = getD slots (counterAt stretch (label / 65536)) 0
 
 -- the table after one use more of the key of a slot
 abbrev pub usedAgain : ℕ → List ℕ → ℕ → List ℕ
-usedAgain stretch slots s = set slots (2 * stretch + s) (raised (usesAt stretch slots s))
+usedAgain stretch slots s = set slots (stretch + s) (withUses (raised (usesAt stretch slots s)) (getD slots (stretch + s) 0))
 
--- the table after the first use of a key, in a free slot: its place, its label, one use, and one key more of its mark
+-- the table after the first use of a key, in a free slot: its place and label, one use, and one key more of its mark
 abbrev pub filled : ℕ → List ℕ → ℕ → ℕ → ℕ → List ℕ
 filled stretch slots place label s =
-    set (set (set (set slots s place) (stretch + s) label) (2 * stretch + s) 1) (counterAt stretch (label / 65536)) (raised (countAt stretch slots label))
+    set (set (set slots s (firstWord place label)) (stretch + s) (withUses 1 label)) (counterAt stretch (label / 65536)) (raised (countAt stretch slots label))
+
+-- one more than the slot that a search found for a key, or 0
+abbrev pub slotWord : Slot → ℕ
+slotWord (Here s) = s + 1
+slotWord (Free s) = 0
+slotWord Full = 0
+
+-- what is remembered under a number, and the table that remembers a word under it
+abbrev pub rememberedAt : ℕ → List ℕ → ℕ → ℕ
+rememberedAt stretch slots entry = getD slots (2 * stretch + entry) 0
+
+abbrev pub remembering : ℕ → List ℕ → ℕ → ℕ → List ℕ
+remembering stretch slots entry word = set slots (2 * stretch + entry) word
 
 -- whether one use more is counted of the key whose slot is given: a new key only where fewer than `most` of its mark were
 abbrev pub isAdded : ℕ → List ℕ → ℕ → ℕ → Slot → Bool
 isAdded stretch slots label most (Here s) = true
 isAdded stretch slots label most (Free s) = ltb (countAt stretch slots label) most
 isAdded stretch slots label most Full = false
+
+-- one more than the slot that the key then has, or 0
+abbrev pub addedSlot : ℕ → List ℕ → ℕ → ℕ → Slot → ℕ
+addedSlot stretch slots label most (Here s) = s + 1
+addedSlot stretch slots label most (Free s) = pick (ltb (countAt stretch slots label) most) (s + 1) 0
+addedSlot stretch slots label most Full = 0
 
 -- the table after it
 abbrev pub added : ℕ → List ℕ → ℕ → ℕ → ℕ → Slot → List ℕ

@@ -1,5 +1,5 @@
 -- What a table says of a list of keys that were used, in any order: how often each was, and how many are distinct.
-use Prim.Native.Nat.{ℕ, _-_, _*_, _^_, _<_, _≤_}
+use Prim.Native.Nat.{ℕ, _-_, _*_, _^_, _<_, _≤_, min}
 use mathlib.Core.Path.{_≡_}
 use mathlib.Core.List.{[], List}
 use mathlib.Core.Bool.{false, cond}
@@ -20,11 +20,11 @@ pub record Wide (stretch : ℕ) (slots : List ℕ) : Type 0 where
   pub low : stretch < 2 ^ 31
   pub long : 3 * stretch ≤ length slots
 
--- each slot that is not free has the number of uses of its key, and is the one that a search for its key finds; each key that was used is found;
--- and each mark's counter has the number of its distinct keys
+-- each slot that is not free has the number of uses of its key, up to the highest that half a word holds, and is the one that a search for its key
+-- finds; each key that was used is found; and each mark's counter has the number of its distinct keys
 pub record Tallies (archive : List ℕ) (stretch : ℕ) (slots : List ℕ) (us : List (List ℕ)) : Type 0 where
   pub wide : Wide stretch slots
-  pub counted : (s : ℕ) → s < stretch - 18 → isFree slots s ≡ false → usesAt stretch slots s ≡ count sameBytes (keyAt archive stretch slots s) us
+  pub counted : (s : ℕ) → s < stretch - 18 → isFree slots s ≡ false → usesAt stretch slots s ≡ min 65535 (count sameBytes (keyAt archive stretch slots s) us)
   pub used : (s : ℕ) → s < stretch - 18 → isFree slots s ≡ false → 0 < usesAt stretch slots s
   pub own : (s : ℕ) → s < stretch - 18 → isFree slots s ≡ false → findOf archive stretch slots (keyAt archive stretch slots s) ≡ Here s
   pub kept : (key : List ℕ) → 0 < count sameBytes key us → (s : ℕ) × (findOf archive stretch slots key ≡ Here s)

@@ -1,0 +1,17 @@
+pub mod Kept
+pub mod IndexCodes
+pub mod ReferenceCodes
+pub mod Given
+pub mod Others
+pub mod Remembering
+pub mod Registrations
+pub mod Records
+pub mod Walks
+pub mod Contents
+pub mod Ready
+pub mod Pass
+pub mod Spelling
+pub mod Registering
+pub mod Putting
+pub mod Settled
+pub mod Passing
