@@ -2,16 +2,17 @@
 ghost use mathlib.Core.Path.{_≡_};
 ghost use Prim.Native.Nat.{_+_, _^_, _<_, _≤_};
 ghost use mathlib.Core.Bool.{true};
-ghost use lib.ListN.{length, take, drop};
+ghost use lib.ListN.{length};
 ghost use Rattle.words.specs.Stream.{partOf};
 ghost use Rattle.format.specs.Limits.{smallFormat};
 ghost use Rattle.tables.specs.Table.{tableWords};
 ghost use Rattle.tables.specs.Models.Entries.{FormatFits};
 ghost use Rattle.contexts.specs.Context.{belongsTo};
-ghost use Rattle.records.specs.Record.{contentOf, recordAt};
+ghost use Rattle.records.specs.Record.{contentOf};
 ghost use Rattle.records.specs.Effect.{effectOf};
 ghost use Rattle.effects.specs.Models.Bounds.{EffectFits};
 ghost use Rattle.effects.specs.Follow.{changed};
+ghost use Rattle.views.specs.Models.Bounds.{StandsWhole};
 ghost use Rattle.views.specs.Models.Numbered.{argumentIn};
 ghost use Rattle.reader.specs.Models.Replies.{seenReply, askedIn};
 ghost use Rattle.reader.specs.Step.{openingNumber, stopping, plainAnswer, effectDecision, contentDecision, placeDecision, replyOf, openReply, openTables, stepReply, stepTables};
@@ -145,7 +146,7 @@ fn step_plain(f: Format, tables: &mut [u32], s: State, content: Content, next: u
 
 // A step at the record that is `source`, whole.
 fn step_record(f: Format, archive: &[u8], tables: &mut [u32], s: State, source: &[u8]) -> Reply
-    requires { ⌜ FormatFits f × (length (now archive) < 2 ^ 31) × (tableWords f ≤ length (now tables)) × (s .count ≤ 8) × (s .current ≤ 8) × (s .place ≤ length (now archive)) × (8 ≤ length (now source)) × (s .place + length (now source) ≤ length (now archive)) × (recordAt f (now archive) (s .place) ≡ record { content = contentOf f (now source) (s .place); next = s .place + length (now source) }) × (now source ≡ take (length (now source)) (drop (s .place) (now archive))) ⌝ }
+    requires { ⌜ FormatFits f × (length (now archive) < 2 ^ 31) × (tableWords f ≤ length (now tables)) × (s .count ≤ 8) × (s .current ≤ 8) × StandsWhole f (now archive) (s .place) (now source) (contentOf f (now source) (s .place)) ⌝ }
     ensures { λ r. ⌜ r ≡ replyOf (contentDecision f (now (archive .entry)) (now (tables .entry)) s (contentOf f (now (source .entry)) (s .place)) (s .place + length (now (source .entry)))) ⌝ }
     ensures { λ _. ⌜ now (tables .exit) ≡ changed (now (tables .entry)) (contentDecision f (now (archive .entry)) (now (tables .entry)) s (contentOf f (now (source .entry)) (s .place)) (s .place + length (now (source .entry))) .change) ⌝ }
 {

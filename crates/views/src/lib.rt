@@ -3,7 +3,7 @@
 ghost use mathlib.Core.Path.{_≡_};
 ghost use Prim.Native.Nat.{_+_, _-_, _^_, _<_, _≤_};
 ghost use mathlib.Core.Bool.{true};
-ghost use lib.ListN.{length, take, drop};
+ghost use lib.ListN.{length};
 ghost use Rattle.words.specs.Word.{wordAt};
 ghost use Rattle.tables.specs.Table.{tableWords};
 ghost use Rattle.tables.specs.Models.Entries.{FormatFits};
@@ -11,7 +11,7 @@ ghost use Rattle.arguments.specs.Argument.{argumentsOf};
 ghost use Rattle.records.specs.Layout.{layoutOf, reportOf};
 ghost use Rattle.records.specs.Record.{contentOf, recordAt};
 ghost use Rattle.views.specs.Shown.{isBad, shownText, shownThread, shownReferent, shownStream, shownAt};
-ghost use Rattle.views.specs.Models.Bounds.{ThreadInside, ReferentInside};
+ghost use Rattle.views.specs.Models.Bounds.{Whole, ThreadInside, ReferentInside};
 ghost use Rattle.views.specs.Models.Seen.{searchedOf, seenFound, seenOf};
 ghost use Rattle.views.specs.Models.Numbered.{argumentIn};
 use arguments::Argued;
@@ -278,7 +278,7 @@ pub fn see_report(
     rate: u64,
     source: &[u8],
 ) -> Seen
-    requires { ⌜ FormatFits f × (length (now archive) < 2 ^ 62) × (tableWords f ≤ length (now tables)) × (context ≤ 8) × (place ≤ length (now archive)) × (8 ≤ length (now source)) × (place + length (now source) < 2 ^ 62) × (recordAt f (now archive) place ≡ record { content = reportOf f (now source) place; next = place + length (now source) }) × (now source ≡ take (length (now source)) (drop place (now archive))) ⌝ }
+    requires { ⌜ FormatFits f × (length (now archive) < 2 ^ 62) × (tableWords f ≤ length (now tables)) × (context ≤ 8) × (place ≤ length (now archive)) × (8 ≤ length (now source)) × (place + length (now source) < 2 ^ 62) × Whole f (now archive) place (now source) (reportOf f (now source) place) ⌝ }
     ensures { λ r. ⌜ r ≡ seenOf f (now (archive .entry)) (now (tables .entry)) context place provider rate (reportOf f (now (source .entry)) place) (place + length (now (source .entry))) ⌝ }
 {
     let order = f.order;

@@ -44,7 +44,8 @@ step-record-requires c κs =
     let e = simp part-from at (sym (extent-of .ensures) ∙ extent2 .given .1) in
     let h = source-here (given′ .f) (given′ .archive .now) (given′ .s .place) (extent2 .given .0 .0) e in
     let b = belongs-facts (given′ .s) (length (given′ .archive .now)) (pre .3) in
-    simp (part-from, h .long) (pre .0, pre .1, pre .2, b .few, omega (arith, b .few, b .known), b .inside, h .some, omega (arith, h .inside, b .inside), h .is, refl)
+    simp (part-from, h .long)
+    (pre .0, pre .1, pre .2, b .few, omega (arith, b .few, b .known), (b .inside, h .some, omega (arith, h .inside, b .inside), (h .is, refl)))
 
 returns-2 : tie.Need-returns-2
 unfolding placeDecision stopping changed

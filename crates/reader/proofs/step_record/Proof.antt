@@ -22,7 +22,10 @@ see-report-requires c κs =
     let given = c .before .before .before .before .before .before .before .before .args in
     let pre = c .before .before .before .before .before .before .before .before .pre in
     let k : layoutOf (wordAt (given .f .order) (given .source .now) 0) .read ≡ true = rw (← word .ensures, ← c .before .before .before .layout-of .ensures) (c .before .before .if1 .taken) in
-    (pre .0, omega (arith, pre .1), pre .2, pre .4, pre .5, pre .6, omega (arith, pre .1, pre .7), rw (report-content (given .f) (given .source .now) (given .s .place) k) at (pre .8), pre .9)
+    let stands = pre .5 in
+    let whole = stands .3 in
+    let read = report-content (given .f) (given .source .now) (given .s .place) k in
+    (pre .0, omega (arith, pre .1), pre .2, pre .4, stands .0, stands .1, omega (arith, pre .1, stands .2), (rw read at (whole .0), whole .1))
 
 returns : tie.Need-returns
 unfolding changed
@@ -33,7 +36,7 @@ returns c =
     let given = c .before .before .before .before .before .before .before .before .before .before .args in
     let pre = c .before .before .before .before .before .before .before .before .before .before .pre in
     let k : layoutOf (wordAt (given .f .order) (given .source .now) 0) .read ≡ true = rw (← word .ensures, ← layout-of .ensures) (if1 .taken) in
-    let r = read-replies (given .f) (given .archive .now) (given .tables .now) (given .s) (given .source .now) (given .s .place + length (given .source .now)) (pre .6) k in
+    let r = read-replies (given .f) (given .archive .now) (given .tables .now) (given .s) (given .source .now) (given .s .place + length (given .source .now)) (pre .5 .1) k in
     rw (r .0, r .1, ← c .before .before .provider-of .ensures, ← c .before .see-report .ensures) (c .show-seen .ensures, refl)
 
 step-plain-requires : tie.Need-step-plain-requires
@@ -43,9 +46,9 @@ step-plain-requires c κs =
       pre .0,
       pre .3,
       pre .4,
-      omega (arith, pre .1, pre .5),
+      omega (arith, pre .1, pre .5 .0),
       rw (c .content-of .ensures) (index-stands (given .f) (given .archive .now)
-          (given .s .place) _ (given .s .place + length (given .source .now)) (pre .5) (pre .8)),
+          (given .s .place) _ (given .s .place + length (given .source .now)) (pre .5 .0) (pre .5 .3 .0)),
     )
 
 returns-2 : tie.Need-returns-2
@@ -58,7 +61,7 @@ returns-2 c =
     let k : layoutOf (wordAt (given .f .order) (given .source .now) 0) .read ≡ false = rw (← word .ensures, ← layout-of .ensures) (if1 .left) in
     rw (
       plain-decides (given .f) (given .archive .now) (given .tables .now) (given .s) (given .source .now) (given .s .place + length
-          (given .source .now)) (pre .6) k,
+          (given .source .now)) (pre .5 .1) k,
       ← c .before .before .before .content-of .ensures,
     ) (c .before .before .step-plain .ensures)
 

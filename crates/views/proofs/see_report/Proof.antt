@@ -119,7 +119,7 @@ see-referents-requires c κs =
     (searched2 .given .0 .1 .0) (simp part-from at (sym (search-arguments .ensures) ∙ searched2 .given .1)) in
     let is = report-is (a .f) (a .source .now) (a .place) l (sym (layout-of′ .ensures ∙ ap layoutOf (word .ensures))) (sym (take-fields .ensures)
     ∙ r .1) (e .0) (sym (last-word .ensures) ∙ c .before .before .more2 .given .1) in
-    (p .0, p .1, p .2, p .3, p .4, ap (λ (r : Record). r .content) (p .7) ∙ (is ∙ ap Content.Report (sym (c .report-read .ensures))))
+    (p .0, p .1, p .2, p .3, p .4, ap (λ (r : Record). r .content) (p .7 .0) ∙ (is ∙ ap Content.Report (sym (c .report-read .ensures))))
 
 returns : tie.Need-returns
 unfolding reportOf effectOf
@@ -184,7 +184,7 @@ returns-4 c =
     (searched2 .given .0 .1 .0) (simp part-from at (sym (search-arguments .ensures) ∙ searched2 .given .1)) in
     let is = report-is (a .f) (a .source .now) (a .place) l (sym (layout-of′ .ensures ∙ ap layoutOf (word .ensures))) (sym (take-fields .ensures)
     ∙ r .1) (e .0) (sym (last-word .ensures) ∙ c .before .before .before .more2 .given .1) in
-    let same = source-behind (a .archive .now) (a .source .now) (a .place) from (omega (arith, s .starts)) (p .8) in
+    let same = source-behind (a .archive .now) (a .source .now) (a .place) from (omega (arith, s .starts)) (p .7 .1) in
     rw (is, ← same, ← (e .1), ← c .before .report-read .ensures) (c .see-referents .ensures)
 
 pub see-report-spec : {M : Type 1} → statement M
