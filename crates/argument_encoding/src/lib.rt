@@ -39,7 +39,7 @@ fn put_argument_start(
 }
 
 // An argument whose value stands in its header.
-pub fn put_short_argument(
+fn put_short_argument(
     f: Format,
     out: &mut [u8],
     place: usize,
@@ -57,7 +57,7 @@ pub fn put_short_argument(
 }
 
 // An argument whose value is a word behind its name.
-pub fn put_word_argument(
+fn put_word_argument(
     f: Format,
     out: &mut [u8],
     place: usize,

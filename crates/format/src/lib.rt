@@ -151,7 +151,7 @@ pub fn take_text(f: Format, reference: u64, place: usize, source: &[u8], start: 
 }
 
 // A thread reference with its inline process and thread words.
-pub fn take_thread(reference: u64, place: usize, source: &[u8], start: usize) -> Taken
+fn take_thread(reference: u64, place: usize, source: &[u8], start: usize) -> Taken
     requires { ⌜ (reference < 2 ^ 8) × (place < 2 ^ 63) × (start + length (now source) < 2 ^ 63) ⌝ }
     ensures { λ r. ⌜ r ≡ takeThread reference place (now (source .entry)) start ⌝ }
 {
