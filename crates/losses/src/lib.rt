@@ -1,20 +1,28 @@
 // Whether repacking loses something of a record: bits and words that no item has. Each function asks that what was read stands inside the record.
+// A record that is known to lose nothing is read in fewer steps.
 ghost use mathlib.Core.Path.{_≡_};
 ghost use Prim.Native.Nat.{_+_, _-_, _*_, _^_, _<_, _≤_};
-ghost use lib.ListN.{length};
+ghost use mathlib.Core.Bool.{true};
+ghost use lib.ListN.{length, take, drop};
 ghost use Rattle.arguments.specs.Argument.{scalarWords};
 ghost use Rattle.arguments.specs.Loss.{valueBytes, reservedBits, valuePaddingZero, argumentKeeps, argumentsKeep};
 ghost use Rattle.arguments.specs.Models.Bounds.{ValueInside, Fits};
 ghost use Rattle.words.specs.Stream.{streamWords};
+ghost use Rattle.records.specs.Layout.{reportOf};
+ghost use Rattle.records.specs.Record.{contentOf, recordAt};
 ghost use Rattle.records.specs.Loss.{wordsKeep, streamKeeps, reportKeeps, recordKeeps};
 ghost use Rattle.records.specs.Models.Bounds.{ReportInside, ContentInside};
 use arguments::Argued;
 use arguments::Argument;
 use arguments::Scalar;
 use arguments::Value;
+use format::Extent;
 use format::Format;
 use format::Reference;
 use records::Content;
+use records::Fields;
+use records::Last;
+use records::Record;
 use records::Report;
 
 // The words that a value takes behind its argument's name.
@@ -235,5 +243,77 @@ pub fn record_keeps(f: Format, source: &[u8], place: usize, content: Content) ->
             record_type: _,
             size: _,
         } => false,
+    }
+}
+
+// A record that refers to texts and threads and loses nothing. Its arguments are not walked: they end where its last words start.
+fn kept_report_of(f: Format, source: &[u8], place: usize) -> Content
+    requires { ⌜ (8 ≤ length (now source)) × (place + length (now source) < 2 ^ 62) × (recordKeeps f (now source) place (reportOf f (now source) place) ≡ true) ⌝ }
+    ensures { λ r. ⌜ r ≡ reportOf f (now (source .entry)) place ⌝ }
+{
+    let order = f.order;
+    let layout = records::layout_of(words::word(order, source, 0));
+    let fields = records::take_fields(f, layout, source, place);
+    match fields {
+        Fields::Refused(number) => Content::Refused(number),
+        Fields::Fields {
+            first,
+            second,
+            third,
+            stream,
+            next,
+        } => {
+            let behind = layout.behind;
+            let at = place + source.len() - 8 * behind;
+            let more = records::last_word(f, source, place, at, behind);
+            match more {
+                Last::Refused(number) => Content::Refused(number),
+                Last::Word(last) => {
+                    Content::Report(records::report_read(
+                        f,
+                        layout,
+                        source,
+                        first,
+                        second,
+                        third,
+                        stream,
+                        next,
+                        last,
+                    ))
+                }
+            }
+        }
+    }
+}
+
+// What stands in the record that is `source`, whole, where it loses nothing.
+fn kept_content_of(f: Format, source: &[u8], place: usize) -> Content
+    requires { ⌜ (8 ≤ length (now source)) × (place + length (now source) < 2 ^ 62) × (recordKeeps f (now source) place (contentOf f (now source) place) ≡ true) ⌝ }
+    ensures { λ r. ⌜ r ≡ contentOf f (now (source .entry)) place ⌝ }
+{
+    let order = f.order;
+    let layout = records::layout_of(words::word(order, source, 0));
+    if layout.read {
+        return kept_report_of(f, source, place);
+    }
+    records::content_of(f, source, place)
+}
+
+// The record at a place of the archive, where it loses nothing.
+pub fn kept_record_at(f: Format, archive: &[u8], place: usize) -> Record
+    requires { ⌜ (length (now archive) < 2 ^ 62) × (place ≤ length (now archive)) × (recordKeeps f (take (recordAt f (now archive) place .next - place) (drop place (now archive))) place (recordAt f (now archive) place .content) ≡ true) ⌝ }
+    ensures { λ r. ⌜ r ≡ recordAt f (now (archive .entry)) place ⌝ }
+{
+    let rest = &archive[place..];
+    let extent = format::extent_of(f, rest);
+    match extent {
+        Extent::Refused(number) => Record {
+            content: Content::Refused(number),
+            next: place,
+        },
+        Extent::Bytes(size) => Record {
+            content: kept_content_of(f, &rest[..size], place),
+            next: place + size,
+        },
     }
 }

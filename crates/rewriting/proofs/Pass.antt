@@ -3,7 +3,7 @@
 use Prim.Native.Nat.{ℕ, suc, _+_, _-_, _*_, _/_, _≤_, _<_}
 use mathlib.Core.Path.{_≡_, refl, sym, ap, subst, _∙_}
 use mathlib.Core.List.{List, [], _∷_, _++_, append-assoc, append-nil}
-use mathlib.Core.Bool.{Bool}
+use mathlib.Core.Bool.{Bool, true}
 use mathlib.Core.Option.{Option, none, some}
 use native.Mathlib.Numerals.{add-one}
 use native.Mathlib.Omega.{arith}
@@ -34,8 +34,9 @@ use Rattle.tables.specs.Table.{tableWords}
 use Rattle.reader.specs.Step.{openingNumber}
 use Rattle.reader.proofs.Runs.{Sound, fresh-sound}
 use Rattle.rule.specs.Rule.{usesAll, Entry, indexIn, entriesAfter, registrations, chosenIn, rule, recordsFrom}
-use Rattle.rule.specs.Refusal.{Run, ended, passed, keepsAt, runFrom, runOf, stopRefusal, refusalOf, itemsOf, Accepted}
+use Rattle.rule.specs.Refusal.{Run, ended, passed, keepsAt, runFrom, runOf, refusal, stopRefusal, lossRefusal, refusalOf, itemsOf, Accepted}
 use Rattle.rule.proofs.Length.{none-registered}
+use Rattle.rule.proofs.Accepted.{loss-turn}
 use Rattle.rule.proofs.Limits.{after-both}
 use Rattle.rule.proofs.ReadBack.{AllFit}
 use Rattle.rule.proofs.WholeRuns.{not-refused-passes}
@@ -100,6 +101,7 @@ pub record Writing (f : Format) (archive : List ℕ) (s : State) (tables slots�
   pub last-is : lastFrom f archive (suc steps) s tables ≡ lastOf f archive
   pub last-tables : tablesFrom f archive (suc steps) s tables ≡ tablesOf f archive
   pub stop : stopRefusal (runFrom f archive (suc steps) s tables) ≡ none
+  pub loss : lossRefusal (runFrom f archive (suc steps) s tables) ≡ none
   pub plain : UsesPlain (usesAll (itemsOf (runOf f archive)))
   pub entries : List Entry
   pub entries-are : registeredOf f archive
@@ -171,6 +173,7 @@ writing-renewed {f} {archive} {s} {tables} {slots₀} {slots} {sofar} w c fits =
       last-is = w .last-is;
       last-tables = w .last-tables;
       stop = w .stop;
+      loss = w .loss;
       plain = w .plain;
       entries = w .entries;
       entries-are = w .entries-are;
@@ -265,6 +268,13 @@ module _ (f : Format) (archive : List ℕ) (s : State) (tables slots₀ slots so
       run-turn f archive tables s (w .sound) (w .opens) more (w .steps)
       ∙ rw (eq-eqb (afterRecord s content next .number) 0 goes, item-followed f archive tables s content next)
 
+  -- the record and what is behind it lose nothing
+  loses-none : (keepsAt f archive (s .place) ≡ true) × (lossRefusal rest ≡ none)
+  loses-none = loss-turn (keepsAt f archive (s .place)) (lossRefusal rest) (refusal 10 (s .place)) (rw passes at (w .loss))
+
+  pub writing-keeps : keepsAt f archive (s .place) ≡ true
+  writing-keeps = loses-none .0
+
   -- and its items are the record's and those behind it
   shown : itemsOf (runFrom f archive (suc (w .steps)) s tables) ≡ itemList item ++ itemsOf rest
   shown = ap itemsOf passes ∙ items-behind (s .place) (keepsAt f archive (s .place)) item rest
@@ -339,6 +349,7 @@ module _ (f : Format) (archive : List ℕ) (s : State) (tables slots₀ slots so
       last-is = rw again last-follows;
       last-tables = rw again tables-follow;
       stop = rw again (rw passes at (w .stop));
+      loss = rw again (loses-none .1);
       plain = w .plain;
       entries = entries′;
       entries-are = rw again entries-follow;
@@ -396,6 +407,7 @@ writing-start f archive tables slots is bytes opens passes long zeros chosen =
       last-is = whole-last f archive tables zeroed;
       last-tables = tables-open f archive tables zeroed;
       stop = rw run (not-refused-passes f (runOf f archive) passes .stop);
+      loss = rw run (not-refused-passes f (runOf f archive) passes .loss);
       plain = items-plain f (chosenIn (usesAll items)) [] items fit;
       entries = [];
       entries-are = rw run;

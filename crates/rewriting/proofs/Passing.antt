@@ -2,6 +2,7 @@
 use Prim.Native.Nat.{ℕ, _+_, _-_, _*_, _^_, _<_, _≤_}
 use mathlib.Core.Path.{_≡_, refl, sym, ap, subst, _∙_}
 use mathlib.Core.List.{List, [], _++_}
+use mathlib.Core.Bool.{true}
 use native.Mathlib.Omega.{arith}
 use lib.ListN.{length, take, drop, getD, length-append, length-drop}
 use lib.Seq.{length-take-le, take-at, drop-at, drop-drop, getD-take, getD-drop}
@@ -28,7 +29,7 @@ use Rattle.tables.specs.Table.{tableWords}
 use Rattle.tables.proofs.Tables.{small-fits}
 use Rattle.reader.proofs.Steps.{admitted}
 use Rattle.rule.specs.Rule.{rule}
-use Rattle.rule.specs.Refusal.{runOf, itemsOf}
+use Rattle.rule.specs.Refusal.{keepsAt, runOf, itemsOf}
 use Rattle.passes.proofs.Turns.{turn-tables, turn-place, record-index}
 use Rattle.passes.proofs.Rooms.{slots-back}
 use Rattle.passes.proofs.Memory.{remembers-none, remembers-turn, record-renews}
@@ -40,7 +41,7 @@ use Rattle.rewriting.specs.Models.Fits.{RoomFits, RemembersFor, ContentF
 use Rattle.rewriting.specs.Models.Indexed.{SlotsIndexed}
 use Rattle.rewriting.proofs.Remembering.{content-unmoved, unmoved-remembers, renewed-long, renewed-wide, renewed-settled, report-renews}
 use Rattle.passes.proofs.Places.{opening-magic}
-use Rattle.rewriting.proofs.Pass.{Writing, Turned, writing-start, writing-renewed, writing-turn, writing-end, writing-tables, writing-indexed}
+use Rattle.rewriting.proofs.Pass.{Writing, Turned, writing-start, writing-renewed, writing-keeps, writing-turn, writing-end, writing-tables, writing-indexed}
 
 -- ---- what is asked
 
@@ -139,6 +140,12 @@ pub record Turn (f : Format) (archive room₀ out₀ first out : List ℕ) (s : 
       → last ≡ overwritten out at (contentIn f archive first s c next)
       → end ≡ at + length (contentIn f archive first s c next)
       → Passing f archive room₀ out₀ after last (afterRecord s c next .state) end
+
+-- the record of a turn loses nothing
+pub passing-keeps : {f : Format} {archive room₀ out₀ room out : List ℕ} {s : State} {at : ℕ} → Passing f archive room₀ out₀ room out s at
+    → s .place < length archive → keepsAt f archive (s .place) ≡ true
+passing-keeps {f} {archive} {room₀} {out₀} {room} {out} {s} p more =
+    writing-keeps f archive s (take (tableWords f) room) (drop (tableWords f) room₀) (drop (tableWords f) room) (p .sofar) (p .writing) more
 
 module _ {f : Format} {archive room₀ out₀ room out : List ℕ} {s : State} {at : ℕ} (asks : Asks f archive room₀ out₀)
     (p : Passing f archive room₀ out₀ room out s at) (more : s .place < length archive) {r : Record} (is : r ≡ recordAt f archive (s .place)) where

@@ -68,7 +68,8 @@ all-fit chosen entries (i ∷ items) plain limited low =
 
 -- ---- a run that loses nothing
 
-loss-turn : (keeps : Bool) (rest : Option Refusal) (r : Refusal) → pick keeps rest (some r) ≡ none → (keeps ≡ true) × (rest ≡ none)
+-- where a run loses nothing, its first record does not, and what is behind it does not
+pub loss-turn : (keeps : Bool) (rest : Option Refusal) (r : Refusal) → pick keeps rest (some r) ≡ none → (keeps ≡ true) × (rest ≡ none)
 loss-turn true rest r e = (refl, e)
 loss-turn false rest r e = let z : _≡_ {A = ℕ} 0 1 = cc in absurd (omega arith)
 

@@ -1,5 +1,5 @@
 // The second pass of a repack: it writes each item's record again, and before it the registrations that are new. Assumes what `Asks` says of
-// archive, room and output.
+// archive, room and output. The first pass took the archive, so that no record of it loses anything.
 ghost use mathlib.Core.Path.{_≡_};
 ghost use Prim.Native.Nat.{_*_, _<_};
 ghost use lib.ListN.{length, drop};
@@ -28,7 +28,7 @@ pub fn write_all(f: Format, archive: &[u8], room: &mut [u32], out: &mut [u8])
     let mut at = 0;
     let mut waiting = indexing::waiting_slot(&room[stretch..], stretch, 0);
     while s.place < archive.len() {
-        let record = records::record_at(f, archive, s.place);
+        let record = losses::kept_record_at(f, archive, s.place);
         let content = record.content;
         let next = record.next;
         let followed = passes::follow(f, &mut room[..stretch], s, content, next);

@@ -11,12 +11,12 @@ use lib.ListN.{length, take, drop}
 use lib.Seq.{length-take-le}
 use Rattle.indexing.specs.Models.Indexes.{Settled, Waiting}
 use Rattle.tables.specs.Table.{tableWords}
-use Rattle.rewriting.proofs.Passing.{asked-limits, Passing, passing-start, output-long, passing-end, Turn, can-follow, followed-long, can-renew, room-renewed, settled-renewed, passing-goes, passing-turn}
+use Rattle.rewriting.proofs.Passing.{asked-limits, Passing, passing-keeps, passing-start, output-long, passing-end, Turn, can-follow, followed-long, can-renew, room-renewed, settled-renewed, passing-goes, passing-turn}
 use Rattle.rewriting.proofs.Settled.{settled-behind, can-wait, waiting-in}
 use Rattle.contexts.proofs.opening_state.Reads as opening-state-reads
 use Rattle.passes.proofs.follow.Reads as follow-reads
 use Rattle.passes.proofs.renew.Reads as renew-reads
-use Rattle.records.proofs.record_at.Reads as record-at-reads
+use Rattle.losses.proofs.kept_record_at.Reads as kept-record-at-reads
 use Rattle.tables.proofs.table_words.Reads as table-words-reads
 use Rattle.indexing.proofs.waiting_slot.Reads as waiting-slot-reads
 use Rattle.rewriting.proofs.put_record.Reads as put-record-reads
@@ -69,12 +69,17 @@ loop-holds c =
       waiting-in (a .f) (words .result) (a .room .now) (c .waiting-slot .result) (words .ensures) (c .waiting-slot .ensures),
     )
 
-record-at-requires : tie.Need-record-at-requires Inv-loop μ-loop
-record-at-requires c κs =
+kept-record-at-requires : tie.Need-kept-record-at-requires Inv-loop μ-loop
+kept-record-at-requires c κs =
     let deep = c .before .before .before .before .before .before .before .before .before .before in
     let p = deep .before .pre in
     let a = deep .before .args in
-    omega (arith, asked-limits (a .f) (a .archive .now) (a .room .now) (a .out .now) (p .0) .1)
+    let h = c .before .before .loop in
+    let more = c .if1 .taken in (
+      omega (arith, asked-limits (a .f) (a .archive .now) (a .room .now) (a .out .now) (p .0) .1),
+      omega (arith, more),
+      passing-keeps (h .inv .0) more,
+    )
 
 slice-relend-prefix-follow : tie.Need-slice-relend-prefix-follow Inv-loop μ-loop
 slice-relend-prefix-follow c =
@@ -98,7 +103,7 @@ follow-requires c κs =
     let p = deep .before .before .before .pre in
     let h = c .before .before .before .before .loop in
     let if1′ = c .before .before .if1 in
-    let record-at′ = c .before .record-at in
+    let record-at′ = c .before .kept-record-at in
     can-follow (p .0) (h .inv .0) (if1′ .taken) (record-at′ .ensures)
 
 same-length : tie.Need-same-length Inv-loop μ-loop
@@ -107,7 +112,7 @@ same-length c =
     let p = deep .before .before .before .before .before .before .before .before .pre in
     let h = c .before .before .before .before .before .before .before .before .before .loop in
     let if1′ = c .before .before .before .before .before .before .before .if1 in
-    let record-at′ = c .before .before .before .before .before .before .record-at in
+    let record-at′ = c .before .before .before .before .before .before .kept-record-at in
     let words = deep .before .before .before .before .table-words in
     let follow′ = c .before .before .before .before .follow in
     followed-long (p .0) (h .inv .0) (if1′ .taken) (record-at′ .ensures) (words .ensures) (follow′ .ensures .1)
@@ -126,7 +131,7 @@ returns c =
     let p = deep .before .before .before .before .before .before .before .before .pre in
     let h = c .before .before .before .before .before .before .before .before .before .loop in
     let if1′ = c .before .before .before .before .before .before .before .if1 in
-    let record-at′ = c .before .before .before .before .before .before .record-at in
+    let record-at′ = c .before .before .before .before .before .before .kept-record-at in
     absurd (c .if2 .taken (ap (λ r. r .number) (follow′ .ensures .0) ∙ passing-goes (p .0) (h .inv .0) (if1′ .taken) (record-at′ .ensures)))
 
 mul-renew : tie.Need-mul-renew Inv-loop μ-loop
@@ -143,7 +148,7 @@ sub-renew c =
     let p = deep .before .before .before .before .before .before .before .before .pre in
     let h = c .before .before .before .before .before .before .before .before .before .loop in
     let if1′ = c .before .before .before .before .before .before .before .if1 in
-    let record-at′ = c .before .before .before .before .before .before .record-at in
+    let record-at′ = c .before .before .before .before .before .before .kept-record-at in
     let words = deep .before .before .before .before .table-words in
     let follow′ = c .before .before .before .before .follow in
     let long = followed-long (p .0) (h .inv .0) (if1′ .taken) (record-at′ .ensures) (words .ensures) (follow′ .ensures .1) in
@@ -155,7 +160,7 @@ part-renew-start c =
     let p = deep .before .before .before .before .before .before .before .before .pre in
     let h = c .before .before .before .before .before .before .before .before .before .loop in
     let if1′ = c .before .before .before .before .before .before .before .if1 in
-    let record-at′ = c .before .before .before .before .before .before .record-at in
+    let record-at′ = c .before .before .before .before .before .before .kept-record-at in
     let words = deep .before .before .before .before .table-words in
     let follow′ = c .before .before .before .before .follow in
     let long = followed-long (p .0) (h .inv .0) (if1′ .taken) (record-at′ .ensures) (words .ensures) (follow′ .ensures .1) in
@@ -167,7 +172,7 @@ part-renew-end c =
     let p = deep .before .before .before .before .before .before .before .before .pre in
     let h = c .before .before .before .before .before .before .before .before .before .loop in
     let if1′ = c .before .before .before .before .before .before .before .if1 in
-    let record-at′ = c .before .before .before .before .before .before .record-at in
+    let record-at′ = c .before .before .before .before .before .before .kept-record-at in
     let words = deep .before .before .before .before .table-words in
     let follow′ = c .before .before .before .before .follow in
     let long = followed-long (p .0) (h .inv .0) (if1′ .taken) (record-at′ .ensures) (words .ensures) (follow′ .ensures .1) in
@@ -179,7 +184,7 @@ renew-requires c κs =
     let p = deep .before .before .before .before .before .before .before .before .before .pre in
     let h = deep .loop in
     let if1′ = c .before .before .before .before .before .before .before .before .if1 in
-    let record-at′ = c .before .before .before .before .before .before .before .record-at in
+    let record-at′ = c .before .before .before .before .before .before .before .kept-record-at in
     let words = deep .before .before .before .before .before .table-words in
     let follow′ = c .before .before .before .before .before .follow in
     can-renew (p .0) (h .inv .0) (if1′ .taken) (record-at′ .ensures) (words .ensures) (follow′ .ensures .1)
@@ -192,8 +197,8 @@ turn : (c : lts.After-renew (
   opening-state-reads.Learnt,
   waiting-slot-reads.Asked,
   waiting-slot-reads.Learnt,
-  record-at-reads.Asked,
-  record-at-reads.Learnt,
+  kept-record-at-reads.Asked,
+  kept-record-at-reads.Learnt,
   follow-reads.Asked,
   follow-reads.Learnt,
   renew-reads.Asked,
@@ -206,7 +211,7 @@ turn : (c : lts.After-renew (
     let a = deep .before .before .before .before .before .before .before .before .before .before .args in
     let h = deep .before .loop in
     let words = deep .before .before .before .before .before .before .table-words in
-    let read = c .before .before .before .before .before .before .before .before .record-at in
+    let read = c .before .before .before .before .before .before .before .before .kept-record-at in
     let followed = c .before .before .before .before .before .before .follow .last .1 .0 ++ drop (words .result) (h .room) in
     let first =
     take (words .result) followed ++ (c .renew .last .1 .1 .0 ++ drop (length followed - words .result) (drop (words .result) followed)) in
@@ -215,7 +220,7 @@ turn : (c : lts.After-renew (
 turn c =
     let deep = c .before .before .before .before .before .before .before .before .before .before in
     let if1′ = c .before .before .before .before .before .before .before .before .before .if1 in
-    let record-at′ = c .before .before .before .before .before .before .before .before .record-at in
+    let record-at′ = c .before .before .before .before .before .before .before .before .kept-record-at in
     let follow′ = c .before .before .before .before .before .before .follow in
     let h = deep .before .loop in
     let words = deep .before .before .before .before .before .before .table-words in
@@ -283,7 +288,7 @@ waiting-slot-requires-2 : tie.Need-waiting-slot-requires-2 Inv-loop μ-loop
 waiting-slot-requires-2 c κs =
     let deep = c .before .before .before .before .before .before .before .before .before .before in
     let deeper = deep .before .before .before .before .before .before .before .before .before .before in
-    let record-at′ = deep .before .before .before .before .before .before .before .before .before .record-at in
+    let record-at′ = deep .before .before .before .before .before .before .before .before .before .kept-record-at in
     let p = deeper .before .before .before .before .before .before .before .before .before .before .before .pre in
     let put = c .before .before .before .before .before .before .put-record in
     let before = deep .before in
@@ -338,7 +343,7 @@ returns-2 c =
 pub write-all-spec : {M : Type 1} → statement M
 write-all-spec =
     tie.close (tie.spec Inv-loop μ-loop table-words-requires (λ c κs. search needs) (λ c. search needs) (λ c. search needs) part-waiting-slot-start
-    part-waiting-slot-end waiting-slot-requires loop-holds record-at-requires slice-relend-prefix-follow slice-aggregate-follow
+    part-waiting-slot-end waiting-slot-requires loop-holds kept-record-at-requires slice-relend-prefix-follow slice-aggregate-follow
     follow-requires same-length same-length-2 returns mul-renew sub-renew part-renew-start part-renew-end renew-requires put-record-requires
     mul-waiting-slot-2 sub-waiting-slot-2 part-waiting-slot-start-2 part-waiting-slot-end-2 waiting-slot-requires-2 loop-less loop-again
     (λ c. search needs) same-length-4 returns-2)
