@@ -158,7 +158,7 @@ ValueFits at end (ValueRefused number) = Unit {0}
 ValueFits at end (ValueRead v) = (at + valueBytes v ≤ end) × ValueInside at end v
 
 -- the scalars that take a word, and those that take none
-word-scalar-words : (type word : ℕ) → scalarWords (wordScalar type word) ≡ 1
+pub word-scalar-words : (type word : ℕ) → scalarWords (wordScalar type word) ≡ 1
 unfolding wordScalar
 word-scalar-words type word =
     on-pick (λ s. scalarWords s ≡ 1) (eqb type 3) _ _ (λ e. refl)
@@ -166,7 +166,7 @@ word-scalar-words type word =
     (λ e. on-pick (λ s. scalarWords s ≡ 1) (eqb type 5) _ _ (λ e. refl)
     (λ e. on-pick (λ s. scalarWords s ≡ 1) (eqb type 7) _ _ (λ e. refl) (λ e. refl))))
 
-header-scalar-words : (header : ℕ) → scalarWords (headerScalar header) ≡ 0
+pub header-scalar-words : (header : ℕ) → scalarWords (headerScalar header) ≡ 0
 unfolding headerScalar
 header-scalar-words header =
     on-pick (λ s. scalarWords s ≡ 0) (eqb (argumentType header) 0) _ _ (λ e. refl)

@@ -93,7 +93,7 @@ fn header_scalar(header: u64) -> Scalar
 }
 
 // Whether an argument of this type has its value in a word.
-fn holds_word(variant: u64) -> bool
+pub fn holds_word(variant: u64) -> bool
     ensures { λ r. ⌜ r ≡ holdsWord variant ⌝ }
 {
     if variant < 3 {

@@ -28,7 +28,6 @@ use Rattle.arguments.specs.Argument.{scalarWords, argumentOf, onArgued, argumen
 use Rattle.arguments.proofs.Arguments.{argument-read}
 use Rattle.records.specs.declared.Lookup.{Lookup}
 use Rattle.records.specs.declared.Report.{Report}
-use Rattle.records.specs.declared.Content.{Content}
 use Rattle.records.specs.declared.Content.the-variants.{Report as ReportRead}
 use Rattle.records.specs.Record.{recordAt}
 use Rattle.records.specs.Lookups.{textLookup, argumentLookups, reportLookups}
@@ -79,10 +78,6 @@ lent-twice n room first second h =
       drop-at (take n room) first n l,
       slots-back n (take n room ++ first) second ∙ ap (λ (x : List ℕ). x ++ second) tables,
     )
-
--- the part of an archive between two places ends at the second
-pub part-ends : (archive : List ℕ) (from to : ℕ) → from ≤ to → to ≤ length archive → from + length (take (to - from) (drop from archive)) ≡ to
-part-ends archive from to l h = rw (length-take-le (to - from) (drop from archive) (omega (arith, length-drop from archive))) (omega arith)
 
 -- ---- references that are counted
 
@@ -257,15 +252,6 @@ module _ (f : Format) (archive start : List ℕ) (context until : ℕ) (all : Li
       }
 
 -- ---- records
-
--- a record that was read shows places of its own alone
-pub record-inside : (f : Format) (archive : List ℕ) (place : ℕ) (content : Content) (next : ℕ) → place ≤ next → next ≤ length archive
-    → recordAt f archive place ≡ record { content = content; next = next }
-    → ContentInside place (place + length (take (next - place) (drop place archive))) content
-record-inside f archive place content next l h k =
-    let e = part-ends archive place next l h in
-    let i = record-whole f archive place .inside in
-    rw e (rw k at i)
 
 -- the stream of a record that was read stands in the archive
 pub stream-inside : (f : Format) (archive : List ℕ) (place : ℕ) (r : Report) (next : ℕ)

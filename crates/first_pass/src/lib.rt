@@ -2,7 +2,6 @@
 // The room is four stretches of words: the reading tables, and the three of the tally.
 ghost use mathlib.Core.Path.{_≡_};
 ghost use mathlib.Core.List.{[], _∷_, _++_};
-ghost use mathlib.Core.Bool.{_&&_};
 ghost use Prim.Native.Nat.{ℕ, _+_, _*_, _<_, _≤_};
 ghost use lib.ListN.{length, take, drop, getD};
 ghost use Rattle.passes.specs.Models.Last.{tablesOf};
@@ -14,7 +13,7 @@ ghost use Rattle.records.specs.Lookups.{argumentLookups};
 ghost use Rattle.tables.specs.Table.{tableWords, resolved};
 ghost use Rattle.reader.specs.Step.{openingNumber};
 ghost use Rattle.first_pass.specs.Models.Count.{tablesIn, slotsIn, CanCount, Recalls, CanStand, RecordIs, countGood, countSlots, wordsIn, wordsRead, unresolvedIn, lookupGood, lookupSlots, lookupsGood};
-ghost use Rattle.first_pass.specs.Models.Count.{lookupsSlots, anyUnresolved, reportGood, reportSlots, reportUnresolved, reportWords, reportChecked, plainWords, recordChecked, checkedSlots};
+ghost use Rattle.first_pass.specs.Models.Count.{lookupsSlots, anyUnresolved, reportGood, reportSlots, reportUnresolved, reportWords, reportChecked, plainWords, keepsTo, recordChecked, checkedSlots};
 ghost use Rattle.first_pass.specs.Models.Found.{lowestOf, concluded, CountIs};
 ghost use Rattle.first_pass.specs.Models.Left.{SlotsLeft};
 use arguments::Argued;
@@ -44,15 +43,6 @@ pub struct Finding {
 pub enum Count {
     Refused { number: u8, place: usize },
     Words(usize),
-}
-
-fn both(a: bool, b: bool) -> bool
-    ensures { λ r. ⌜ r ≡ (a && b) ⌝ }
-{
-    if a {
-        return b;
-    }
-    false
 }
 
 // The words of a value behind its argument's name, without a text.
@@ -195,7 +185,7 @@ fn count_argument(
     let text = passes::value_text(value);
     let named = count_text(f, archive, room, context, name, until);
     let valued = count_text(f, archive, room, context, text, until);
-    both(named, valued)
+    words::both(named, valued)
 }
 
 // What counting adds: whether all uses were counted, and the words without them.
@@ -233,7 +223,7 @@ fn count_arguments(
             }
             Argued::Argument { argument, size } => {
                 let value = argument.value;
-                good = both(
+                good = words::both(
                     good,
                     count_argument(f, archive, room, context, argument, until),
                 );
@@ -293,7 +283,7 @@ fn count_report(
         from,
         count,
     );
-    let good = both(first, both(second, both(third, counted.good)));
+    let good = words::both(first, words::both(second, words::both(third, counted.good)));
     let fixed = 1
         + records::own_words(f, archive, place, report)
         + format::inline_bytes(stream) / 8;
@@ -493,7 +483,7 @@ fn plain_words(content: Content) -> usize
     }
 }
 
-// What is found at a record that ends at `next`.
+// What is found at a record that ends at `next`, and loses nothing or something.
 fn check_record(
     f: Format,
     archive: &[u8],
@@ -501,14 +491,14 @@ fn check_record(
     s: State,
     content: Content,
     next: usize,
+    keeps: bool,
     clean: bool,
 ) -> Counted
-    requires { ⌜ CanCount f (now archive) (now room) (s .current) × (s .place + 8 ≤ next) × (next ≤ length (now archive)) × RecordIs f (now archive) s content next × ((q : Report) → content ≡ Content.Report q → Recalls f (now archive) (now room) (s .place) × (0 < s .place)) ⌝ }
+    requires { ⌜ CanCount f (now archive) (now room) (s .current) × RecordIs f (now archive) s content next × (keeps ≡ keepsTo f (now archive) s content next) × ((q : Report) → content ≡ Content.Report q → Recalls f (now archive) (now room) (s .place) × (0 < s .place)) ⌝ }
     ensures { λ r. ⌜ r ≡ recordChecked f (now (archive .entry)) (tablesIn f (now (room .entry))) (slotsIn f (now (room .entry))) s content next clean ⌝ }
     ensures { λ _. ⌜ now (room .exit) ≡ tablesIn f (now (room .entry)) ++ checkedSlots f (now (archive .entry)) (tablesIn f (now (room .entry))) (slotsIn f (now (room .entry))) s content next clean ⌝ }
 {
-    let place = s.place;
-    if losses::record_keeps(f, &archive[place..next], place, content) {
+    if keeps {
         match content {
             Content::Report(report) => {
                 return check_report(f, archive, room, s, report, next, clean);
@@ -573,7 +563,8 @@ pub fn count_all(f: Format, archive: &[u8], room: &mut [u32]) -> Count
     let mut words = 0;
     while s.place < archive.len() {
         let place = s.place;
-        let record = records::record_at(f, archive, place);
+        let checked = losses::checked_record_at(f, archive, place);
+        let record = checked.record;
         let content = record.content;
         let next = record.next;
         let followed = passes::follow(f, &mut room[..stretch], s, content, next);
@@ -584,7 +575,8 @@ pub fn count_all(f: Format, archive: &[u8], room: &mut [u32]) -> Count
             };
         }
         passes::renew(f, archive, &mut room[stretch..], s, content);
-        let counted = check_record(f, archive, room, s, content, next, found.number == 0);
+        let clean = found.number == 0;
+        let counted = check_record(f, archive, room, s, content, next, checked.keeps, clean);
         found = lowest(found, counted.number, place);
         words += counted.words;
         s = followed.state;

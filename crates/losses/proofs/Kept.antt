@@ -26,10 +26,11 @@ use Rattle.records.specs.declared.Fields.the-variants.{Fields as FieldsRead}
 use Rattle.records.specs.declared.Last.{Last}
 use Rattle.records.specs.declared.Last.the-variants.{Refused as LastRefused, Word}
 use Rattle.records.specs.declared.Content.{Content}
-use Rattle.records.specs.declared.Content.the-variants.{Refused, Report as ReportRead}
-use Rattle.records.specs.Layout.{layoutOf, takeFields, lastWord, onWalked, onLast, reportRead, reportOf}
+use Rattle.records.specs.declared.Content.the-variants.{Refused}
+use Rattle.records.specs.Layout.{layoutOf, takeFields, lastWord, onWalked, reportOf}
 use Rattle.records.specs.Loss.{reportKeeps, recordKeeps}
 use Rattle.records.proofs.Layouts.{fields-read}
+use Rattle.losses.specs.Models.Checking.{withLast}
 
 -- ---- where arguments end
 
@@ -66,10 +67,6 @@ kept-end f (suc count) rest place extra k =
         (omega (arith, r .0, s .inside, long), walked-behind a (argumentsOf f count (drop size rest) (place + size)) ∙ r .1 ∙ ap End same)
 
 -- ---- records that refer to texts and threads
-
--- what stands in one of which all is read but for this last word
-abbrev pub withLast : Format → Layout → List ℕ → (a b c s : Reference) → ℕ → Last → Content
-withLast f l source a b c s first x = onLast x Refused (λ last. ReportRead (reportRead f l source a b c s first last))
 
 -- one whose parts are read: its arguments end where its last words start
 kept-here : (f : Format) (source : List ℕ) (place : ℕ) (a b c s : Reference) (first : ℕ) → 8 ≤ length source

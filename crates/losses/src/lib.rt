@@ -1,57 +1,54 @@
-// Whether repacking loses something of a record: bits and words that no item has. Each function asks that what was read stands inside the record.
-// A record that is known to lose nothing is read in fewer steps.
+// What stands in a record, and whether repacking loses something of it: bits and words that no item has. Both are found in one walk over its
+// arguments. A record that is known to lose nothing is read without any.
 ghost use mathlib.Core.Path.{_≡_};
+ghost use mathlib.Core.Bool.{true, false, _&&_};
 ghost use Prim.Native.Nat.{_+_, _-_, _*_, _^_, _<_, _≤_};
-ghost use mathlib.Core.Bool.{true};
 ghost use lib.ListN.{length, take, drop};
-ghost use Rattle.arguments.specs.Argument.{scalarWords};
-ghost use Rattle.arguments.specs.Loss.{valueBytes, reservedBits, valuePaddingZero, argumentKeeps, argumentsKeep};
-ghost use Rattle.arguments.specs.Models.Bounds.{ValueInside, Fits};
+ghost use lib.Dec.{eqb};
+ghost use Rattle.words.specs.Word.{pick, wordAt};
 ghost use Rattle.words.specs.Stream.{streamWords};
-ghost use Rattle.records.specs.Layout.{reportOf};
+ghost use Rattle.format.specs.Part.{paddingZero};
+ghost use Rattle.format.specs.Models.Bounds.{Inside};
+ghost use Rattle.arguments.specs.Loss.{reservedBits};
+ghost use Rattle.arguments.specs.Models.Reading.{heldBytes, textsOf};
+ghost use Rattle.records.specs.Layout.{layoutOf, reportOf};
 ghost use Rattle.records.specs.Record.{contentOf, recordAt};
-ghost use Rattle.records.specs.Loss.{wordsKeep, streamKeeps, reportKeeps, recordKeeps};
-ghost use Rattle.records.specs.Models.Bounds.{ReportInside, ContentInside};
-use arguments::Argued;
-use arguments::Argument;
-use arguments::Scalar;
-use arguments::Value;
+ghost use Rattle.records.specs.Lookups.{onReport};
+ghost use Rattle.records.specs.Loss.{wordsKeep, streamKeeps, recordKeeps};
+ghost use Rattle.records.specs.Models.Bounds.{ContentInside};
+ghost use Rattle.losses.specs.Models.Checking.{textsKeep, checkedArgument, checkedArguments, withLast, fieldsKeep};
+use arguments::Texts;
 use format::Extent;
 use format::Format;
 use format::Reference;
 use records::Content;
 use records::Fields;
 use records::Last;
+use records::Layout;
 use records::Record;
-use records::Report;
 
-// The words that a value takes behind its argument's name.
-fn scalar_words(scalar: Scalar) -> usize
-    ensures { λ r. ⌜ r ≡ scalarWords scalar ⌝ }
-{
-    match scalar {
-        Scalar::Null => 0,
-        Scalar::Signed32(_) => 0,
-        Scalar::Unsigned32(_) => 0,
-        Scalar::Signed64(_) => 1,
-        Scalar::Unsigned64(_) => 1,
-        Scalar::Double(_) => 1,
-        Scalar::Pointer(_) => 1,
-        Scalar::KernelObject(_) => 1,
-        Scalar::Boolean(_) => 0,
-        Scalar::Unknown(_) => 0,
-    }
+// The size of an argument, and whether it loses nothing.
+pub enum CheckedArgument {
+    Refused(u8),
+    Argument { size: usize, keeps: bool },
 }
 
-// The bytes that a value has behind its argument's name.
-fn value_bytes(value: Value) -> usize
-    requires { ⌜ valueBytes value < 2 ^ 63 ⌝ }
-    ensures { λ r. ⌜ r ≡ valueBytes value ⌝ }
-{
-    match value {
-        Value::Scalar(scalar) => 8 * scalar_words(scalar),
-        Value::Text(reference) => format::inline_bytes(reference),
-    }
+// Where arguments end, and whether they lose nothing.
+pub enum CheckedEnd {
+    Refused(u8),
+    End { at: usize, keeps: bool },
+}
+
+// What stands in a record, and whether it loses nothing.
+pub struct CheckedContent {
+    pub content: Content,
+    pub keeps: bool,
+}
+
+// A record, and whether it loses nothing; one that is refused keeps nothing.
+pub struct Checked {
+    pub record: Record,
+    pub keeps: bool,
 }
 
 // The reserved bits of an argument's header, which repacking would lose.
@@ -74,67 +71,115 @@ fn reserved_bits(header: u64) -> u64
     words::field(header, 32, 63)
 }
 
-// Whether a value's padding is zero.
-fn value_padding_zero(rest: &[u8], place: usize, value: Value) -> bool
-    requires { ⌜ (place + length (now rest) < 2 ^ 63) × ValueInside place (place + length (now rest)) value ⌝ }
-    ensures { λ r. ⌜ r ≡ valuePaddingZero (now (rest .entry)) place value ⌝ }
+// The bytes of the word that a value of this type has behind its argument's name.
+fn held_bytes(variant: u64) -> usize
+    ensures { λ r. ⌜ r ≡ heldBytes variant ⌝ }
 {
-    match value {
-        Value::Scalar(_) => true,
-        Value::Text(reference) => format::padding_zero(rest, place, reference),
+    if variant == 6 {
+        return 0;
     }
+    if arguments::holds_word(variant) {
+        return 8;
+    }
+    0
 }
 
-// Whether the argument that was read at the start of `rest` loses nothing when it is repacked.
-fn argument_keeps(f: Format, rest: &[u8], place: usize, argument: Argument, size: usize) -> bool
-    requires { ⌜ (place + length (now rest) < 2 ^ 63) × Fits (now rest) place argument size ⌝ }
-    ensures { λ r. ⌜ r ≡ argumentKeeps f (now (rest .entry)) place argument size ⌝ }
+// Whether the padding behind two parts is zero.
+fn both_padding_zero(source: &[u8], place: usize, first: Reference, second: Reference) -> bool
+    requires { ⌜ (place + length (now source) < 2 ^ 63) × Inside place (place + length (now source)) first × Inside place (place + length (now source)) second ⌝ }
+    ensures { λ r. ⌜ r ≡ (paddingZero (now (source .entry)) place first && paddingZero (now (source .entry)) place second) ⌝ }
+{
+    if format::padding_zero(source, place, first) {
+        return format::padding_zero(source, place, second);
+    }
+    false
+}
+
+// Whether the padding behind the texts of an argument is zero; it has one behind its name where its type is 6.
+fn texts_padding_zero(
+    rest: &[u8],
+    place: usize,
+    variant: u64,
+    name: Reference,
+    value: Reference,
+) -> bool
+    requires { ⌜ (place + length (now rest) < 2 ^ 63) × Inside place (place + length (now rest)) name × (variant ≡ 6 → Inside place (place + length (now rest)) value) ⌝ }
+    ensures { λ r. ⌜ r ≡ (paddingZero (now (rest .entry)) place name && pick (eqb variant 6) (paddingZero (now (rest .entry)) place value) true) ⌝ }
+{
+    if variant == 6 {
+        return both_padding_zero(rest, place, name, value);
+    }
+    format::padding_zero(rest, place, name)
+}
+
+// Whether the argument with these texts, which was read at the start of `rest`, loses nothing. Its value is not made.
+fn texts_keep(
+    f: Format,
+    rest: &[u8],
+    place: usize,
+    name: Reference,
+    value: Reference,
+    size: usize,
+) -> bool
+    requires { ⌜ (place + length (now rest) < 2 ^ 63) × (textsOf f (now rest) place ≡ Texts.Texts name value size) ⌝ }
+    ensures { λ r. ⌜ r ≡ textsKeep f (now (rest .entry)) place name value size ⌝ }
 {
     let order = f.order;
     let header = words::word(order, rest, 0);
-    if 10 <= words::field(header, 0, 3) {
+    let variant = words::field(header, 0, 3);
+    if 10 <= variant {
         return false;
     }
     if reserved_bits(header) != 0 {
         return false;
     }
-    let name = argument.name;
-    let value = argument.value;
-    if size != 8 + format::inline_bytes(name) + value_bytes(value) {
+    let texts = format::inline_bytes(name) + format::inline_bytes(value);
+    if size != 8 + texts + held_bytes(variant) {
         return false;
     }
-    if format::padding_zero(rest, place, name) {
-        return value_padding_zero(rest, place, value);
-    }
-    false
+    texts_padding_zero(rest, place, variant, name, value)
 }
 
-// Whether so many arguments lose nothing, with `extra` bytes and no more behind them.
-fn arguments_keep(f: Format, part: &[u8], place: usize, count: usize, extra: usize) -> bool
+// The size of the argument at the start of what is left of a record, and whether it loses nothing.
+fn check_argument(f: Format, rest: &[u8], place: usize) -> CheckedArgument
+    requires { ⌜ place + length (now rest) < 2 ^ 63 ⌝ }
+    ensures { λ r. ⌜ r ≡ checkedArgument f (now (rest .entry)) place ⌝ }
+{
+    let texts = arguments::texts_of(f, rest, place);
+    match texts {
+        Texts::Refused(number) => CheckedArgument::Refused(number),
+        Texts::Texts { name, value, size } => {
+            let keeps = texts_keep(f, rest, place, name, value, size);
+            CheckedArgument::Argument { size, keeps }
+        }
+    }
+}
+
+// Where so many arguments end, and whether they lose nothing, with `extra` bytes and no more behind them.
+fn check_arguments(f: Format, part: &[u8], place: usize, count: usize, extra: usize) -> CheckedEnd
     requires { ⌜ place + length (now part) < 2 ^ 63 ⌝ }
-    ensures { λ r. ⌜ r ≡ argumentsKeep f count (now (part .entry)) place extra ⌝ }
+    ensures { λ r. ⌜ r ≡ checkedArguments f count (now (part .entry)) place extra ⌝ }
 {
     let mut rest = part;
     let mut at = place;
     let mut left = count;
+    let mut keeps = true;
     while 0 < left {
-        let argued = arguments::argument_of(f, rest, at);
-        match argued {
-            Argued::Refused(_) => {
-                return false;
+        let checked = check_argument(f, rest, at);
+        match checked {
+            CheckedArgument::Refused(number) => {
+                return CheckedEnd::Refused(number);
             }
-            Argued::Argument { argument, size } => {
-                if argument_keeps(f, rest, at, argument, size) {
-                    rest = &rest[size..];
-                    at += size;
-                    left -= 1;
-                } else {
-                    return false;
-                }
+            CheckedArgument::Argument { size, keeps: kept } => {
+                keeps = words::both(keeps, kept);
+                rest = &rest[size..];
+                at += size;
+                left -= 1;
             }
         }
     }
-    rest.len() == extra
+    keeps = words::both(keeps, rest.len() == extra);
+    CheckedEnd::End { at, keeps }
 }
 
 // Whether a record of so many words and with these reserved bits loses nothing.
@@ -166,45 +211,152 @@ fn stream_keeps(source: &[u8], place: usize, at: usize, long: usize, reserved: u
     false
 }
 
-// Whether a record that refers to texts and threads loses nothing.
-fn report_keeps(f: Format, source: &[u8], place: usize, report: Report) -> bool
-    requires { ⌜ (8 ≤ length (now source)) × (place + length (now source) < 2 ^ 63) × ReportInside place (place + length (now source)) report ⌝ }
-    ensures { λ r. ⌜ r ≡ reportKeeps f (now (source .entry)) place report ⌝ }
+// A record that refers to texts and threads, of which all is read but for this last word.
+fn report_with(
+    f: Format,
+    layout: Layout,
+    source: &[u8],
+    first: Reference,
+    second: Reference,
+    third: Reference,
+    stream: Reference,
+    arguments: usize,
+    last: Last,
+) -> Content
+    requires { ⌜ 8 + 8 * (layoutOf (wordAt (f .order) (now source) 0) .words) ≤ length (now source) ⌝ }
+    ensures { λ r. ⌜ r ≡ withLast f layout (now (source .entry)) first second third stream arguments last ⌝ }
 {
-    let order = f.order;
-    let layout = records::layout_of(words::word(order, source, 0));
-    if layout.reserved != 0 {
+    match last {
+        Last::Refused(number) => Content::Refused(number),
+        Last::Word(word) => {
+            Content::Report(records::report_read(
+                f,
+                layout,
+                source,
+                first,
+                second,
+                third,
+                stream,
+                arguments,
+                word,
+            ))
+        }
+    }
+}
+
+// Whether its reserved bits, and the padding of its references and its stream, are zero.
+fn fields_keep(
+    source: &[u8],
+    place: usize,
+    reserved: u64,
+    first: Reference,
+    second: Reference,
+    third: Reference,
+    stream: Reference,
+) -> bool
+    requires { ⌜ (place + length (now source) < 2 ^ 63) × Inside place (place + length (now source)) first × Inside place (place + length (now source)) second × Inside place (place + length (now source)) third × Inside place (place + length (now source)) stream ⌝ }
+    ensures { λ r. ⌜ r ≡ fieldsKeep (now (source .entry)) place reserved first second third stream ⌝ }
+{
+    if reserved != 0 {
         return false;
     }
-    let first = report.first;
-    let one = first.reference;
-    if format::padding_zero(source, place, one) {
-        let second = report.second;
-        let two = second.reference;
-        if format::padding_zero(source, place, two) {
-            let third = report.third;
-            let three = third.reference;
-            if format::padding_zero(source, place, three) {
-                let stream = report.stream;
-                if format::padding_zero(source, place, stream) {
-                    let at = report.arguments;
-                    let from = at - place;
-                    let behind = 8 * layout.behind;
-                    return arguments_keep(f, &source[from..], at, report.count, behind);
-                }
-                return false;
-            }
-            return false;
-        }
-        return false;
+    if both_padding_zero(source, place, first, second) {
+        return both_padding_zero(source, place, third, stream);
     }
     false
 }
 
-// Whether a record in which this was read loses nothing when it is repacked.
-pub fn record_keeps(f: Format, source: &[u8], place: usize, content: Content) -> bool
+fn refused(number: u8) -> CheckedContent
+    ensures { λ r. ⌜ r ≡ record { content = Content.Refused number; keeps = false } ⌝ }
+{
+    CheckedContent {
+        content: Content::Refused(number),
+        keeps: false,
+    }
+}
+
+// A record that refers to texts and threads, and whether it loses nothing.
+fn checked_report_of(f: Format, source: &[u8], place: usize) -> CheckedContent
+    requires { ⌜ (8 ≤ length (now source)) × (place + length (now source) < 2 ^ 62) ⌝ }
+    ensures { λ r. ⌜ (r .content ≡ reportOf f (now (source .entry)) place) × (r .keeps ≡ recordKeeps f (now (source .entry)) place (reportOf f (now (source .entry)) place)) ⌝ }
+{
+    let order = f.order;
+    let layout = records::layout_of(words::word(order, source, 0));
+    let fields = records::take_fields(f, layout, source, place);
+    match fields {
+        Fields::Refused(number) => refused(number),
+        Fields::Fields {
+            first,
+            second,
+            third,
+            stream,
+            next,
+        } => {
+            let behind = layout.behind;
+            let from = next - place;
+            let end = check_arguments(f, &source[from..], next, layout.count, 8 * behind);
+            match end {
+                CheckedEnd::Refused(number) => refused(number),
+                CheckedEnd::End { at, keeps } => {
+                    let last = records::last_word(f, source, place, at, behind);
+                    let kept = fields_keep(
+                        source,
+                        place,
+                        layout.reserved,
+                        first,
+                        second,
+                        third,
+                        stream,
+                    );
+                    CheckedContent {
+                        content: report_with(
+                            f,
+                            layout,
+                            source,
+                            first,
+                            second,
+                            third,
+                            stream,
+                            next,
+                            last,
+                        ),
+                        keeps: words::both(kept, keeps),
+                    }
+                }
+            }
+        }
+    }
+}
+
+// The same, known to lose nothing. Its arguments are not walked: they end where its last words start.
+fn kept_report_of(f: Format, source: &[u8], place: usize) -> Content
+    requires { ⌜ (8 ≤ length (now source)) × (place + length (now source) < 2 ^ 62) × (recordKeeps f (now source) place (reportOf f (now source) place) ≡ true) ⌝ }
+    ensures { λ r. ⌜ r ≡ reportOf f (now (source .entry)) place ⌝ }
+{
+    let order = f.order;
+    let layout = records::layout_of(words::word(order, source, 0));
+    let fields = records::take_fields(f, layout, source, place);
+    match fields {
+        Fields::Refused(number) => Content::Refused(number),
+        Fields::Fields {
+            first,
+            second,
+            third,
+            stream,
+            next,
+        } => {
+            let behind = layout.behind;
+            let at = place + source.len() - 8 * behind;
+            let last = records::last_word(f, source, place, at, behind);
+            report_with(f, layout, source, first, second, third, stream, next, last)
+        }
+    }
+}
+
+// Whether a record in which this was read, and which refers to nothing, loses nothing.
+fn plain_keeps(f: Format, source: &[u8], place: usize, content: Content) -> bool
     requires { ⌜ (8 ≤ length (now source)) × (place + length (now source) < 2 ^ 62) × ContentInside place (place + length (now source)) content ⌝ }
-    ensures { λ r. ⌜ r ≡ recordKeeps f (now (source .entry)) place content ⌝ }
+    ensures { λ r. ⌜ r ≡ onReport content (recordKeeps f (now (source .entry)) place content) (λ q. false) ⌝ }
 {
     let order = f.order;
     let header = words::word(order, source, 0);
@@ -237,7 +389,7 @@ pub fn record_keeps(f: Format, source: &[u8], place: usize, content: Content) ->
         Content::Thread { index: _, place: _ } => {
             words_keep(source, 3, words::field(header, 24, 63))
         }
-        Content::Report(report) => report_keeps(f, source, place, report),
+        Content::Report(_) => false,
         Content::Ignored => true,
         Content::Skipped {
             record_type: _,
@@ -246,41 +398,46 @@ pub fn record_keeps(f: Format, source: &[u8], place: usize, content: Content) ->
     }
 }
 
-// A record that refers to texts and threads and loses nothing. Its arguments are not walked: they end where its last words start.
-fn kept_report_of(f: Format, source: &[u8], place: usize) -> Content
-    requires { ⌜ (8 ≤ length (now source)) × (place + length (now source) < 2 ^ 62) × (recordKeeps f (now source) place (reportOf f (now source) place) ≡ true) ⌝ }
-    ensures { λ r. ⌜ r ≡ reportOf f (now (source .entry)) place ⌝ }
+// What stands in the record that is `source`, whole, and whether it loses nothing.
+fn checked_content_of(f: Format, source: &[u8], place: usize) -> CheckedContent
+    requires { ⌜ (8 ≤ length (now source)) × (place + length (now source) < 2 ^ 62) ⌝ }
+    ensures { λ r. ⌜ (r .content ≡ contentOf f (now (source .entry)) place) × (r .keeps ≡ recordKeeps f (now (source .entry)) place (contentOf f (now (source .entry)) place)) ⌝ }
 {
     let order = f.order;
     let layout = records::layout_of(words::word(order, source, 0));
-    let fields = records::take_fields(f, layout, source, place);
-    match fields {
-        Fields::Refused(number) => Content::Refused(number),
-        Fields::Fields {
-            first,
-            second,
-            third,
-            stream,
-            next,
-        } => {
-            let behind = layout.behind;
-            let at = place + source.len() - 8 * behind;
-            let more = records::last_word(f, source, place, at, behind);
-            match more {
-                Last::Refused(number) => Content::Refused(number),
-                Last::Word(last) => {
-                    Content::Report(records::report_read(
-                        f,
-                        layout,
-                        source,
-                        first,
-                        second,
-                        third,
-                        stream,
-                        next,
-                        last,
-                    ))
-                }
+    if layout.read {
+        return checked_report_of(f, source, place);
+    }
+    let content = records::content_of(f, source, place);
+    let keeps = plain_keeps(f, source, place, content);
+    CheckedContent { content, keeps }
+}
+
+// The record at a place of the archive, and whether it loses nothing.
+pub fn checked_record_at(f: Format, archive: &[u8], place: usize) -> Checked
+    requires { ⌜ (length (now archive) < 2 ^ 62) × (place ≤ length (now archive)) ⌝ }
+    ensures { λ r. ⌜ r .record ≡ recordAt f (now (archive .entry)) place ⌝ }
+    ensures { λ r. ⌜ r .keeps ≡ recordKeeps f (take (recordAt f (now (archive .entry)) place .next - place) (drop place (now (archive .entry)))) place (recordAt f (now (archive .entry)) place .content) ⌝ }
+{
+    let rest = &archive[place..];
+    let extent = format::extent_of(f, rest);
+    match extent {
+        Extent::Refused(number) => Checked {
+            record: Record {
+                content: Content::Refused(number),
+                next: place,
+            },
+            keeps: false,
+        },
+        Extent::Bytes(size) => {
+            let checked = checked_content_of(f, &rest[..size], place);
+            let content = checked.content;
+            Checked {
+                record: Record {
+                    content,
+                    next: place + size,
+                },
+                keeps: checked.keeps,
             }
         }
     }

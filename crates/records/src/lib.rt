@@ -9,8 +9,6 @@ ghost use Rattle.records.specs.Models.Layouts.{LayoutFits, takePair};
 ghost use Rattle.records.specs.Record.{providerInfoOf, metadataOf, initializationOf, stringOf, threadOf, contentOf, recordAt};
 ghost use Rattle.records.specs.Item.{ownLayout};
 use arguments::Walked;
-use format::CUT;
-use format::Extent;
 use format::Format;
 use format::HIGH_INDEX;
 use format::MALFORMED;
@@ -580,29 +578,4 @@ pub fn own_behind(f: Format, archive: &[u8], place: usize, report: Report) -> us
     let order = f.order;
     let layout = layout_of(words::word(order, archive, place));
     layout.behind
-}
-
-// The record at a place of the archive.
-pub fn record_at(f: Format, archive: &[u8], place: usize) -> Record
-    requires { ⌜ length (now archive) < 2 ^ 62 ⌝ }
-    ensures { λ r. ⌜ r ≡ recordAt f (now (archive .entry)) place ⌝ }
-{
-    if archive.len() < place {
-        return Record {
-            content: Content::Refused(CUT),
-            next: place,
-        };
-    }
-    let rest = &archive[place..];
-    let extent = format::extent_of(f, rest);
-    match extent {
-        Extent::Refused(number) => Record {
-            content: Content::Refused(number),
-            next: place,
-        },
-        Extent::Bytes(size) => Record {
-            content: content_of(f, &rest[..size], place),
-            next: place + size,
-        },
-    }
 }

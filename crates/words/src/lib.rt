@@ -1,5 +1,6 @@
 // Words of eight bytes, their fields, and streams of bytes. Nothing here knows a record.
 ghost use mathlib.Core.Path.{_≡_};
+ghost use mathlib.Core.Bool.{_&&_};
 ghost use Prim.Native.Nat.{_+_, _-_, _*_, _^_, _<_, _≤_};
 ghost use lib.ListN.{length, getD, replicate};
 ghost use Rattle.words.specs.Word.{littleAt, bytesOf, wordAt, wordBytes, field, signed};
@@ -207,6 +208,16 @@ pub fn same_bytes(a: &[u8], b: &[u8]) -> bool
         i += 8;
     }
     little_word(a, last) == little_word(b, last)
+}
+
+// Whether both of two tests hold.
+pub fn both(a: bool, b: bool) -> bool
+    ensures { λ r. ⌜ r ≡ (a && b) ⌝ }
+{
+    if a {
+        return b;
+    }
+    false
 }
 
 // Whether all bytes are zero.

@@ -7,7 +7,7 @@ use Rattle.words.specs.Word.{pick}
 use Rattle.format.specs.declared.Format.{Format}
 use Rattle.format.specs.declared.Reference.the-variants.{Inline}
 use Rattle.format.specs.Part.{takeParts, onBody, part}
-use Rattle.arguments.specs.Argument.{valueParts, onArgued, Arguments, valueOf, argumentOf, argumentType, textIn, refused, arguments, argumentsOf, walked}
+use Rattle.arguments.specs.Argument.{holdsWord, valueParts, onArgued, Arguments, valueOf, argumentOf, argumentType, textIn, refused, arguments, argumentsOf, walked}
 use Rattle.arguments.specs.declared.Argument.{Argument}
 use Rattle.arguments.specs.declared.Valued.{Valued}
 use Rattle.arguments.specs.declared.Valued.the-variants.{Refused as ValueRefused, Value as ValueRead}
@@ -35,6 +35,10 @@ unfoldable pub valueText : Format → (header at : ℕ) → List ℕ → ℕ →
 valueText f header at argument place =
     onBody (takeParts f (valueParts header) at argument place) ValueTextRefused
     (λ references next. ValueText (pick (eqb (argumentType header) 6) (part 0 references) (Inline 0 0)))
+
+-- the bytes of the word that a value of this type has behind the name
+unfoldable pub heldBytes : ℕ → ℕ
+heldBytes type = pick (eqb type 6) 0 (pick (holdsWord type) 8 0)
 
 -- the arguments themselves
 abbrev pub listed : Arguments → List Argument

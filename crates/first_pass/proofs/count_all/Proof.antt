@@ -27,99 +27,102 @@ loop-holds c =
     rw (c .opening-state .ensures) (room-starts (a .f) (a .archive .now) (a .room .now) (p .0)
     (λ i. shared-slice-known .given i .fits) (p .1) (p .2) (p .3))
 
-record-at-requires : tie.Need-record-at-requires Inv-loop μ-loop
-record-at-requires c κs =
+checked-record-at-requires : tie.Need-checked-record-at-requires Inv-loop μ-loop
+checked-record-at-requires c κs =
     let a = c .before .before .before .before .before .before .before .args in
     let l = c .before .before .loop in
-    omega (arith, room-state (a .f) (a .archive .now) (a .room .now) (l .room) (l .s) (l .found) (l .words) (l .inv))
+    let q = room-state (a .f) (a .archive .now) (a .room .now) (l .room) (l .s) (l .found) (l .words) (l .inv) in
+    (omega (arith, q), omega (arith, c .if1 .taken))
 
 slice-relend-prefix-follow : tie.Need-slice-relend-prefix-follow Inv-loop μ-loop
 slice-relend-prefix-follow c =
-    let table-words = c .before .before .before .before .before .table-words in
-    let a = c .before .before .before .before .before .before .before .before .args in
-    let l = c .before .before .before .loop in
+    let table-words = c .before .before .before .before .before .before .table-words in
+    let a = c .before .before .before .before .before .before .before .before .before .args in
+    let l = c .before .before .before .before .loop in
     omega (arith, table-words .ensures, room-wide (a .f) (a .archive .now) (a .room .now) (l .room) (l .s) (l .found) (l .words) (l .inv))
 
 slice-aggregate-follow : tie.Need-slice-aggregate-follow Inv-loop μ-loop
 slice-aggregate-follow c =
-    let table-words = c .before .before .before .before .before .before .table-words in
-    let a = c .before .before .before .before .before .before .before .before .before .args in
-    let l = c .before .before .before .before .loop in
+    let back = c .before .before .before .before .before .before .before .before .before .before in
+    let table-words = c .before .before .before .before .before .before .before .table-words in
+    let a = back .args in
+    let l = c .before .before .before .before .before .loop in
     let wide = room-wide (a .f) (a .archive .now) (a .room .now) (l .room) (l .s) (l .found) (l .words) (l .inv) in
     sym (length-take-le (table-words .result) (l .room) (omega (arith, table-words .ensures, wide)))
 
 follow-requires : tie.Need-follow-requires Inv-loop μ-loop
 follow-requires c κs =
-    let pre = c .before .before .before .before .before .before .before .before .before .pre in
-    let a = c .before .before .before .before .before .before .before .before .before .args in
-    let l = c .before .before .before .before .loop in
+    let back = c .before .before .before .before .before .before .before .before .before .before in
+    let pre = back .pre in
+    let a = back .args in
+    let l = c .before .before .before .before .before .loop in
     let q = room-state (a .f) (a .archive .now) (a .room .now) (l .room) (l .s) (l .found) (l .words) (l .inv) in
-    (pre .0, q .1, q .2, q .4, rw (c .before .record-at .ensures) (record-index (a .f) (a .archive .now) (l .s .place)))
+    (pre .0, q .1, q .2, q .4, rw (c .before .before .checked-record-at .ensures .0) (record-index (a .f) (a .archive .now) (l .s .place)))
 
 same-length : tie.Need-same-length Inv-loop μ-loop
 same-length c =
     let back = c .before .before .before .before .before .before .before .before .before .before in
-    let if1 = c .before .before .before .before .before .before .before .if1 in
-    let record-at = c .before .before .before .before .before .before .record-at in
+    let if1 = c .before .before .before .before .before .before .before .before .if1 in
+    let record-at = c .before .before .before .before .before .before .before .checked-record-at in
     let follow = c .before .before .before .before .follow in
-    let table-words = c .before .before .before .before .before .before .before .before .before .before .before .table-words in
-    let a = back .before .before .before .before .args in
-    let l = c .before .before .before .before .before .before .before .before .before .loop in
-    followed-long (a .f) (a .archive .now) (a .room .now) (l .room) (l .s) (l .found) (l .words) (l .inv) (if1 .taken) (record-at .result)
-    (record-at .ensures) (follow .result) (follow .ensures .0) (table-words .result) (table-words .ensures) (follow .last .1 .0) (follow .ensures .1)
+    let table-words = back .before .before .table-words in
+    let a = back .before .before .before .before .before .args in
+    let l = back .loop in
+    followed-long (a .f) (a .archive .now) (a .room .now) (l .room) (l .s) (l .found) (l .words) (l .inv) (if1 .taken) (record-at .result .record)
+    (record-at .ensures .0) (follow .result) (follow .ensures .0) (table-words .result) (table-words .ensures) (follow .last .1 .0) (follow .ensures .1)
 
 returns : tie.Need-returns Inv-loop μ-loop
 returns c =
     let back = c .before .before .before .before .before .before .before .before .before .before in
-    let if1 = c .before .before .before .before .before .before .before .if1 in
-    let record-at = c .before .before .before .before .before .before .record-at in
+    let if1 = c .before .before .before .before .before .before .before .before .if1 in
+    let record-at = c .before .before .before .before .before .before .before .checked-record-at in
     let follow = c .before .before .before .before .follow in
-    let table-words = c .before .before .before .before .before .before .before .before .before .before .before .table-words in
-    let a = back .before .before .before .before .args in
-    let l = c .before .before .before .before .before .before .before .before .before .loop in
-    room-stops (a .f) (a .archive .now) (a .room .now) (l .room) (l .s) (l .found) (l .words) (l .inv) (if1 .taken) (record-at .result)
-    (record-at .ensures) (follow .result) (follow .ensures .0) (table-words .result) (table-words .ensures) (follow .last .1 .0) (follow .ensures .1)
+    let table-words = back .before .before .table-words in
+    let a = back .before .before .before .before .before .args in
+    let l = back .loop in
+    room-stops (a .f) (a .archive .now) (a .room .now) (l .room) (l .s) (l .found) (l .words) (l .inv) (if1 .taken) (record-at .result .record)
+    (record-at .ensures .0) (follow .result) (follow .ensures .0) (table-words .result) (table-words .ensures) (follow .last .1 .0) (follow .ensures .1)
     (c .if2 .taken)
 
 sub-renew : tie.Need-sub-renew Inv-loop μ-loop
 sub-renew c =
     let back = c .before .before .before .before .before .before .before .before .before .before in
-    let if1 = c .before .before .before .before .before .before .before .if1 in
-    let record-at = c .before .before .before .before .before .before .record-at in
+    let if1 = c .before .before .before .before .before .before .before .before .if1 in
+    let record-at = c .before .before .before .before .before .before .before .checked-record-at in
     let follow = c .before .before .before .before .follow in
-    let table-words = c .before .before .before .before .before .before .before .before .before .before .before .table-words in
-    let a = back .before .before .before .before .args in
-    let l = c .before .before .before .before .before .before .before .before .before .loop in
-    let long = followed-long (a .f) (a .archive .now) (a .room .now) (l .room) (l .s) (l .found) (l .words) (l .inv) (if1 .taken) (record-at .result)
-    (record-at .ensures) (follow .result) (follow .ensures .0) (table-words .result) (table-words .ensures) (follow .last .1 .0) (follow .ensures .1) in
+    let table-words = back .before .before .table-words in
+    let a = back .before .before .before .before .before .args in
+    let l = back .loop in
+    let long = followed-long (a .f) (a .archive .now) (a .room .now) (l .room) (l .s) (l .found) (l .words) (l .inv) (if1 .taken) (record-at .result .record)
+    (record-at .ensures .0) (follow .result) (follow .ensures .0) (table-words .result) (table-words .ensures) (follow .last .1 .0) (follow .ensures .1) in
     omega (arith, long, table-words .ensures, l .inv .wide)
 
 part-renew-start : tie.Need-part-renew-start Inv-loop μ-loop
 part-renew-start c =
     let back = c .before .before .before .before .before .before .before .before .before .before in
-    let if1 = c .before .before .before .before .before .before .before .if1 in
-    let record-at = c .before .before .before .before .before .before .record-at in
+    let if1 = c .before .before .before .before .before .before .before .before .if1 in
+    let record-at = c .before .before .before .before .before .before .before .checked-record-at in
     let follow = c .before .before .before .before .follow in
-    let table-words = c .before .before .before .before .before .before .before .before .before .before .before .table-words in
-    let a = back .before .before .before .before .args in
-    let l = c .before .before .before .before .before .before .before .before .before .loop in
-    let long = followed-long (a .f) (a .archive .now) (a .room .now) (l .room) (l .s) (l .found) (l .words) (l .inv) (if1 .taken) (record-at .result)
-    (record-at .ensures) (follow .result) (follow .ensures .0) (table-words .result) (table-words .ensures) (follow .last .1 .0) (follow .ensures .1) in
+    let table-words = back .before .before .table-words in
+    let a = back .before .before .before .before .before .args in
+    let l = back .loop in
+    let long = followed-long (a .f) (a .archive .now) (a .room .now) (l .room) (l .s) (l .found) (l .words) (l .inv) (if1 .taken) (record-at .result .record)
+    (record-at .ensures .0) (follow .result) (follow .ensures .0) (table-words .result) (table-words .ensures) (follow .last .1 .0) (follow .ensures .1) in
     omega (arith, long, table-words .ensures, l .inv .wide)
 
 renew-requires : tie.Need-renew-requires Inv-loop μ-loop
 renew-requires c κs =
     let back = c .before .before .before .before .before .before .before .before .before .before in
-    let if1 = c .before .before .before .before .before .before .before .before .if1 in
-    let record-at = c .before .before .before .before .before .before .before .record-at in
+    let if1 = c .before .before .before .before .before .before .before .before .before .if1 in
+    let record-at = c .before .before .before .before .before .before .before .before .checked-record-at in
     let follow = c .before .before .before .before .before .follow in
-    let table-words = back .before .before .table-words in
-    let pre = back .before .before .before .before .before .pre in
-    let a = back .before .before .before .before .before .args in
-    let l = c .before .before .before .before .before .before .before .before .before .before .loop in
+    let table-words = back .before .before .before .table-words in
+    let pre = back .before .before .before .before .before .before .pre in
+    let a = back .before .before .before .before .before .before .args in
+    let l = back .before .loop in
     let q = room-state (a .f) (a .archive .now) (a .room .now) (l .room) (l .s) (l .found) (l .words) (l .inv) in
-    let long = followed-long (a .f) (a .archive .now) (a .room .now) (l .room) (l .s) (l .found) (l .words) (l .inv) (if1 .taken) (record-at .result)
-    (record-at .ensures) (follow .result) (follow .ensures .0) (table-words .result) (table-words .ensures) (follow .last .1 .0) (follow .ensures .1) in (
+    let long = followed-long (a .f) (a .archive .now) (a .room .now) (l .room) (l .s) (l .found) (l .words) (l .inv) (if1 .taken) (record-at .result .record)
+    (record-at .ensures .0) (follow .result) (follow .ensures .0) (table-words .result) (table-words .ensures) (follow .last .1 .0) (follow .ensures .1) in (
       pre .0,
       record {
         some = omega arith;
@@ -127,51 +130,52 @@ renew-requires c κs =
         long = simp (part-from, length-drop) (omega (arith, long, table-words .ensures, l .inv .wide));
       },
       q .2,
-      rw (record-at .ensures) (record-renews (a .f) (a .archive .now) (l .s .place)),
+      rw (record-at .ensures .0) (record-renews (a .f) (a .archive .now) (l .s .place)),
     )
 
 check-record-requires : tie.Need-check-record-requires Inv-loop μ-loop
 check-record-requires c κs =
     let back = c .before .before .before .before .before .before .before .before .before .before in
-    let if1 = back .before .before .before .if1 in
-    let record-at = back .before .before .record-at in
-    let follow = c .before .before .before .before .before .before .before .before .before .before .follow in
-    let table-words = back .before .before .before .before .before .before .before .table-words in
+    let further = back .before .before .before .before .before .before .before .before .before .before in
+    let if1 = back .before .before .before .before .if1 in
+    let record-at = back .before .before .before .checked-record-at in
+    let follow = back .follow in
+    let table-words = back .before .before .before .before .before .before .before .before .table-words in
     let if2 = c .before .before .before .before .before .before .if2 in
     let renew = c .before .before .before .before .renew in
-    let pre = back .before .before .before .before .before .before .before .before .before .before .pre in
+    let pre = further .before .pre in
     let room2 = c .before .before .before .room2 in
-    let a = back .before .before .before .before .before .before .before .before .before .before .args in
-    let l = back .before .before .before .before .before .loop in
+    let a = further .before .args in
+    let l = back .before .before .before .before .before .before .loop in
     let q = room-state (a .f) (a .archive .now) (a .room .now) (l .room) (l .s) (l .found) (l .words) (l .inv) in
-    let long = followed-long (a .f) (a .archive .now) (a .room .now) (l .room) (l .s) (l .found) (l .words) (l .inv) (if1 .taken) (record-at .result)
-    (record-at .ensures) (follow .result) (follow .ensures .0) (table-words .result) (table-words .ensures) (follow .last .1 .0) (follow .ensures .1) in
-    let e = record-ends (a .f) (a .archive .now) (a .room .now) (l .room) (l .s) (l .found) (l .words) (l .inv) (if1 .taken) (record-at .result)
-    (record-at .ensures) (follow .result) (follow .ensures .0) (table-words .result) (table-words .ensures) (follow .last .1 .0) (follow .ensures .1)
+    let long = followed-long (a .f) (a .archive .now) (a .room .now) (l .room) (l .s) (l .found) (l .words) (l .inv) (if1 .taken) (record-at .result .record)
+    (record-at .ensures .0) (follow .result) (follow .ensures .0) (table-words .result) (table-words .ensures) (follow .last .1 .0) (follow .ensures .1) in
+    let e = record-ends (a .f) (a .archive .now) (a .room .now) (l .room) (l .s) (l .found) (l .words) (l .inv) (if1 .taken) (record-at .result .record)
+    (record-at .ensures .0) (follow .result) (follow .ensures .0) (table-words .result) (table-words .ensures) (follow .last .1 .0) (follow .ensures .1)
     (if2 .left) in
-    let recalls = room-recalls (a .f) (a .archive .now) (a .room .now) (l .room) (l .s) (l .found) (l .words) (l .inv) (if1 .taken) (record-at .result)
-    (record-at .ensures) (follow .result) (follow .ensures .0) (table-words .result) (table-words .ensures) (follow .last .1 .0) (follow .ensures .1)
+    let recalls = room-recalls (a .f) (a .archive .now) (a .room .now) (l .room) (l .s) (l .found) (l .words) (l .inv) (if1 .taken) (record-at .result .record)
+    (record-at .ensures .0) (follow .result) (follow .ensures .0) (table-words .result) (table-words .ensures) (follow .last .1 .0) (follow .ensures .1)
     (if2 .left) (renew .last .1 .1 .0) (rw part-from at (renew .ensures)) in
-    (record { fits = pre .0; short = q .0; wide = omega (arith, room2 .given, long, l .inv .wide); low = q .2 }, e .1, e .2, (q .3, sym (record-at .ensures)), recalls)
+    (record { fits = pre .0; short = q .0; wide = omega (arith, room2 .given, long, l .inv .wide); low = q .2 }, (q .3, sym (record-at .ensures .0)), rw (record-at .ensures .0) (record-at .ensures .1), recalls)
 
 add-words : tie.Need-add-words Inv-loop μ-loop
 add-words c =
     let back = c .before .before .before .before .before .before .before .before .before .before in
     let further = back .before .before .before .before .before .before .before .before .before .before in
-    let if1 = back .before .before .before .before .before .before .before .before .if1 in
-    let record-at = back .before .before .before .before .before .before .before .record-at in
+    let if1 = back .before .before .before .before .before .before .before .before .before .if1 in
+    let record-at = back .before .before .before .before .before .before .before .before .checked-record-at in
     let follow = back .before .before .before .before .before .follow in
-    let table-words = further .before .before .table-words in
-    let if2 = c .before .before .before .before .before .before .before .before .before .before .before .if2 in
+    let table-words = further .before .before .before .table-words in
+    let if2 = back .before .if2 in
     let renew = c .before .before .before .before .before .before .before .before .before .renew in
-    let a = further .before .before .before .before .before .args in
-    let l = back .before .before .before .before .before .before .before .before .before .before .loop in
+    let a = further .before .before .before .before .before .before .args in
+    let l = further .before .loop in
     let check = c .before .before .before .before .check-record in
     omega (
       arith,
       room-state (a .f) (a .archive .now) (a .room .now) (l .room) (l .s) (l .found) (l .words) (l .inv) .0,
-      room-words (a .f) (a .archive .now) (a .room .now) (l .room) (l .s) (l .found) (l .words) (l .inv) (if1 .taken) (record-at .result)
-          (record-at .ensures) (follow .result) (follow .ensures .0) (table-words .result) (table-words .ensures) (follow .last .1 .0) (follow .ensures .1)
+      room-words (a .f) (a .archive .now) (a .room .now) (l .room) (l .s) (l .found) (l .words) (l .inv) (if1 .taken) (record-at .result .record)
+          (record-at .ensures .0) (follow .result) (follow .ensures .0) (table-words .result) (table-words .ensures) (follow .last .1 .0) (follow .ensures .1)
           (if2 .left) (renew .last .1 .1 .0) (rw part-from at (renew .ensures)) (check .result) (check .ensures .0),
     )
 
@@ -179,18 +183,18 @@ loop-less : tie.Need-loop-less Inv-loop μ-loop
 loop-less c =
     let back = c .before .before .before .before .before .before .before .before .before .before in
     let further = back .before .before .before .before .before .before .before .before .before .before in
-    let if1 = back .before .before .before .before .before .before .before .before .before .if1 in
-    let record-at = back .before .before .before .before .before .before .before .before .record-at in
+    let if1 = further .if1 in
+    let record-at = back .before .before .before .before .before .before .before .before .before .checked-record-at in
     let follow = back .before .before .before .before .before .before .follow in
-    let table-words = further .before .before .before .table-words in
+    let table-words = further .before .before .before .before .table-words in
     let if2 = back .before .before .if2 in
-    let a = further .before .before .before .before .before .before .args in
-    let l = back .before .before .before .before .before .before .before .before .before .before .before .loop in
+    let a = further .before .before .before .before .before .before .before .args in
+    let l = further .before .before .loop in
     omega (
       arith,
       if1 .taken,
-      record-ends (a .f) (a .archive .now) (a .room .now) (l .room) (l .s) (l .found) (l .words) (l .inv) (if1 .taken) (record-at .result)
-          (record-at .ensures) (follow .result) (follow .ensures .0) (table-words .result) (table-words .ensures) (follow .last .1 .0) (follow .ensures .1)
+      record-ends (a .f) (a .archive .now) (a .room .now) (l .room) (l .s) (l .found) (l .words) (l .inv) (if1 .taken) (record-at .result .record)
+          (record-at .ensures .0) (follow .result) (follow .ensures .0) (table-words .result) (table-words .ensures) (follow .last .1 .0) (follow .ensures .1)
           (if2 .left),
     )
 
@@ -198,19 +202,19 @@ loop-again : tie.Need-loop-again Inv-loop μ-loop
 loop-again c =
     let back = c .before .before .before .before .before .before .before .before .before .before in
     let further = back .before .before .before .before .before .before .before .before .before .before in
-    let if1 = back .before .before .before .before .before .before .before .before .before .if1 in
-    let record-at = back .before .before .before .before .before .before .before .before .record-at in
+    let if1 = further .if1 in
+    let record-at = back .before .before .before .before .before .before .before .before .before .checked-record-at in
     let follow = back .before .before .before .before .before .before .follow in
-    let table-words = further .before .before .before .table-words in
+    let table-words = further .before .before .before .before .table-words in
     let if2 = back .before .before .if2 in
-    let renew = c .before .before .before .before .before .before .before .before .before .before .renew in
+    let renew = back .renew in
     let lowest = c .before .before .lowest in
     let room3 = c .before .before .before .before .room3 in
-    let a = further .before .before .before .before .before .before .args in
-    let l = back .before .before .before .before .before .before .before .before .before .before .before .loop in
+    let a = further .before .before .before .before .before .before .before .args in
+    let l = further .before .before .loop in
     let check = c .before .before .before .before .before .check-record in
-    room-turns (a .f) (a .archive .now) (a .room .now) (l .room) (l .s) (l .found) (l .words) (l .inv) (if1 .taken) (record-at .result)
-    (record-at .ensures) (follow .result) (follow .ensures .0) (table-words .result) (table-words .ensures) (follow .last .1 .0) (follow .ensures .1)
+    room-turns (a .f) (a .archive .now) (a .room .now) (l .room) (l .s) (l .found) (l .words) (l .inv) (if1 .taken) (record-at .result .record)
+    (record-at .ensures .0) (follow .result) (follow .ensures .0) (table-words .result) (table-words .ensures) (follow .last .1 .0) (follow .ensures .1)
     (if2 .left) (renew .last .1 .1 .0) (rw part-from at (renew .ensures)) (check .result) (check .ensures .0) (check .last .1 .1 .0) (lowest .result)
     (room3 .given) (check .ensures .1) (lowest .ensures)
 
@@ -227,7 +231,7 @@ returns-2 c =
 
 pub count-all-spec : {M : Type 1} → statement M
 count-all-spec =
-    tie.close (tie.spec Inv-loop μ-loop (λ c κs. search needs) (λ c κs. search needs) loop-holds record-at-requires slice-relend-prefix-follow
+    tie.close (tie.spec Inv-loop μ-loop (λ c κs. search needs) (λ c κs. search needs) loop-holds checked-record-at-requires slice-relend-prefix-follow
     slice-aggregate-follow follow-requires same-length returns (λ c. search needs) sub-renew part-renew-start (λ c. search needs)
     renew-requires check-record-requires (λ c κs. search needs) add-words loop-less loop-again (λ c κs. search needs) same-length-2
     returns-2)

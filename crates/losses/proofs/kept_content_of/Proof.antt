@@ -15,7 +15,12 @@ kept-report-of-requires c κs =
 
 returns : tie.Need-returns
 unfolding contentOf
-returns c = simp (← c .kept-report-of .ensures, ← c .before .before .layout-of .ensures, ← c .before .before .before .word .ensures, c .before .if1 .taken)
+returns c = simp (
+  ← c .kept-report-of .ensures,
+  ← c .before .before .layout-of .ensures,
+  ← c .before .before .before .word .ensures,
+  c .before .if1 .taken,
+)
 
 pub kept-content-of-spec : {M : Type 1} → statement M
 kept-content-of-spec =
