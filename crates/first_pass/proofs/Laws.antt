@@ -1,18 +1,22 @@
 -- Laws of the first pass that the code's proofs go by: the room taken apart, references counted one after the other, the walks over arguments,
 -- and records that refer to nothing. Assumes nothing.
-use Prim.Native.Nat.{ℕ, zero, suc, _+_, _-_, _*_, _≤_, _<_}
-use mathlib.Core.Path.{_≡_, refl, sym, ap, _∙_}
+use Prim.Native.Nat.{ℕ, zero, suc, _+_, _-_, _*_, _/_, _≤_, _<_}
+use mathlib.Core.Path.{_≡_, refl, sym, ap, subst, _∙_}
 use mathlib.Core.List.{List, [], _∷_, _++_}
 use mathlib.Core.Bool.{Bool, true, false, _&&_, _||_, and-true, and-assoc}
 use mathlib.Core.Logic.{inl, inr}
 use native.Mathlib.Omega.{arith}
+use borrow.Author.Tests.{eqb-true}
+use lib.Dec.{eqb, ltb}
 use lib.ListN.{length, take, drop, length-append, length-drop, take-append-drop}
 use lib.Seq.{length-take-le, take-at, drop-at}
 use Rattle.records.specs.Models.Bounds.{ContentInside}
 use Rattle.arguments.specs.Models.Reading.{textsOf}
 use Rattle.format.specs.Models.Bounds.{Inside}
 use Rattle.format.specs.declared.Format.{Format}
-use Rattle.format.specs.Part.{inlineBytes}
+use Rattle.words.specs.Word.{wordAt}
+use Rattle.words.proofs.Tests.{both-true}
+use Rattle.format.specs.Part.{inlineBytes, paddingZero}
 use Rattle.format.specs.declared.Reference.{Reference}
 use Rattle.format.specs.declared.Reference.the-variants.{Inline, Index}
 use Rattle.arguments.specs.declared.Scalar.{Scalar}
@@ -24,16 +28,20 @@ use Rattle.arguments.specs.declared.Argued.{Argued}
 use Rattle.arguments.specs.declared.Argued.the-variants.{Refused, Argument as Read}
 use Rattle.arguments.specs.declared.Texts.{Texts}
 use Rattle.arguments.specs.declared.Texts.the-variants.{Refused as TextsRefused, Texts as TextsRead}
-use Rattle.arguments.specs.Argument.{scalarWords, argumentOf, onArgued, argumentsRead}
-use Rattle.arguments.proofs.Arguments.{argument-read}
+use Rattle.arguments.specs.Argument.{argumentType, scalarWords, argumentOf, onArgued, textIn, argumentsRead}
+use Rattle.arguments.specs.Loss.{valueBytes, argumentBytes, reservedBits, valuePaddingZero, argumentKeeps, argumentsKeep}
+use Rattle.arguments.proofs.Arguments.{argument-read, texts-read, keep-turn}
 use Rattle.records.specs.declared.Lookup.{Lookup}
 use Rattle.records.specs.declared.Report.{Report}
 use Rattle.records.specs.declared.Content.the-variants.{Report as ReportRead}
+use Rattle.records.specs.Layout.{layoutOf}
 use Rattle.records.specs.Record.{recordAt}
+use Rattle.records.specs.Loss.{reportKeeps, recordKeeps}
+use Rattle.contexts.specs.declared.State.{State}
 use Rattle.records.specs.Lookups.{textLookup, argumentLookups, reportLookups}
 use Rattle.records.proofs.Lookups.{onTexts, lookups-turn}
 use Rattle.tables.specs.Table.{tableWords, resolved}
-use Rattle.views.proofs.Lookups.{record-whole}
+use Rattle.views.proofs.Lookups.{record-whole, part-behind}
 use Rattle.reader.proofs.Changes.{IsTable}
 use Rattle.format.proofs.Headers.{part-from}
 use Rattle.passes.specs.Models.Memory.{recalled}
@@ -43,7 +51,7 @@ use Rattle.passes.proofs.Places.{LookupStands, LookupsStand, report-stands, arg
 use Rattle.first_pass.proofs.Memory.{can-stand, stands-can, recalled-low, recalled-counts, remembers-lookup, remembers-lookups}
 use Rattle.tally.specs.Models.Slots.{usedAgain}
 use Rattle.tally.specs.Models.Tally.{Wide}
-use Rattle.first_pass.specs.Models.Count.{tablesIn, slotsIn, CanCount, Recalls, CanStand, wordsIn, wordsRead, unresolvedIn, anyUnresolved, lookupGood, lookupSlots, lookupsGood, lookupsSlots}
+use Rattle.first_pass.specs.Models.Count.{tablesIn, slotsIn, CanCount, Recalls, CanStand, AllKept, wordsIn, wordsRead, unresolvedIn, anyUnresolved, lookupGood, lookupSlots, lookupsGood, lookupsSlots, keepsTo}
 
 -- ---- the room
 
@@ -186,6 +194,36 @@ unfolding argumentsRead
 read-turn f zero rest place h = absurd (omega arith)
 read-turn f (suc n) rest place h = let e : suc n - 1 ≡ n = omega arith in rw e
 
+-- where all arguments lose nothing, the first of them does not, nor do those behind it
+kept-turn : (f : Format) (n : ℕ) (rest : List ℕ) (place : ℕ) (a : Argument) (size : ℕ) → 0 < n → argumentOf f rest place ≡ Read a size
+    → AllKept f n rest place → (argumentKeeps f rest place a size ≡ true) × AllKept f (n - 1) (drop size rest) (place + size)
+kept-turn f n rest place a size h e (extra, k) =
+    let turn = rw (keep-turn f n rest place extra h, e) at k in
+    let both = both-true (argumentKeeps f rest place a size) (argumentsKeep f (n - 1) (drop size rest) (place + size) extra) turn in
+    (both .0, (extra, both .1))
+
+-- the bytes of an argument that loses nothing, but for its texts, are the words of its header and its value
+kept-words : (f : Format) (rest : List ℕ) (place : ℕ) (a : Argument) (size : ℕ) → argumentKeeps f rest place a size ≡ true
+    → (size - (inlineBytes (a .name) + inlineBytes (textIn (a .value)))) / 8 ≡ 1 + wordsIn (a .value)
+unfolding argumentKeeps valueBytes wordsIn
+kept-words f rest place a size k =
+    let header = wordAt (f .order) rest 0 in
+    let paddings = paddingZero rest place (a .name) && valuePaddingZero rest place (a .value) in
+    let k0 = both-true (ltb (argumentType header) 10) (eqb (reservedBits header) 0 && (eqb size (argumentBytes a) && paddings)) k .1 in
+    let k1 = both-true (eqb (reservedBits header) 0) (eqb size (argumentBytes a) && paddings) k0 .1 in
+    go (a .value) (eqb-true size (argumentBytes a) (both-true (eqb size (argumentBytes a)) paddings k1 .0))
+  where
+    go : (v : Value) → size ≡ 8 + inlineBytes (a .name) + valueBytes v
+        → (size - (inlineBytes (a .name) + inlineBytes (textIn v))) / 8 ≡ 1 + wordsIn v
+    go (ScalarValue s) is = omega (arith, is)
+    go (Text r) is = omega (arith, is)
+
+-- the text of a value is no longer than the value
+texts-short : (more name : ℕ) (v : Value) (size : ℕ) → more + valueBytes v ≤ size → name ≤ more → name + inlineBytes (textIn v) ≤ size
+unfolding valueBytes
+texts-short more name (ScalarValue s) size l h = omega (arith, l, h)
+texts-short more name (Text r) size l h = omega (arith, l, h)
+
 -- where the walk stands: what is to be counted in all is what was counted and what is left
 pub record Walk (f : Format) (archive start : List ℕ) (context until : ℕ) (all : List Argument) (end : ℕ) (room : List ℕ) (left : ℕ) (rest : List ℕ)
     (at : ℕ) (good : Bool) (words most : ℕ)
@@ -201,6 +239,7 @@ pub record Walk (f : Format) (archive start : List ℕ) (context until : ℕ) (a
   pub behind : 0 < at
   pub recalls : Recalls f archive room until
   pub few : words + 2 * left ≤ 2 * most
+  pub kept : AllKept f left rest at
 
 module _ (f : Format) (archive start : List ℕ) (context until : ℕ) (all : List Argument) (end : ℕ) (room : List ℕ) (left : ℕ) (rest : List ℕ) (at : ℕ)
     (good : Bool) (words most : ℕ) (w : Walk f archive start context until all end room left rest at good words most) where
@@ -249,7 +288,44 @@ module _ (f : Format) (archive start : List ℕ) (context until : ℕ) (all : Li
         behind = omega (arith, w .behind);
         recalls = recalls;
         few = omega (arith, w .few, words-in-few (a .value));
+        kept = kept-turn f left rest at a size h e (w .kept) .1;
       }
+
+  -- the same by the texts of the argument, and by its size
+  pub walk-turns-texts : (name value : Reference) (size : ℕ) (counted : Bool) (after : List ℕ) → 0 < left
+      → textsOf f rest at ≡ TextsRead name value size → tableWords f ≤ length room → length after ≡ length room
+      → Counted f archive room context until (textLookup name ∷ textLookup value ∷ []) counted after → Recalls f archive after until
+      → Walk f archive start context until all end after (left - 1) (drop size rest) (at + size) (good && counted)
+      (words + (size - (inlineBytes name + inlineBytes value)) / 8) most
+  walk-turns-texts name value size counted after h texts wide long x recalls =
+      let q = texts-read f rest at name value size texts in
+      go (q .0) (q .1) (q .2) (q .3) x
+    where
+      go : (a : Argument) → argumentOf f rest at ≡ Read a size → a .name ≡ name → textIn (a .value) ≡ value
+          → Counted f archive room context until (textLookup name ∷ textLookup value ∷ []) counted after
+          → Walk f archive start context until all end after (left - 1) (drop size rest) (at + size) (good && counted)
+          (words + (size - (inlineBytes name + inlineBytes value)) / 8) most
+      go a e named valued =
+          rw (← named, ← valued, kept-words f rest at a size (kept-turn f left rest at a size h e (w .kept) .0))
+          (λ x. walk-turns a size counted after h e wide long x recalls)
+
+  -- the texts of the argument stand in it, it stands in what is left, and one word at most stands beside its header
+  pub turn-few : (name value : Reference) (size : ℕ) → 0 < left → textsOf f rest at ≡ TextsRead name value size
+      → (inlineBytes name + inlineBytes value ≤ size) × (size ≤ length rest) × ((size - (inlineBytes name + inlineBytes value)) / 8 ≤ 2)
+  turn-few name value size h texts =
+      let q = texts-read f rest at name value size texts in
+      go (q .0) (q .1) (q .2) (q .3)
+    where
+      go : (a : Argument) → argumentOf f rest at ≡ Read a size → a .name ≡ name → textIn (a .value) ≡ value
+          → (inlineBytes name + inlineBytes value ≤ size) × (size ≤ length rest) × ((size - (inlineBytes name + inlineBytes value)) / 8 ≤ 2)
+      go a e named valued =
+          let fits = argument-read f rest at a size e in
+          let words = kept-words f rest at a size (kept-turn f left rest at a size h e (w .kept) .0) in
+          rw (← named, ← valued) (
+            texts-short (8 + inlineBytes (a .name)) (inlineBytes (a .name)) (a .value) size (fits .enough) (omega arith),
+            fits .inside,
+            omega (arith, words, words-in-few (a .value)),
+          )
 
 -- ---- records
 
@@ -290,12 +366,42 @@ pub arguments-behind : (f : Format) (archive : List ℕ) (place : ℕ) (r : Repo
 arguments-behind f archive place r next behind k =
     let i : ContentInside place next (ReportRead r) = rw k at (record-whole f archive place .inside) in omega (arith, i .behind)
 
+-- the arguments of a record that loses nothing lose nothing
+pub report-kept : (f : Format) (archive : List ℕ) (s : State) (r : Report) (next : ℕ)
+    → recordAt f archive (s .place) ≡ record { content = ReportRead r; next = next } → keepsTo f archive s (ReportRead r) next ≡ true
+    → AllKept f (r .count) (take (next - r .arguments) (drop (r .arguments) archive)) (r .arguments)
+unfolding recordKeeps reportKeeps
+report-kept f archive s r next is keeps =
+    let source = take (next - s .place) (drop (s .place) archive) in
+    let l = layoutOf (wordAt (f .order) source 0) in
+    let inside : ContentInside (s .place) next (ReportRead r) = rw is at (record-whole f archive (s .place) .inside) in
+    let tail = argumentsKeep f (r .count) (drop (r .arguments - s .place) source) (r .arguments) (8 * l .behind) in
+    let one = paddingZero source (s .place) (r .first .reference) in
+    let two = paddingZero source (s .place) (r .second .reference) in
+    let three = paddingZero source (s .place) (r .third .reference) in
+    let stream = paddingZero source (s .place) (r .stream) in
+    let k0 = both-true (eqb (l .reserved) 0) (one && (two && (three && (stream && tail)))) keeps in
+    let k1 = both-true one (two && (three && (stream && tail))) (k0 .1) in
+    let k2 = both-true two (three && (stream && tail)) (k1 .1) in
+    let k3 = both-true three (stream && tail) (k2 .1) in
+    (8 * l .behind, rw (part-behind archive (s .place) (r .arguments) next (inside .behind)) at (both-true stream tail (k3 .1) .1))
+
 -- so do those of an argument that was read behind the archive's first byte
 pub argument-countable : (f : Format) (archive rest : List ℕ) (place : ℕ) (a : Argument) (size : ℕ) → 0 < place → place + length rest ≤ length archive
     → argumentOf f rest place ≡ Read a size → LookupsStand archive (argumentLookups (a ∷ []))
 unfolding argumentsRead
 argument-countable f archive rest place a size behind inside e =
     let stands = arguments-stand f archive 1 rest place behind inside in rw e at stands
+
+-- so do the texts of an argument by themselves
+pub texts-countable : (f : Format) (archive rest : List ℕ) (place : ℕ) (name value : Reference) (size : ℕ) → 0 < place
+    → place + length rest ≤ length archive → textsOf f rest place ≡ TextsRead name value size
+    → LookupsStand archive (textLookup name ∷ textLookup value ∷ [])
+texts-countable f archive rest place name value size behind inside texts =
+    let q = texts-read f rest place name value size texts in
+    let stands = argument-countable f archive rest place (q .0) size behind inside (q .1) in
+    subst (λ (x : Reference). LookupsStand archive (textLookup x ∷ textLookup value ∷ [])) (q .2)
+    (subst (λ (x : Reference). LookupsStand archive (textLookup (q .0 .name) ∷ textLookup x ∷ [])) (q .3) stands)
 
 -- ---- rooms that are counted in one after the other
 

@@ -2,25 +2,22 @@
 // The room is four stretches of words: the reading tables, and the three of the tally.
 ghost use mathlib.Core.Path.{_≡_};
 ghost use mathlib.Core.List.{[], _∷_, _++_};
+ghost use mathlib.Core.Bool.{true};
 ghost use Prim.Native.Nat.{ℕ, _+_, _*_, _<_, _≤_};
 ghost use lib.ListN.{length, take, drop, getD};
 ghost use Rattle.passes.specs.Models.Last.{tablesOf};
 ghost use Rattle.format.specs.Limits.{longestArchive};
 ghost use Rattle.tables.specs.Models.Entries.{FormatFits};
 ghost use Rattle.words.specs.Word.{pick};
-ghost use Rattle.arguments.specs.Argument.{textIn, argumentsRead};
-ghost use Rattle.records.specs.Lookups.{argumentLookups};
+ghost use Rattle.arguments.specs.Argument.{argumentsRead};
+ghost use Rattle.records.specs.Lookups.{textLookup, argumentLookups};
 ghost use Rattle.tables.specs.Table.{tableWords, resolved};
 ghost use Rattle.reader.specs.Step.{openingNumber};
-ghost use Rattle.first_pass.specs.Models.Count.{tablesIn, slotsIn, CanCount, Recalls, CanStand, RecordIs, countGood, countSlots, wordsIn, wordsRead, unresolvedIn, lookupGood, lookupSlots, lookupsGood};
+ghost use Rattle.first_pass.specs.Models.Count.{tablesIn, slotsIn, CanCount, Recalls, CanStand, RecordIs, countGood, countSlots, AllKept, wordsRead, unresolvedIn, lookupGood, lookupSlots, lookupsGood};
 ghost use Rattle.first_pass.specs.Models.Count.{lookupsSlots, anyUnresolved, reportGood, reportSlots, reportUnresolved, reportWords, reportChecked, plainWords, keepsTo, recordChecked, checkedSlots};
 ghost use Rattle.first_pass.specs.Models.Found.{lowestOf, concluded, CountIs};
 ghost use Rattle.first_pass.specs.Models.Left.{SlotsLeft};
-use arguments::Argued;
-use arguments::Argument;
-use arguments::Scalar;
 use arguments::Texts;
-use arguments::Value;
 use contexts::State;
 use format::Format;
 use format::Reference;
@@ -43,27 +40,6 @@ pub struct Finding {
 pub enum Count {
     Refused { number: u8, place: usize },
     Words(usize),
-}
-
-// The words of a value behind its argument's name, without a text.
-fn value_words(value: Value) -> usize
-    ensures { λ r. ⌜ (r ≡ wordsIn value) × (r ≤ 1) ⌝ }
-{
-    match value {
-        Value::Text(_) => 0,
-        Value::Scalar(scalar) => match scalar {
-            Scalar::Null => 0,
-            Scalar::Signed32(_) => 0,
-            Scalar::Unsigned32(_) => 0,
-            Scalar::Signed64(_) => 1,
-            Scalar::Unsigned64(_) => 1,
-            Scalar::Double(_) => 1,
-            Scalar::Pointer(_) => 1,
-            Scalar::KernelObject(_) => 1,
-            Scalar::Boolean(_) => 0,
-            Scalar::Unknown(_) => 0,
-        },
-    }
 }
 
 // Bytes that a reference stands for are counted, and their slot is remembered for it; false where they are new and their table would hold no
@@ -168,23 +144,21 @@ fn count_text(
 }
 
 // The name and the text of an argument are counted.
-fn count_argument(
+fn count_texts(
     f: Format,
     archive: &[u8],
     room: &mut [u32],
     context: usize,
-    argument: Argument,
+    name: Reference,
+    value: Reference,
     until: usize,
 ) -> bool
-    requires { ⌜ CanCount f (now archive) (now room) context × CanStand (now archive) (argument .name) × CanStand (now archive) (textIn (argument .value)) × Recalls f (now archive) (now room) until ⌝ }
-    ensures { λ r. ⌜ r ≡ lookupsGood f (now (archive .entry)) (tablesIn f (now (room .entry))) (slotsIn f (now (room .entry))) context until (argumentLookups (argument ∷ [])) ⌝ }
-    ensures { λ _. ⌜ now (room .exit) ≡ tablesIn f (now (room .entry)) ++ lookupsSlots f (now (archive .entry)) (tablesIn f (now (room .entry))) (slotsIn f (now (room .entry))) context until (argumentLookups (argument ∷ [])) ⌝ }
+    requires { ⌜ CanCount f (now archive) (now room) context × CanStand (now archive) name × CanStand (now archive) value × Recalls f (now archive) (now room) until ⌝ }
+    ensures { λ r. ⌜ r ≡ lookupsGood f (now (archive .entry)) (tablesIn f (now (room .entry))) (slotsIn f (now (room .entry))) context until (textLookup name ∷ textLookup value ∷ []) ⌝ }
+    ensures { λ _. ⌜ now (room .exit) ≡ tablesIn f (now (room .entry)) ++ lookupsSlots f (now (archive .entry)) (tablesIn f (now (room .entry))) (slotsIn f (now (room .entry))) context until (textLookup name ∷ textLookup value ∷ []) ⌝ }
 {
-    let name = argument.name;
-    let value = argument.value;
-    let text = passes::value_text(value);
     let named = count_text(f, archive, room, context, name, until);
-    let valued = count_text(f, archive, room, context, text, until);
+    let valued = count_text(f, archive, room, context, value, until);
     words::both(named, valued)
 }
 
@@ -194,7 +168,7 @@ struct Added {
     words: usize,
 }
 
-// So many arguments are counted.
+// So many arguments are counted, which lose nothing: what is no text of an argument are the words of its item.
 fn count_arguments(
     f: Format,
     archive: &[u8],
@@ -205,7 +179,7 @@ fn count_arguments(
     place: usize,
     count: usize,
 ) -> Added
-    requires { ⌜ CanCount f (now archive) (now room) context × (place + length (now part) ≤ length (now archive)) × (count < 16) × (0 < place) × Recalls f (now archive) (now room) until ⌝ }
+    requires { ⌜ CanCount f (now archive) (now room) context × (place + length (now part) ≤ length (now archive)) × (count < 16) × (0 < place) × Recalls f (now archive) (now room) until × AllKept f count (now part) place ⌝ }
     ensures { λ r. ⌜ r .good ≡ lookupsGood f (now (archive .entry)) (tablesIn f (now (room .entry))) (slotsIn f (now (room .entry))) context until (argumentLookups (argumentsRead f count (now (part .entry)) place)) ⌝ }
     ensures { λ r. ⌜ r .words ≡ wordsRead (argumentsRead f count (now (part .entry)) place) ⌝ }
     ensures { λ _. ⌜ now (room .exit) ≡ tablesIn f (now (room .entry)) ++ lookupsSlots f (now (archive .entry)) (tablesIn f (now (room .entry))) (slotsIn f (now (room .entry))) context until (argumentLookups (argumentsRead f count (now (part .entry)) place)) ⌝ }
@@ -216,18 +190,18 @@ fn count_arguments(
     let mut good = true;
     let mut words = 0;
     while 0 < left {
-        let argued = arguments::argument_of(f, rest, at);
-        match argued {
-            Argued::Refused(_) => {
+        let texts = arguments::texts_of(f, rest, at);
+        match texts {
+            Texts::Refused(_) => {
                 return Added { good, words };
             }
-            Argued::Argument { argument, size } => {
-                let value = argument.value;
+            Texts::Texts { name, value, size } => {
                 good = words::both(
                     good,
-                    count_argument(f, archive, room, context, argument, until),
+                    count_texts(f, archive, room, context, name, value, until),
                 );
-                words += 1 + value_words(value);
+                let spelled = format::inline_bytes(name) + format::inline_bytes(value);
+                words += (size - spelled) / 8;
                 rest = &rest[size..];
                 at += size;
                 left -= 1;
@@ -237,7 +211,7 @@ fn count_arguments(
     Added { good, words }
 }
 
-// The references of a record that ends at `next` are counted, and its words.
+// The references of a record that ends at `next` and loses nothing are counted, and its words.
 fn count_report(
     f: Format,
     archive: &[u8],
@@ -246,7 +220,7 @@ fn count_report(
     report: Report,
     next: usize,
 ) -> Added
-    requires { ⌜ CanCount f (now archive) (now room) (s .current) × RecordIs f (now archive) s (Content.Report report) next × (0 < s .place) × Recalls f (now archive) (now room) (s .place) ⌝ }
+    requires { ⌜ CanCount f (now archive) (now room) (s .current) × RecordIs f (now archive) s (Content.Report report) next × (0 < s .place) × Recalls f (now archive) (now room) (s .place) × (keepsTo f (now archive) s (Content.Report report) next ≡ true) ⌝ }
     ensures { λ r. ⌜ r .good ≡ reportGood f (now (archive .entry)) (tablesIn f (now (room .entry))) (slotsIn f (now (room .entry))) s report next ⌝ }
     ensures { λ r. ⌜ r .words ≡ reportWords f (now (archive .entry)) (tablesIn f (now (room .entry))) s report next ⌝ }
     ensures { λ _. ⌜ now (room .exit) ≡ tablesIn f (now (room .entry)) ++ reportSlots f (now (archive .entry)) (tablesIn f (now (room .entry))) (slotsIn f (now (room .entry))) s report next ⌝ }
@@ -417,7 +391,7 @@ fn check_report(
     next: usize,
     clean: bool,
 ) -> Counted
-    requires { ⌜ CanCount f (now archive) (now room) (s .current) × RecordIs f (now archive) s (Content.Report report) next × (0 < s .place) × Recalls f (now archive) (now room) (s .place) ⌝ }
+    requires { ⌜ CanCount f (now archive) (now room) (s .current) × RecordIs f (now archive) s (Content.Report report) next × (0 < s .place) × Recalls f (now archive) (now room) (s .place) × (keepsTo f (now archive) s (Content.Report report) next ≡ true) ⌝ }
     ensures { λ r. ⌜ r ≡ reportChecked f (now (archive .entry)) (tablesIn f (now (room .entry))) (slotsIn f (now (room .entry))) s report next clean ⌝ }
     ensures { λ _. ⌜ now (room .exit) ≡ tablesIn f (now (room .entry)) ++ pick clean (reportSlots f (now (archive .entry)) (tablesIn f (now (room .entry))) (slotsIn f (now (room .entry))) s report next) (slotsIn f (now (room .entry))) ⌝ }
 {

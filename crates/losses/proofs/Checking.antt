@@ -5,7 +5,7 @@ use mathlib.Core.List.{List}
 use mathlib.Core.Bool.{Bool, true, false, _&&_, true≢false}
 use native.Mathlib.Omega.{arith}
 use borrow.Author.Tests.{eq-eqb, le-ltb}
-use lib.Dec.{eqb, ltb}
+use lib.Dec.{eqb}
 use lib.ListN.{length, drop, length-drop}
 use Rattle.words.specs.Word.{pick, wordAt}
 use Rattle.words.proofs.Tests.{cases}
@@ -23,7 +23,7 @@ use Rattle.arguments.specs.declared.Value.the-variants.{Scalar as ScalarValue, 
 use Rattle.arguments.specs.declared.Walked.{Walked}
 use Rattle.arguments.specs.declared.Walked.the-variants.{Refused as WalkRefused, End as WalkEnd}
 use Rattle.arguments.specs.Argument.{argumentType, onArgued, textIn, argumentOf, argumentsOf, walked}
-use Rattle.arguments.specs.Loss.{valueBytes, reservedBits, valuePaddingZero, argumentKeeps, argumentsKeep}
+use Rattle.arguments.specs.Loss.{valueBytes, valuePaddingZero, argumentKeeps, argumentsKeep}
 use Rattle.arguments.specs.Models.Bounds.{ValueInside}
 use Rattle.arguments.specs.Models.Reading.{textsOf, heldBytes}
 use Rattle.arguments.proofs.Arguments.{texts-read, texts-refused, argument-read, walk-turn, keep-turn}

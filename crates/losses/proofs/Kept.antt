@@ -2,7 +2,7 @@
 use Prim.Native.Nat.{ℕ, zero, suc, _+_, _-_, _*_, _≤_}
 use mathlib.Core.Path.{_≡_, refl, sym, ap, subst, _∙_}
 use mathlib.Core.List.{List}
-use mathlib.Core.Bool.{Bool, true, false, _&&_, true≢false}
+use mathlib.Core.Bool.{true, false, _&&_, true≢false}
 use native.Mathlib.Omega.{arith}
 use borrow.Author.Tests.{eqb-true}
 use lib.Dec.{eqb}
@@ -21,7 +21,6 @@ use Rattle.arguments.specs.Argument.{Arguments, refused, arguments, prepend, on
 use Rattle.arguments.specs.Loss.{argumentKeeps, argumentsKeep}
 use Rattle.arguments.proofs.Arguments.{ArgumentFits, argument-fits}
 use Rattle.records.specs.declared.Layout.{Layout}
-use Rattle.records.specs.declared.Fields.{Fields}
 use Rattle.records.specs.declared.Fields.the-variants.{Fields as FieldsRead}
 use Rattle.records.specs.declared.Last.{Last}
 use Rattle.records.specs.declared.Last.the-variants.{Refused as LastRefused, Word}

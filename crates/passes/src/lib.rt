@@ -1,8 +1,7 @@
-// What a record does to the state and the tables of a pass over an archive, by its effect; the slots that a pass remembers for the entries of the
-// tables; and the text of a value.
+// What a record does to the state and the tables of a pass over an archive, by its effect; and the slots that a pass remembers for the entries of the
+// tables.
 ghost use mathlib.Core.Path.{_≡_};
 ghost use Prim.Native.Nat.{_^_, _<_, _≤_};
-ghost use Rattle.arguments.specs.Argument.{textIn};
 ghost use Rattle.records.specs.Effect.{effectOf};
 ghost use Rattle.tables.specs.Models.Entries.{FormatFits};
 ghost use Rattle.effects.specs.Models.Bounds.{EffectFits};
@@ -10,7 +9,6 @@ ghost use Rattle.tables.specs.Table.{tableWords};
 ghost use Rattle.tally.specs.Models.Tally.{Wide};
 ghost use Rattle.passes.specs.Models.Follow.{afterRecord, tablesAfter};
 ghost use Rattle.passes.specs.Models.Memory.{registeredSlot, renewed, RenewFits, recalled, noted};
-use arguments::Value;
 use contexts::State;
 use effects::Followed;
 use format::Format;
@@ -117,18 +115,5 @@ pub fn note(
                 tally::remember(slots, tables::table_words(f), at, word);
             }
         }
-    }
-}
-
-// The text of a value, or an empty one.
-pub fn value_text(value: Value) -> Reference
-    ensures { λ r. ⌜ r ≡ textIn value ⌝ }
-{
-    match value {
-        Value::Text(reference) => reference,
-        Value::Scalar(_) => Reference::Inline {
-            place: 0,
-            length: 0,
-        },
     }
 }

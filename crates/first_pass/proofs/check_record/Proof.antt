@@ -1,11 +1,12 @@
 -- `first_pass::check_record` meets its contract: each answer is what the definition gives for the content, where the record keeps all. Assumes nothing.
-use mathlib.Core.Path.{_≡_, refl, sym, subst}
+use mathlib.Core.Path.{_≡_, refl, sym, subst, _∙_}
+use mathlib.Core.Bool.{true}
 use lib.ListN.{take-append-drop}
 use Rattle.records.specs.declared.Content.{Content}
 use Rattle.records.specs.Record.{recordAt}
 use Rattle.records.proofs.Lookups.{other-arm}
 use Rattle.tables.specs.Table.{tableWords}
-use Rattle.first_pass.specs.Models.Count.{tablesIn, slotsIn, counts, plainWords, reportChecked, reportSlots, recordChecked, checkedSlots}
+use Rattle.first_pass.specs.Models.Count.{tablesIn, slotsIn, counts, plainWords, reportChecked, reportSlots, keepsTo, recordChecked, checkedSlots}
 use Rattle.words.specs.Word.{pick}
 use borrow.Author.Needs.{needs}
 use Rattle.first_pass.proofs.check_record.Statement.{statement}
@@ -20,10 +21,13 @@ check-report-requires c κs =
       p .0,
       (
         p .1 .0,
-        subst (λ (x : Content). recordAt (a .f) (a .archive .now) (a .s .place) ≡ record { content = x; next = a .next }) (content′ .given .1) (p .1 .1),
+        subst (λ (x : Content). recordAt (a .f) (a .archive .now) (a .s .place) ≡ record { content = x; next = a .next }) (content′ .given .1)
+            (p .1 .1),
       ),
       q .1,
       q .0,
+      subst (λ (x : Content). keepsTo (a .f) (a .archive .now) (a .s) x (a .next) ≡ true) (content′ .given .1) (sym
+          (p .2) ∙ c .before .before .before .before .if1 .taken),
     )
 
 returns : tie.Need-returns
@@ -47,7 +51,11 @@ returns-2 c =
     (λ r. reportChecked (a .f) (a .archive .now) tables slots (a .s) r (a .next) (a .clean)) (match .keys2) in
     let stay = other-arm (a .content) slots
     (λ r. pick (a .clean) (reportSlots (a .f) (a .archive .now) tables slots (a .s) r (a .next)) slots) (match .keys2) in
-    rw (← (pre .2), c .before .before .if1 .taken, c .plain-words .ensures, found, stay) (refl, sym (take-append-drop (tableWords (a .f)) (a .room .now)))
+    rw (← (pre .2), c .before .before .if1 .taken, c .plain-words .ensures, found, stay) (
+      refl,
+      sym (take-append-drop (tableWords (a .f))
+          (a .room .now)),
+    )
 
 returns-3 : tie.Need-returns-3
 unfolding recordChecked checkedSlots

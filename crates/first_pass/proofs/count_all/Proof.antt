@@ -69,7 +69,8 @@ same-length c =
     let a = back .before .before .before .before .before .args in
     let l = back .loop in
     followed-long (a .f) (a .archive .now) (a .room .now) (l .room) (l .s) (l .found) (l .words) (l .inv) (if1 .taken) (record-at .result .record)
-    (record-at .ensures .0) (follow .result) (follow .ensures .0) (table-words .result) (table-words .ensures) (follow .last .1 .0) (follow .ensures .1)
+    (record-at .ensures .0) (follow .result) (follow .ensures .0) (table-words .result) (table-words .ensures) (follow .last .1 .0)
+    (follow .ensures .1)
 
 returns : tie.Need-returns Inv-loop μ-loop
 returns c =
@@ -81,7 +82,8 @@ returns c =
     let a = back .before .before .before .before .before .args in
     let l = back .loop in
     room-stops (a .f) (a .archive .now) (a .room .now) (l .room) (l .s) (l .found) (l .words) (l .inv) (if1 .taken) (record-at .result .record)
-    (record-at .ensures .0) (follow .result) (follow .ensures .0) (table-words .result) (table-words .ensures) (follow .last .1 .0) (follow .ensures .1)
+    (record-at .ensures .0) (follow .result) (follow .ensures .0) (table-words .result) (table-words .ensures) (follow .last .1 .0)
+    (follow .ensures .1)
     (c .if2 .taken)
 
 sub-renew : tie.Need-sub-renew Inv-loop μ-loop
@@ -93,8 +95,10 @@ sub-renew c =
     let table-words = back .before .before .table-words in
     let a = back .before .before .before .before .before .args in
     let l = back .loop in
-    let long = followed-long (a .f) (a .archive .now) (a .room .now) (l .room) (l .s) (l .found) (l .words) (l .inv) (if1 .taken) (record-at .result .record)
-    (record-at .ensures .0) (follow .result) (follow .ensures .0) (table-words .result) (table-words .ensures) (follow .last .1 .0) (follow .ensures .1) in
+    let long = followed-long (a .f) (a .archive .now) (a .room .now) (l .room) (l .s) (l .found) (l .words) (l .inv) (if1 .taken)
+    (record-at .result .record)
+    (record-at .ensures .0) (follow .result) (follow .ensures .0) (table-words .result) (table-words .ensures) (follow .last .1 .0)
+    (follow .ensures .1) in
     omega (arith, long, table-words .ensures, l .inv .wide)
 
 part-renew-start : tie.Need-part-renew-start Inv-loop μ-loop
@@ -106,8 +110,10 @@ part-renew-start c =
     let table-words = back .before .before .table-words in
     let a = back .before .before .before .before .before .args in
     let l = back .loop in
-    let long = followed-long (a .f) (a .archive .now) (a .room .now) (l .room) (l .s) (l .found) (l .words) (l .inv) (if1 .taken) (record-at .result .record)
-    (record-at .ensures .0) (follow .result) (follow .ensures .0) (table-words .result) (table-words .ensures) (follow .last .1 .0) (follow .ensures .1) in
+    let long = followed-long (a .f) (a .archive .now) (a .room .now) (l .room) (l .s) (l .found) (l .words) (l .inv) (if1 .taken)
+    (record-at .result .record)
+    (record-at .ensures .0) (follow .result) (follow .ensures .0) (table-words .result) (table-words .ensures) (follow .last .1 .0)
+    (follow .ensures .1) in
     omega (arith, long, table-words .ensures, l .inv .wide)
 
 renew-requires : tie.Need-renew-requires Inv-loop μ-loop
@@ -121,8 +127,10 @@ renew-requires c κs =
     let a = back .before .before .before .before .before .before .args in
     let l = back .before .loop in
     let q = room-state (a .f) (a .archive .now) (a .room .now) (l .room) (l .s) (l .found) (l .words) (l .inv) in
-    let long = followed-long (a .f) (a .archive .now) (a .room .now) (l .room) (l .s) (l .found) (l .words) (l .inv) (if1 .taken) (record-at .result .record)
-    (record-at .ensures .0) (follow .result) (follow .ensures .0) (table-words .result) (table-words .ensures) (follow .last .1 .0) (follow .ensures .1) in (
+    let long = followed-long (a .f) (a .archive .now) (a .room .now) (l .room) (l .s) (l .found) (l .words) (l .inv) (if1 .taken)
+    (record-at .result .record)
+    (record-at .ensures .0) (follow .result) (follow .ensures .0) (table-words .result) (table-words .ensures) (follow .last .1 .0)
+    (follow .ensures .1) in (
       pre .0,
       record {
         some = omega arith;
@@ -148,15 +156,29 @@ check-record-requires c κs =
     let a = further .before .args in
     let l = back .before .before .before .before .before .before .loop in
     let q = room-state (a .f) (a .archive .now) (a .room .now) (l .room) (l .s) (l .found) (l .words) (l .inv) in
-    let long = followed-long (a .f) (a .archive .now) (a .room .now) (l .room) (l .s) (l .found) (l .words) (l .inv) (if1 .taken) (record-at .result .record)
-    (record-at .ensures .0) (follow .result) (follow .ensures .0) (table-words .result) (table-words .ensures) (follow .last .1 .0) (follow .ensures .1) in
-    let e = record-ends (a .f) (a .archive .now) (a .room .now) (l .room) (l .s) (l .found) (l .words) (l .inv) (if1 .taken) (record-at .result .record)
-    (record-at .ensures .0) (follow .result) (follow .ensures .0) (table-words .result) (table-words .ensures) (follow .last .1 .0) (follow .ensures .1)
+    let long = followed-long (a .f) (a .archive .now) (a .room .now) (l .room) (l .s) (l .found) (l .words) (l .inv) (if1 .taken)
+    (record-at .result .record)
+    (record-at .ensures .0) (follow .result) (follow .ensures .0) (table-words .result) (table-words .ensures) (follow .last .1 .0)
+    (follow .ensures .1) in
+    let e = record-ends (a .f) (a .archive .now) (a .room .now) (l .room) (l .s) (l .found) (l .words) (l .inv) (if1 .taken)
+    (record-at .result .record)
+    (record-at .ensures .0) (follow .result) (follow .ensures .0) (table-words .result) (table-words .ensures) (follow .last .1 .0)
+    (follow .ensures .1)
     (if2 .left) in
-    let recalls = room-recalls (a .f) (a .archive .now) (a .room .now) (l .room) (l .s) (l .found) (l .words) (l .inv) (if1 .taken) (record-at .result .record)
-    (record-at .ensures .0) (follow .result) (follow .ensures .0) (table-words .result) (table-words .ensures) (follow .last .1 .0) (follow .ensures .1)
-    (if2 .left) (renew .last .1 .1 .0) (rw part-from at (renew .ensures)) in
-    (record { fits = pre .0; short = q .0; wide = omega (arith, room2 .given, long, l .inv .wide); low = q .2 }, (q .3, sym (record-at .ensures .0)), rw (record-at .ensures .0) (record-at .ensures .1), recalls)
+    let recalls = room-recalls (a .f) (a .archive .now) (a .room .now) (l .room) (l .s) (l .found) (l .words) (l .inv) (if1 .taken)
+    (record-at .result .record)
+    (record-at .ensures .0) (follow .result) (follow .ensures .0) (table-words .result) (table-words .ensures) (follow .last .1 .0)
+    (follow .ensures .1)
+    (if2 .left) (renew .last .1 .1 .0) (rw part-from at (renew .ensures)) in (
+      record { fits = pre .0; short = q .0; wide = omega (arith, room2 .given, long, l .inv .wide); low = q .2 },
+      (
+        q .3,
+        sym
+            (record-at .ensures .0),
+      ),
+      rw (record-at .ensures .0) (record-at .ensures .1),
+      recalls,
+    )
 
 add-words : tie.Need-add-words Inv-loop μ-loop
 add-words c =
@@ -175,7 +197,8 @@ add-words c =
       arith,
       room-state (a .f) (a .archive .now) (a .room .now) (l .room) (l .s) (l .found) (l .words) (l .inv) .0,
       room-words (a .f) (a .archive .now) (a .room .now) (l .room) (l .s) (l .found) (l .words) (l .inv) (if1 .taken) (record-at .result .record)
-          (record-at .ensures .0) (follow .result) (follow .ensures .0) (table-words .result) (table-words .ensures) (follow .last .1 .0) (follow .ensures .1)
+          (record-at .ensures .0) (follow .result) (follow .ensures .0) (table-words .result) (table-words .ensures) (follow .last .1 .0)
+          (follow .ensures .1)
           (if2 .left) (renew .last .1 .1 .0) (rw part-from at (renew .ensures)) (check .result) (check .ensures .0),
     )
 
@@ -194,7 +217,8 @@ loop-less c =
       arith,
       if1 .taken,
       record-ends (a .f) (a .archive .now) (a .room .now) (l .room) (l .s) (l .found) (l .words) (l .inv) (if1 .taken) (record-at .result .record)
-          (record-at .ensures .0) (follow .result) (follow .ensures .0) (table-words .result) (table-words .ensures) (follow .last .1 .0) (follow .ensures .1)
+          (record-at .ensures .0) (follow .result) (follow .ensures .0) (table-words .result) (table-words .ensures) (follow .last .1 .0)
+          (follow .ensures .1)
           (if2 .left),
     )
 
@@ -214,8 +238,10 @@ loop-again c =
     let l = further .before .before .loop in
     let check = c .before .before .before .before .before .check-record in
     room-turns (a .f) (a .archive .now) (a .room .now) (l .room) (l .s) (l .found) (l .words) (l .inv) (if1 .taken) (record-at .result .record)
-    (record-at .ensures .0) (follow .result) (follow .ensures .0) (table-words .result) (table-words .ensures) (follow .last .1 .0) (follow .ensures .1)
-    (if2 .left) (renew .last .1 .1 .0) (rw part-from at (renew .ensures)) (check .result) (check .ensures .0) (check .last .1 .1 .0) (lowest .result)
+    (record-at .ensures .0) (follow .result) (follow .ensures .0) (table-words .result) (table-words .ensures) (follow .last .1 .0)
+    (follow .ensures .1)
+    (if2 .left) (renew .last .1 .1 .0) (rw part-from at (renew .ensures)) (check .result) (check .ensures .0) (check .last .1 .1 .0)
+    (lowest .result)
     (room3 .given) (check .ensures .1) (lowest .ensures)
 
 same-length-2 : tie.Need-same-length-2 Inv-loop μ-loop
@@ -227,11 +253,13 @@ returns-2 : tie.Need-returns-2 Inv-loop μ-loop
 returns-2 c =
     let a = c .before .before .before .before .before .before .before .before .args in
     let l = c .before .before .before .loop in
-    rw (c .conclude .ensures) (room-ends (a .f) (a .archive .now) (a .room .now) (l .room) (l .s) (l .found) (l .words) (l .inv) (c .before .if1 .left))
+    rw (c .conclude .ensures) (room-ends (a .f) (a .archive .now) (a .room .now) (l .room) (l .s) (l .found) (l .words) (l .inv)
+    (c .before .if1 .left))
 
 pub count-all-spec : {M : Type 1} → statement M
 count-all-spec =
-    tie.close (tie.spec Inv-loop μ-loop (λ c κs. search needs) (λ c κs. search needs) loop-holds checked-record-at-requires slice-relend-prefix-follow
+    tie.close (tie.spec Inv-loop μ-loop (λ c κs. search needs)
+    (λ c κs. search needs) loop-holds checked-record-at-requires slice-relend-prefix-follow
     slice-aggregate-follow follow-requires same-length returns (λ c. search needs) sub-renew part-renew-start (λ c. search needs)
     renew-requires check-record-requires (λ c κs. search needs) add-words loop-less loop-again (λ c κs. search needs) same-length-2
     returns-2)

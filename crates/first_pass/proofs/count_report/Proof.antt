@@ -10,7 +10,7 @@ use Rattle.encoding.proofs.EncodedReports.{behind-few}
 use Rattle.passes.proofs.Places.{report-bounds}
 use Rattle.first_pass.specs.Models.Count.{tablesIn}
 use Rattle.first_pass.proofs.References.{report-words}
-use Rattle.first_pass.proofs.Laws.{counted-then, words-few, stream-inside, stream-few, lookup-countable, report-countable, arguments-behind, can-after, recalls-after-one}
+use Rattle.first_pass.proofs.Laws.{counted-then, words-few, stream-inside, stream-few, lookup-countable, report-countable, arguments-behind, report-kept, can-after, recalls-after-one}
 use Rattle.records.specs.declared.Record.{Record}
 use borrow.Author.Needs.{needs}
 use Rattle.first_pass.proofs.count_report.Statement.{statement}
@@ -121,6 +121,7 @@ count-arguments-requires c κs =
       behind,
       recalls-after-one (a .f) (a .archive .now) after2 (a .s .current) (a .s .place) can2 after3 (room3 .given) (a .report .third) (third .least)
           (third .most) (third .stands) recalls2 (three .ensures .1),
+      report-kept (a .f) (a .archive .now) (a .s) (a .report) (a .next) (p .1 .1) (p .4),
     )
 
 own-words-requires : tie.Need-own-words-requires

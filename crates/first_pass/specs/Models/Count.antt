@@ -25,6 +25,7 @@ use Rattle.records.specs.declared.Report.{Report}
 use Rattle.records.specs.declared.Content.{Content}
 use Rattle.records.specs.declared.Content.the-variants.{Refused, Magic, ProviderInfo, Section, ProviderEvent, Initialization, String, Thread, Report as ReportRead, Ignored, Skipped}
 use Rattle.records.specs.Record.{recordAt}
+use Rattle.arguments.specs.Loss.{argumentsKeep}
 use Rattle.records.specs.Loss.{recordKeeps}
 use Rattle.records.specs.Lookups.{reportLookups, onReport}
 use Rattle.records.specs.Item.{report}
@@ -117,6 +118,10 @@ anyUnresolved f archive tables context until (l ∷ more) =
     unresolvedIn (lookedUp f archive tables context until l) || anyUnresolved f archive tables context until more
 
 -- ---- words
+
+-- so many arguments lose nothing, whatever stands behind them
+abbrev pub AllKept : Format → ℕ → List ℕ → ℕ → Type 0
+AllKept f count rest place = (extra : ℕ) × (argumentsKeep f count rest place extra ≡ true)
 
 -- the words of a value behind its argument's name, without a text
 unfoldable pub wordsIn : Value → ℕ

@@ -1,5 +1,5 @@
 -- `losses::checked_content_of` meets its contract: each answer is what the definition gives under the tests that led there. Assumes nothing.
-use mathlib.Core.Path.{_≡_, sym, _∙_}
+use mathlib.Core.Path.{_≡_, _∙_}
 use mathlib.Core.Bool.{false}
 use Rattle.words.specs.Word.{wordAt}
 use Rattle.records.specs.Layout.{layoutOf}

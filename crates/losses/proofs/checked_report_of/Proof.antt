@@ -71,12 +71,13 @@ check-arguments-requires c κs =
 
 last-word-requires : tie.Need-last-word-requires
 last-word-requires c κs =
+    let back = c .before .before .before .before .before .before .before .before .before .before in
     let fields2 = c .before .before .before .before .before .before .fields2 in
     let take-fields = c .before .before .before .before .before .before .before .before .take-fields in
     let layout-of′ = c .before .before .before .before .before .before .before .before .before .layout-of in
-    let word = c .before .before .before .before .before .before .before .before .before .before .word in
-    let given′ = c .before .before .before .before .before .before .before .before .before .before .before .before .args in
-    let pre = c .before .before .before .before .before .before .before .before .before .before .before .before .pre in
+    let word = back .word in
+    let given′ = back .before .before .args in
+    let pre = back .before .before .pre in
     let s = fields-read (given′ .f) (layout-of′ .result) (given′ .source .now) (given′ .place) (fields2 .given .0 .0) (fields2 .given .0 .1 .0)
     (fields2 .given .0 .1 .1 .0) (fields2 .given .0 .1 .1 .1 .0) (fields2 .given .0 .1 .1 .1 .1 .0) (omega (arith, pre .0)) (sym
     (take-fields .ensures) ∙ fields2 .given .1) in
@@ -95,11 +96,12 @@ last-word-requires c κs =
 
 fields-keep-requires : tie.Need-fields-keep-requires
 fields-keep-requires c κs =
+    let back = c .before .before .before .before .before .before .before .before .before .before in
     let fields2 = c .before .before .before .before .before .before .before .fields2 in
     let take-fields = c .before .before .before .before .before .before .before .before .before .take-fields in
-    let layout-of′ = c .before .before .before .before .before .before .before .before .before .before .layout-of in
-    let given′ = c .before .before .before .before .before .before .before .before .before .before .before .before .before .args in
-    let pre = c .before .before .before .before .before .before .before .before .before .before .before .before .before .pre in
+    let layout-of′ = back .layout-of in
+    let given′ = back .before .before .before .args in
+    let pre = back .before .before .before .pre in
     let s = fields-read (given′ .f) (layout-of′ .result) (given′ .source .now) (given′ .place) (fields2 .given .0 .0) (fields2 .given .0 .1 .0)
     (fields2 .given .0 .1 .1 .0) (fields2 .given .0 .1 .1 .1 .0) (fields2 .given .0 .1 .1 .1 .1 .0) (omega (arith, pre .0)) (sym
     (take-fields .ensures) ∙ fields2 .given .1) in
@@ -109,12 +111,13 @@ fields-keep-requires c κs =
 
 report-with-requires : tie.Need-report-with-requires
 report-with-requires c κs =
+    let back = c .before .before .before .before .before .before .before .before .before .before in
     let fields2 = c .before .before .before .before .before .before .before .before .fields2 in
-    let take-fields = c .before .before .before .before .before .before .before .before .before .before .take-fields in
-    let layout-of′ = c .before .before .before .before .before .before .before .before .before .before .before .layout-of in
-    let word = c .before .before .before .before .before .before .before .before .before .before .before .before .word in
-    let given′ = c .before .before .before .before .before .before .before .before .before .before .before .before .before .before .args in
-    let pre = c .before .before .before .before .before .before .before .before .before .before .before .before .before .before .pre in
+    let take-fields = back .take-fields in
+    let layout-of′ = back .before .layout-of in
+    let word = back .before .before .word in
+    let given′ = back .before .before .before .before .args in
+    let pre = back .before .before .before .before .pre in
     let s = fields-read (given′ .f) (layout-of′ .result) (given′ .source .now) (given′ .place) (fields2 .given .0 .0) (fields2 .given .0 .1 .0)
     (fields2 .given .0 .1 .1 .0) (fields2 .given .0 .1 .1 .1 .0) (fields2 .given .0 .1 .1 .1 .1 .0) (omega (arith, pre .0)) (sym
     (take-fields .ensures) ∙ fields2 .given .1) in
@@ -135,13 +138,14 @@ returns c =
 returns-2 : tie.Need-returns-2
 unfolding recordKeeps
 returns-2 c =
+    let back = c .before .before .before .before .before .before .before .before .before .before in
     let end = c .before .before .end in
     let check-arguments = c .before .before .before .before .check-arguments in
     let fields2 = c .before .before .before .before .before .before .before .fields2 in
     let take-fields = c .before .before .before .before .before .before .before .before .before .take-fields in
-    let layout-of′ = c .before .before .before .before .before .before .before .before .before .before .layout-of in
-    let word = c .before .before .before .before .before .before .before .before .before .before .before .word in
-    let given′ = c .before .before .before .before .before .before .before .before .before .before .before .before .before .args in
+    let layout-of′ = back .layout-of in
+    let word = back .before .word in
+    let given′ = back .before .before .before .args in
     let is = report-refused (given′ .f) (given′ .source .now) (given′ .place) (layout-of′ .result) (fields2 .given .0 .0) (fields2 .given .0 .1 .0)
     (fields2 .given .0 .1 .1 .0) (fields2 .given .0 .1 .1 .1 .0) (fields2 .given .0 .1 .1 .1 .1 .0) (end .given .0 .0) (sym
     (layout-of′ .ensures ∙ ap layoutOf (word .ensures))) (sym (take-fields .ensures) ∙ fields2 .given .1) (simp part-from at (sym
@@ -150,14 +154,15 @@ returns-2 c =
 
 returns-3 : tie.Need-returns-3
 returns-3 c =
+    let back = c .before .before .before .before .before .before .before .before .before .before in
     let end2 = c .before .before .before .before .before .end2 in
     let check-arguments = c .before .before .before .before .before .before .before .check-arguments in
-    let fields2 = c .before .before .before .before .before .before .before .before .before .before .fields2 in
-    let take-fields = c .before .before .before .before .before .before .before .before .before .before .before .before .take-fields in
-    let layout-of′ = c .before .before .before .before .before .before .before .before .before .before .before .before .before .layout-of in
-    let word = c .before .before .before .before .before .before .before .before .before .before .before .before .before .before .word in
-    let given′ = c .before .before .before .before .before .before .before .before .before .before .before .before .before .before .before .before .args in
-    let pre = c .before .before .before .before .before .before .before .before .before .before .before .before .before .before .before .before .pre in
+    let fields2 = back .fields2 in
+    let take-fields = back .before .before .take-fields in
+    let layout-of′ = back .before .before .before .layout-of in
+    let word = back .before .before .before .before .word in
+    let given′ = back .before .before .before .before .before .before .args in
+    let pre = back .before .before .before .before .before .before .pre in
     let is = checked-report (given′ .f) (given′ .source .now) (given′ .place) (layout-of′ .result) (fields2 .given .0 .0) (fields2 .given .0 .1 .0)
     (fields2 .given .0 .1 .1 .0) (fields2 .given .0 .1 .1 .1 .0) (fields2 .given .0 .1 .1 .1 .1 .0) (end2 .given .0 .0) (end2 .given .0 .1 .0)
     (pre .0) (sym (layout-of′ .ensures ∙ ap layoutOf (word .ensures))) (sym (take-fields .ensures) ∙ fields2 .given .1) (simp part-from at (sym

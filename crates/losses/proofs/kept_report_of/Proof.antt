@@ -1,4 +1,5 @@
--- `losses::kept_report_of` meets its contract: the arguments of a record that loses nothing end where its last words start (kept-report). Assumes nothing.
+-- `losses::kept_report_of` meets its contract: the arguments of a record that loses nothing end where its last words start (kept-report).
+-- Assumes nothing.
 use Prim.Native.Nat.{_≤_}
 use mathlib.Core.Path.{sym, ap, _∙_}
 use native.Mathlib.Omega.{arith}

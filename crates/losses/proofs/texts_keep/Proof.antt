@@ -1,6 +1,5 @@
 -- `losses::texts_keep` meets its contract: each answer is what the definition gives under the tests that led there,
 -- and what is read stands inside what is left (texts-stand). Assumes nothing.
-use mathlib.Core.Path.{sym}
 use native.Mathlib.Omega.{arith}
 use borrow.Author.Tests.{eq-eqb, ne-eqb, lt-ltb, le-ltb}
 use Rattle.losses.specs.Models.Checking.{textsKeep}
