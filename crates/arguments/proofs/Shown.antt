@@ -28,10 +28,12 @@ abbrev pub ValueShown : ℕ → Value → Type 0
 ValueShown type (ScalarValue s) = (eqb type 6 ≡ false) × (8 * scalarWords s ≡ heldBytes type)
 ValueShown type (Text reference) = (eqb type 6 ≡ true) × (heldBytes type ≡ 0)
 
+-- of a value that is read or refused
 abbrev ValuedShown : ℕ → Valued → Type 0
 ValuedShown type (ValueRefused number) = Unit {0}
 ValuedShown type (ValueRead v) = ValueShown type v
 
+-- of the value of an argument
 abbrev ArguedShown : ℕ → Argued → Type 0
 ArguedShown type (Refused number) = Unit {0}
 ArguedShown type (Read a size) = ValueShown type (a .value)
@@ -52,6 +54,7 @@ value-shown f hd at own place = go (takeParts f (valueParts hd) at own place)
         (λ e′. (e, rw (e, e′, word-scalar-words type (wordAt (f .order) own (placeOf (part 0 rs) - place)))))
         (λ e′. (e, rw (e, e′, header-scalar-words hd))))
 
+-- so is that of every argument
 argument-shown : (f : Format) (rest : List ℕ) (place : ℕ) → ArguedShown (argumentType (wordAt (f .order) rest 0)) (argumentOf f rest place)
 unfolding argumentOf
 argument-shown f rest place =

@@ -79,6 +79,7 @@ pub record TextsStand (f : Format) (rest : List ℕ) (place : ℕ) (name value :
   pub name-inside : Inside place (place + length rest) name
   pub value-inside : argumentType (wordAt (f .order) rest 0) ≡ 6 → Inside place (place + length rest) value
 
+-- those of an argument that is read do
 argument-stands : (f : Format) (rest : List ℕ) (place : ℕ) (a : Argument) (size : ℕ) → argumentOf f rest place ≡ Read a size
     → TextsStand f rest place (a .name) (textIn (a .value)) size
 argument-stands f rest place a size e =
@@ -94,6 +95,7 @@ argument-stands f rest place a size e =
           (text-inside place (place + size) type (a .value) shown (fits .value) six);
     }
 
+-- and texts that are known to be taken
 pub texts-stand : (f : Format) (rest : List ℕ) (place : ℕ) (name value : Reference) (size : ℕ) → textsOf f rest place ≡ TextsRead name value size
     → TextsStand f rest place name value size
 texts-stand f rest place name value size e =
@@ -101,7 +103,7 @@ texts-stand f rest place name value size e =
     subst (λ (x : Reference). TextsStand f rest place x value size) (q .2)
     (subst (λ (x : Reference). TextsStand f rest place (q .0 .name) x size) (q .3) (argument-stands f rest place (q .0) size (q .1)))
 
--- an argument that is read or refused by its texts
+-- an argument whose texts are read, as it is checked
 pub checked-texts : (f : Format) (rest : List ℕ) (place : ℕ) (name value : Reference) (size : ℕ) → textsOf f rest place ≡ TextsRead name value size
     → checkedArgument f rest place ≡ ArgumentRead size (textsKeep f rest place name value size)
 unfolding checkedArgument
@@ -110,6 +112,7 @@ checked-texts f rest place name value size e =
     let shown = value-read f rest place (q .0) size (q .1) in
     rw (q .1, keeps-by-texts f rest place (q .0) size shown, q .2, q .3)
 
+-- one whose texts are refused
 pub checked-number : (f : Format) (rest : List ℕ) (place number : ℕ) → textsOf f rest place ≡ TextsRefused number
     → checkedArgument f rest place ≡ ArgumentRefused number
 unfolding checkedArgument
@@ -132,6 +135,7 @@ argument-checked f rest place size kept = go (argumentOf f rest place) refl
         let keeps : argumentKeeps f rest place a size′ ≡ kept = cc in
         (a, q ∙ ap (Read a) same, rw same at keeps)
 
+-- an argument that is refused as it is checked, is refused
 argument-refused : (f : Format) (rest : List ℕ) (place number : ℕ) → checkedArgument f rest place ≡ ArgumentRefused number
     → argumentOf f rest place ≡ NotRead number
 unfolding checkedArgument
@@ -193,6 +197,7 @@ checked-ended f count rest place extra at keeps = go (walked (argumentsOf f coun
     go (WalkRefused number) e = let z : _≡_ {A = ℕ} 0 1 = cc in absurd (omega arith)
     go (WalkEnd at′) e = let same : at′ ≡ at = cc in (ap WalkEnd same, cc)
 
+-- a walk that is refused
 pub checked-refused : (f : Format) (count : ℕ) (rest : List ℕ) (place extra number : ℕ) → checkedArguments f count rest place extra ≡ Refused number
     → walked (argumentsOf f count rest place) ≡ WalkRefused number
 unfolding checkedArguments
@@ -301,7 +306,7 @@ checked-report f source place l a b c s first at keeps some is = subst P is here
         let k = checked-here f source place a b c s first at keeps some e (q .0) (q .1) in
         (k .0, ap (recordKeeps f source place) (k .0) ∙ k .1)
 
--- a record whose arguments are refused, or its fields
+-- a record whose arguments are refused
 pub report-refused : (f : Format) (source : List ℕ) (place : ℕ) (l : Layout) (a b c s : Reference) (first number : ℕ)
     → layoutOf (wordAt (f .order) source 0) ≡ l → takeFields f l source place ≡ FieldsRead a b c s first
     → checkedArguments f (l .count) (drop (first - place) source) first (8 * l .behind) ≡ Refused number
@@ -310,6 +315,7 @@ unfolding reportOf
 report-refused f source place l a b c s first number is e w =
     rw (is, e, checked-refused f (l .count) (drop (first - place) source) first (8 * l .behind) number w)
 
+-- one whose fields are
 pub fields-refused : (f : Format) (source : List ℕ) (place : ℕ) (l : Layout) (number : ℕ) → layoutOf (wordAt (f .order) source 0) ≡ l
     → takeFields f l source place ≡ FieldsRefused number → reportOf f source place ≡ ContentRefused number
 unfolding reportOf

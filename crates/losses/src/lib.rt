@@ -266,6 +266,7 @@ fn fields_keep(
     false
 }
 
+// A record that is refused keeps nothing.
 fn refused(number: u8) -> CheckedContent
     ensures { λ r. ⌜ r ≡ record { content = Content.Refused number; keeps = false } ⌝ }
 {

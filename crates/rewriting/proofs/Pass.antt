@@ -272,6 +272,7 @@ module _ (f : Format) (archive : List ℕ) (s : State) (tables slots₀ slots so
   loses-none : (keepsAt f archive (s .place) ≡ true) × (lossRefusal rest ≡ none)
   loses-none = loss-turn (keepsAt f archive (s .place)) (lossRefusal rest) (refusal 10 (s .place)) (rw passes at (w .loss))
 
+  -- so the record loses nothing
   pub writing-keeps : keepsAt f archive (s .place) ≡ true
   writing-keeps = loses-none .0
 
