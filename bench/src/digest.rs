@@ -1,6 +1,6 @@
 // Digests of a whole reading by either reader, through the same calls and the same loop.
 use crate::plain;
-use crate::replies::{count, walk, Reader, ANSWER, ARGUMENT, EVENT, REPLY};
+use crate::replies::{count, walk, Reader, ANSWER, ARGUMENT, EVENT, LOG, REPLY};
 
 fn mix(x: u64, number: u64) -> u64 {
     x.rotate_left(7).wrapping_add(number)
@@ -29,6 +29,7 @@ fn mix_numbers(archive: &[u8], x: u64, numbers: &[u64]) -> u64 {
     match numbers[0] {
         4 => mix_bytes(archive, x, numbers[2], numbers[3]),
         EVENT => mix_text(archive, mix_text(archive, x, &numbers[10..13]), &numbers[13..16]),
+        LOG => mix_bytes(archive, x, numbers[9], numbers[10]),
         ARGUMENT => {
             let x = mix_text(archive, x, &numbers[1..4]);
             if numbers[4] == 6 {

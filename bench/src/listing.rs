@@ -1,10 +1,21 @@
-// Document 01's listing by the plain reader, to compare it with the expected answers of the test vectors.
+// The listing of document 01, with the lines of request W1 (logs), by the plain reader, to compare it with the expected answers of the test vectors.
 use crate::plain::{self, Argument, Item, State, Stop, Text, Thread, Value};
 
 fn text(archive: &[u8], t: Text) -> Vec<u8> {
     match t {
         Text::Unresolved(index) => format!("?{index}").into_bytes(),
         Text::At { place, length } => [format!("{length}:").as_bytes(), plain::text(archive, place, length)].concat(),
+    }
+}
+
+fn provider(id: Option<u32>) -> String {
+    id.map_or("-".to_string(), |id| id.to_string())
+}
+
+fn thread(t: Thread) -> String {
+    match t {
+        Thread::Words { process, thread } => format!("{process} {thread}"),
+        Thread::Unresolved(index) => format!("?{index}"),
     }
 }
 
@@ -19,14 +30,9 @@ pub fn item_line(archive: &[u8], item: &Item) -> Vec<u8> {
         Item::Initialization { rate } => format!("I {rate}").into_bytes(),
         Item::Skipped { kind, size } => format!("K {kind} {size}").into_bytes(),
         Item::Event(e) => {
-            let provider = e.provider.map_or("-".to_string(), |id| id.to_string());
-            let thread = match e.thread {
-                Thread::Words { process, thread } => format!("{process} {thread}"),
-                Thread::Unresolved(index) => format!("?{index}"),
-            };
             let extra = e.extra.map_or(String::new(), |extra| format!(" {extra}"));
             [
-                format!("E {} {provider} {} {} {thread} ", e.kind, e.timestamp, e.rate).into_bytes(),
+                format!("E {} {} {} {} {} ", e.kind, provider(e.provider), e.timestamp, e.rate, thread(e.thread)).into_bytes(),
                 text(archive, e.category),
                 b" ".to_vec(),
                 text(archive, e.name),
@@ -34,6 +40,11 @@ pub fn item_line(archive: &[u8], item: &Item) -> Vec<u8> {
             ]
             .concat()
         }
+        Item::Log(l) => [
+            format!("L {} {} {} {} ", provider(l.provider), l.timestamp, l.rate, thread(l.thread)).into_bytes(),
+            text(archive, Text::At { place: l.message, length: l.length }),
+        ]
+        .concat(),
     };
     line.push(b'\n');
     line

@@ -160,7 +160,7 @@ fn compare_states(random: &mut Random, archive: &[u8]) -> Result<u64, String> {
     Ok(turns)
 }
 
-// A step at an event whose entries name odd records, and a question for each of its arguments.
+// A step at an event or a log whose entries name odd records, and a question for each of its arguments.
 fn compare_planted(random: &mut Random) -> Result<u64, (Vec<u8>, String)> {
     let planted = make::planted(random);
     let mut tables = vec![0; TABLE_WORDS];
@@ -225,7 +225,7 @@ fn test(many: usize) {
     println!("one archive cut at each of its {} bytes: no difference", archive.len());
     // the length's limit
     for n in [16_777_208, 16_777_216, 16_777_217, 16_777_224] {
-        let mut long = make::long(n, 5, Long::new(50, 3));
+        let mut long = make::long(n, 5, Long { logs: 20, ..Long::new(50, 3) });
         long.truncate(n);
         long.resize(n, 0);
         if digest::read::<Ours>(&long, &mut [0; TABLE_WORDS]) != digest::read::<Plain>(&long, &mut [0; TABLE_WORDS]) {
@@ -243,6 +243,14 @@ fn word64(bytes: &[u8], at: usize) -> u64 {
     u64::from_le_bytes(bytes[at..at + 8].try_into().unwrap())
 }
 
+// The vectors have room for what nothing here reads yet.
+fn unread(what: String) -> ! {
+    println!("REFUSED: {what}, which is not read here yet");
+    std::process::exit(1);
+}
+
+const NO_SHEET: usize = u32::MAX as usize;
+
 // The cases of corpus.bin; the plain reader's listing and the plain repacker's bytes against the expected answers, where they stand beside.
 fn corpus(path: &str) {
     let bytes = std::fs::read(path).unwrap();
@@ -251,8 +259,11 @@ fn corpus(path: &str) {
     let (mut at, mut case, mut answers, mut calls) = (0, 0, 0, 0);
     while at < bytes.len() {
         let n = word32(&bytes, at);
-        let archive = &bytes[at + 4..at + 4 + n];
-        at += 4 + n;
+        if word32(&bytes, at + 4) != NO_SHEET || word64(&bytes, at + 8) != 0 {
+            unread(format!("case {case} has a sheet or another size"));
+        }
+        let archive = &bytes[at + 16..at + 16 + n];
+        at += 16 + n;
         match compare(archive, TABLE_WORDS, case) {
             Ok(n) => answers += n,
             Err(what) => save(archive, &format!("case {case}: {what}")),
@@ -270,6 +281,10 @@ fn corpus(path: &str) {
         }
         case += 1;
     }
+    if !rest.is_empty() {
+        println!("DIFFERENCE: there are expected answers behind those of the {case} cases");
+        std::process::exit(1);
+    }
     let listed = if expected.is_empty() { "" } else { ", and the plain listings and repackings are the expected ones" };
     println!("{case} cases of the corpus, {answers} replies and {calls} repackings: no difference{listed}");
 }
@@ -280,24 +295,27 @@ fn probes(path: &str) {
     let expected = std::fs::read(path.replace(".bin", ".expected")).unwrap_or_default();
     let (mut lines, mut at, mut probe) = (vec![], 0, 0);
     while at < bytes.len() {
-        let header = &bytes[at..at + 96];
-        let n = word32(header, 4);
-        let entries = word32(header, 92);
-        let mut tables = vec![0u32; word32(header, 88)];
-        for i in 0..entries {
-            tables[word32(&bytes, at + 96 + 8 * i)] = word32(&bytes, at + 100 + 8 * i) as u32;
+        let header = &bytes[at..at + 176];
+        if word32(header, 160) != NO_SHEET || header[164..].iter().chain(&header[24..88]).any(|&byte| byte != 0) {
+            unread(format!("probe {probe} has a sheet, another size, marks or a second rate"));
         }
-        let start = at + 96 + 8 * entries;
+        let n = word32(header, 4);
+        let entries = word32(header, 156);
+        let mut tables = vec![0u32; word32(header, 152)];
+        for i in 0..entries {
+            tables[word32(&bytes, at + 176 + 8 * i)] = word32(&bytes, at + 180 + 8 * i) as u32;
+        }
+        let start = at + 176 + 8 * entries;
         let archive = &bytes[start..start + n];
         at = start + n;
         let mut state = State {
             place: word64(header, 8) as usize,
             rate: word64(header, 16),
-            ids: std::array::from_fn(|i| word32(header, 24 + 4 * i) as u32),
-            count: word64(header, 56) as usize,
-            current: word64(header, 64) as usize,
+            ids: std::array::from_fn(|i| word32(header, 88 + 4 * i) as u32),
+            count: word64(header, 120) as usize,
+            current: word64(header, 128) as usize,
         };
-        let (event, number) = (word64(header, 72) as usize, word64(header, 80) as usize);
+        let (event, number) = (word64(header, 136) as usize, word64(header, 144) as usize);
         if let Err(what) = compare_at(archive, &tables, &replies::state_numbers(&state), event, number, REPLY + 1) {
             save(archive, &format!("probe {probe}: {what}"));
         }
@@ -369,19 +387,21 @@ const RUNS: usize = 25;
 fn time(mib: usize) {
     println!("{:<28} {:>8} {:>8} {:>12} {:>12} {:>8}", "archive", "MiB", "events", "ours ns/ev", "Rust ns/ev", "ratio");
     let kinds = [
-        ("registered, 0 to 6 args", 10, 6),
-        ("inline, 0 to 6 args", 90, 6),
-        ("registered, no args", 10, 0),
-        ("registered, 0 to 15 args", 10, 15),
+        ("registered, 0 to 6 args", Long::new(10, 6)),
+        ("inline, 0 to 6 args", Long::new(90, 6)),
+        ("registered, no args", Long::new(10, 0)),
+        ("registered, 0 to 15 args", Long::new(10, 15)),
+        ("registered, a third logs", Long { logs: 33, ..Long::new(10, 6) }),
     ];
-    for (name, inline, arguments) in kinds {
-        let archive = make::long(mib << 20, 99, Long::new(inline, arguments));
+    for (name, of) in kinds {
+        let archive = make::long(mib << 20, 99, of);
         let archive = &archive[..archive.len().min(16_777_216) / 8 * 8];
         let mut tables = vec![0; TABLE_WORDS];
         let mut state = plain::open(archive, &mut tables).unwrap();
+        // with the logs
         let mut events = 0;
         while let Ok(item) = plain::step(archive, &mut state, &mut tables) {
-            events += matches!(item, Some(plain::Item::Event(_))) as usize;
+            events += matches!(item, Some(plain::Item::Event(_) | plain::Item::Log(_))) as usize;
         }
         let mut other = tables.clone();
         for (what, a, b) in [

@@ -66,7 +66,23 @@ fn section_record(id: u32) -> Vec<u64> {
     vec![1 << 4 | 2 << 16 | (id as u64) << 20]
 }
 
-// What the events of an archive are drawn from.
+// A log of a thread by its index, or of one that is spelled where the index is 0.
+fn log_record(time: u64, index: usize, words: [u64; 2], message: &[u8]) -> Vec<u64> {
+    let mut body = vec![time];
+    if index == 0 {
+        body.extend(words);
+    }
+    body.extend(stream(message));
+    let header = 9 | (1 + body.len() as u64) << 4 | (message.len() as u64) << 16 | (index as u64) << 32;
+    [vec![header], body].concat()
+}
+
+// A record type that is skipped.
+fn skipped_type(random: &mut Random) -> u64 {
+    [5, 6, 7, 8, 10, 11, 12, 13, 14, 15][random.below(10)]
+}
+
+// What the events and logs of an archive are drawn from.
 pub struct Style {
     pub texts: Vec<Vec<u8>>,
     pub threads: Vec<[u64; 2]>,
@@ -105,15 +121,20 @@ impl Style {
         [vec![header], body].concat()
     }
 
+    // The index of a thread, 0 where it is spelled, and its words.
+    fn thread(&self, random: &mut Random) -> (usize, [u64; 2]) {
+        let i = random.below(self.threads.len());
+        let spelled = random.chance(self.inline) || self.registered[1] <= i;
+        (if spelled { 0 } else { 1 + i }, self.threads[i])
+    }
+
     pub fn event(&self, random: &mut Random, time: u64) -> Vec<u64> {
         let kind = random.below(11) as u64;
         let count = random.below(self.arguments + 1) as u64;
-        let thread = random.below(self.threads.len());
+        let (thread, words) = self.thread(random);
         let mut body = vec![time];
-        let mut reference = 1 + thread as u64;
-        if random.chance(self.inline) || self.registered[1] <= thread {
-            reference = 0;
-            body.extend(self.threads[thread]);
+        if thread == 0 {
+            body.extend(words);
         }
         let (category, category_stream) = self.text(random);
         let (name, name_stream) = self.text(random);
@@ -126,8 +147,56 @@ impl Style {
         if kind == 1 || kind > 3 {
             body.push(random.next());
         }
-        let header = 4 | (1 + body.len() as u64) << 4 | kind << 16 | count << 20 | reference << 24 | category << 32 | name << 48;
+        let header = 4 | (1 + body.len() as u64) << 4 | kind << 16 | count << 20 | (thread as u64) << 24 | category << 32 | name << 48;
         [vec![header], body].concat()
+    }
+
+    // A log with a message of its own, of any length that is taken, or with the bytes of a text.
+    pub fn log(&self, random: &mut Random, time: u64) -> Vec<u64> {
+        let (index, words) = self.thread(random);
+        let message = match random.below(8) {
+            0..=2 => self.texts[random.below(self.texts.len())].clone(),
+            3 => {
+                let length = [0, 1, 8, 9, 248, 249, 255, 256][random.below(8)];
+                name(random, length..length + 1)
+            }
+            _ => name(random, 0..80),
+        };
+        log_record(time, index, words, &message)
+    }
+
+    // A log with something that is refused, ignored or unresolved, or with two.
+    fn odd_log(&self, random: &mut Random, time: u64) -> Vec<u64> {
+        let mut words = self.log(random, time);
+        for _ in 0..random.within(1..3) {
+            match random.below(6) {
+                // a message over the limit, with its stream
+                0 => {
+                    let (index, thread) = self.thread(random);
+                    words = log_record(time, index, thread, &name(random, 255..260));
+                }
+                // another length in the same record
+                1 if random.chance(50) => words[0] |= 1 << random.within(16..31),
+                1 => {
+                    let length = [random.below(20), random.within(250..270), 300, random.below(0x8000)][random.below(4)];
+                    words[0] = words[0] & !0x7fff0000 | (length as u64) << 16;
+                }
+                2 => words.truncate(random.within(1..words.len() + 1).min(random.within(1..6))),
+                // any thread
+                3 => words[0] = words[0] & !(0xff << 32) | (random.next() & 0xff & random.next()) << 32,
+                // reserved bits
+                4 => words[0] |= 1 << [31, random.within(40..64)][random.below(2)],
+                // words beyond those listed; a bit of padding, where there is some
+                _ => {
+                    if random.chance(50) {
+                        words.push(random.next() % 2);
+                    }
+                    *words.last_mut().unwrap() |= 1 << random.within(56..64);
+                }
+            }
+        }
+        words[0] = words[0] & !0xfff0 | (words.len() as u64) << 4;
+        words
     }
 }
 
@@ -163,12 +232,13 @@ pub fn late_number(_: &mut Random, i: usize) -> Vec<u8> {
     format!("{:240}{i:04}{:12}", "com.vendor", ".completed").into_bytes()
 }
 
-// What a long archive is made of: of a hundred references so many are spelled, an event has up to so many arguments, and each
-// provider so many texts of one spelling and so many threads, all registered.
+// What a long archive is made of: of a hundred references so many are spelled, an event has up to so many arguments, of a hundred
+// events and logs so many are logs, and each provider has so many texts of one spelling and so many threads, all registered.
 #[derive(Clone, Copy)]
 pub struct Long {
     pub inline: usize,
     pub arguments: usize,
+    pub logs: usize,
     pub providers: usize,
     pub texts: usize,
     pub threads: usize,
@@ -177,11 +247,11 @@ pub struct Long {
 
 impl Long {
     pub const fn new(inline: usize, arguments: usize) -> Self {
-        Long { inline, arguments, providers: 5, texts: 100, threads: 20, spelling: any_letters }
+        Long { inline, arguments, logs: 0, providers: 5, texts: 100, threads: 20, spelling: any_letters }
     }
 }
 
-// A long archive, with events in turns of a few hundred for each provider.
+// A long archive, with events and logs in turns of a few hundred for each provider.
 pub fn long(bytes: usize, seed: u64, of: Long) -> Vec<u8> {
     let mut random = Random(seed);
     let ids = &[7, 11, 900, 12_345, u32::MAX, 1, 2, 3][..of.providers];
@@ -206,7 +276,10 @@ pub fn long(bytes: usize, seed: u64, of: Long) -> Vec<u8> {
         words.extend(section_record(ids[provider]));
         for _ in 0..random.within(100..400) {
             time += random.below(1000) as u64;
-            words.extend(styles[provider].event(&mut random, time));
+            // no number is drawn for logs where there are none, so that their coming changed no other archive
+            let log = of.logs != 0 && random.chance(of.logs);
+            let style = &styles[provider];
+            words.extend(if log { style.log(&mut random, time) } else { style.event(&mut random, time) });
         }
     }
     bytes_of(&words)
@@ -223,6 +296,7 @@ pub fn records(random: &mut Random) -> Vec<Vec<u64>> {
         arguments: random.below(16),
     };
     let long_names = random.chance(10);
+    let odd_logs = random.chance(40);
     let ids = if random.chance(25) { 40 } else { 5 };
     let mut records = vec![vec![MAGIC]];
     for _ in 0..random.within(1..40) {
@@ -242,7 +316,7 @@ pub fn records(random: &mut Random) -> Vec<Vec<u64>> {
                 // a type, metadata kind or event type that is skipped
                 let size = random.within(1..5);
                 let mut words = vec![random.next() % 100; size];
-                words[0] = random.within(5..16) as u64 | (size as u64) << 4;
+                words[0] = skipped_type(random) | (size as u64) << 4;
                 if random.chance(30) {
                     words[0] = (size as u64) << 4 | (random.within(4..16) as u64) << 16 | (random.within(1..16) as u64) << 20;
                 } else if random.chance(30) {
@@ -251,6 +325,8 @@ pub fn records(random: &mut Random) -> Vec<Vec<u64>> {
                 words
             }
             25 => vec![MAGIC],
+            26..=28 => style.log(random, records.len() as u64),
+            29 | 30 if odd_logs => style.odd_log(random, records.len() as u64),
             _ => {
                 let mut words = style.event(random, records.len() as u64);
                 if random.chance(5) {
@@ -328,6 +404,7 @@ pub fn sound(random: &mut Random) -> Vec<Vec<u64>> {
                 style.threads[index][0] += 1;
                 thread_record(index + 1, style.threads[index])
             }
+            8..=15 => style.log(random, turn as u64),
             _ => style.event(random, turn as u64),
         });
     }
@@ -355,15 +432,18 @@ pub fn every_kind(random: &mut Random) -> Vec<u8> {
     words.extend([4 | (3 + arguments.len() as u64) << 4 | 1 << 16 | 10 << 20 | 1 << 24 | 1 << 32 | 2 << 48, 5]);
     words.extend(arguments);
     words.push(6);
+    words.extend(log_record(7, 1, [0, 0], b"one"));
+    words.extend(log_record(8, 0, [3, 4], b"log message"));
+    words.extend(log_record(9, 0, [1, 2], b""));
     bytes_of(&words)
 }
 
-// An archive that repacking would take but for a bit, a byte or a word that it would lose.
+// An archive that repacking would take but for a bit, a byte or a word that it would lose, or a thread that is not registered.
 pub fn lossy(random: &mut Random) -> Vec<u8> {
     let mut records = sound(random);
     let at = random.below(records.len());
     let last = records[at].len() - 1;
-    match random.below(5) {
+    match random.below(7) {
         0 => records[at][0] |= 1 << random.within(16..64),
         1 => records[at][last] |= 1 << random.within(32..64),
         2 => {
@@ -374,30 +454,50 @@ pub fn lossy(random: &mut Random) -> Vec<u8> {
             records[at].push(0);
             records[at][0] += 1 << 4;
         }
-        _ => records.insert(at, vec![random.within(5..16) as u64 | 1 << 4]),
+        4 => records.insert(at + 1, vec![skipped_type(random) | 1 << 4]),
+        5 => {
+            let length = random.within(1..40);
+            let message = name(random, length..length + 1);
+            let mut log = log_record(5, 0, [1, 1], &message);
+            let padding = message.len().next_multiple_of(8) - message.len();
+            match random.below(3) {
+                0 if padding != 0 => *log.last_mut().unwrap() |= 1 << random.within(64 - 8 * padding..64),
+                1 => {
+                    log.push(random.next() % 2);
+                    log[0] += 1 << 4;
+                }
+                _ => log[0] |= 1 << [31, random.within(40..64)][random.below(2)],
+            }
+            records.insert(at + 1, log);
+        }
+        _ => records.insert(at + 1, log_record(5, random.within(6..256), [0, 0], b"unresolved")),
     }
     bytes_of(&records.concat())
 }
 
-// An archive with so many distinct texts and threads in its last context.
+// An archive with so many distinct texts and threads in its last context. Some threads are first used by a log; messages are more.
 pub fn many(random: &mut Random, texts: usize, threads: usize) -> Vec<u8> {
     let mut words = vec![MAGIC];
     words.extend(section_record(7));
     for i in 0..texts.max(threads) + random.below(40) {
         let text = (i % texts).to_string();
-        let body = [vec![i as u64, 1, (i % threads) as u64], stream(text.as_bytes())].concat();
+        let thread = [1, (i % threads) as u64];
+        if random.chance(50) {
+            words.extend(log_record(i as u64, 0, thread, format!("message {i}").as_bytes()));
+        }
+        let body = [vec![i as u64], thread.to_vec(), stream(text.as_bytes())].concat();
         words.push(4 | (1 + body.len() as u64) << 4 | (0x8000 | text.len() as u64) << 32);
         words.extend(body);
     }
     bytes_of(&words)
 }
 
-// How many events an archive has.
+// How many events and logs an archive has.
 pub fn events(archive: &[u8]) -> usize {
     let (mut place, mut count) = (0, 0);
     while place + 8 <= archive.len() {
         let header = u64::from_le_bytes(archive[place..place + 8].try_into().unwrap());
-        count += (header & 15 == 4) as usize;
+        count += matches!(header & 15, 4 | 9) as usize;
         place += 8 * (header as usize >> 4 & 0xfff);
     }
     count
@@ -471,7 +571,7 @@ pub fn damaged(random: &mut Random, mut records: Vec<Vec<u64>>) -> Vec<u8> {
     }
 }
 
-// An archive with an event, and entries of the first context that name records where no reading would have left them:
+// An archive with an event or a log, and entries of the first context that name records where no reading would have left them:
 // in the body of a skipped record, aligned or not, or in the words behind the event's own.
 pub struct Planted {
     pub archive: Vec<u8>,
@@ -491,11 +591,12 @@ pub fn planted(random: &mut Random) -> Planted {
     };
     let mut entries = vec![];
     let mut body = vec![];
-    let mut event = style.event(random, 5);
+    let log = random.chance(25);
+    let mut event = if log { style.log(random, 5) } else { style.event(random, 5) };
     let listed = event.len();
     let base = if random.chance(20) { random.within(1..8) } else { 0 };
     for i in 1..=many {
-        let (mut record, position) = if random.chance(70) {
+        let (mut record, position) = if random.chance(if log { 20 } else { 70 }) {
             let length = if random.chance(40) { random.within(250..264) } else { random.within(0..20) };
             (string_record(i, &name(random, length..length + 1)), i)
         } else {

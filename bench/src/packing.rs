@@ -135,7 +135,7 @@ pub fn test(many: usize) {
     }
     println!("an archive with each of its {} bits changed: no difference", 8 * whole.len());
     for n in [16_777_208, 16_777_216, 16_777_217, 16_777_224] {
-        let mut long = make::long(n, 5, Long::new(50, 3));
+        let mut long = make::long(n, 5, Long { logs: 20, ..Long::new(50, 3) });
         long.truncate(n);
         long.resize(n, 0);
         if let Err(what) = compare(&mut random, &long, ROOM_WORDS, n) {
@@ -162,6 +162,7 @@ pub fn time(mib: usize) {
         ("inline, 500 texts", near(100, 5)),
         ("inline, 500 texts, 8 providers", near(100, 8)),
         ("registered, no arguments", Long::new(10, 0)),
+        ("registered, a third logs", Long { logs: 33, ..Long::new(10, 6) }),
         // names of one pattern and a number; of 256 bytes, the number at 240 to 243
         ("..worker-0001.phase.1.completed, 100 texts", spelled(100, make::worker_and_phase)),
         ("c001of9, 500 texts", spelled(500, make::part_of_nine)),

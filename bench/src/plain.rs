@@ -1,4 +1,5 @@
-// A plain Rust reader of Fuchsia traces, written for comparison: document 01's checks and replies, and nothing proved.
+// A plain Rust reader of Fuchsia traces, written for comparison: the checks and replies of document 01 and of request W1 (logs), and
+// nothing proved.
 // A record is read through a cursor; what it refers to is looked up in the tables of its context.
 
 pub const CONTEXT_WORDS: usize = 768;
@@ -20,6 +21,12 @@ pub struct State {
 impl Default for State {
     fn default() -> Self {
         State { place: 0, rate: 1_000_000_000, ids: [0; 8], count: 0, current: 0 }
+    }
+}
+
+impl State {
+    fn provider(&self) -> Option<u32> {
+        self.current.checked_sub(1).map(|slot| self.ids[slot])
     }
 }
 
@@ -77,6 +84,18 @@ pub struct Event {
     pub extra: Option<u64>,
 }
 
+// The message is so many bytes at a place of the archive.
+#[derive(Clone, Copy, Debug)]
+pub struct Log {
+    pub place: usize,
+    pub provider: Option<u32>,
+    pub timestamp: u64,
+    pub rate: u64,
+    pub thread: Thread,
+    pub message: usize,
+    pub length: usize,
+}
+
 #[derive(Clone, Copy, Debug)]
 pub enum Item {
     Magic,
@@ -85,6 +104,7 @@ pub enum Item {
     ProviderEvent { id: u32, event: u8 },
     Initialization { rate: u64 },
     Event(Event),
+    Log(Log),
     Skipped { kind: u8, size: u64 },
 }
 
@@ -179,6 +199,13 @@ impl Cursor<'_> {
         Ok(word(self.archive, place))
     }
 
+    fn stream(&mut self, length: usize) -> Result<usize, u8> {
+        if length > LONGEST_TEXT {
+            return Err(7);
+        }
+        self.take(stream_bytes(length))
+    }
+
     fn text(&mut self, reference: u64) -> Result<Reference, u8> {
         if reference == 0 {
             return Ok(Reference::Inline { place: self.at, length: 0 });
@@ -187,10 +214,7 @@ impl Cursor<'_> {
             return Ok(Reference::Index(reference as usize));
         }
         let length = (reference - 0x8000) as usize;
-        if length > LONGEST_TEXT {
-            return Err(7);
-        }
-        let place = self.take(stream_bytes(length))?;
+        let place = self.stream(length)?;
         Ok(Reference::Inline { place, length })
     }
 
@@ -387,6 +411,7 @@ fn read(archive: &[u8], state: &mut State, tables: &mut [u32]) -> Result<Option<
             None
         }
         4 if bits(header, 16, 19) <= 10 => Some(Item::Event(event(archive, state, tables, header, end)?)),
+        9 => Some(Item::Log(log(archive, state, tables, header, end)?)),
         kind => Some(Item::Skipped { kind: kind as u8, size: size_of(header) as u64 / 8 }),
     };
     state.place = end;
@@ -450,7 +475,7 @@ fn event(archive: &[u8], state: &State, tables: &[u32], header: u64, end: usize)
     }
     Ok(Event {
         place,
-        provider: state.current.checked_sub(1).map(|slot| state.ids[slot]),
+        provider: state.provider(),
         kind: head.kind,
         timestamp: head.timestamp,
         rate: state.rate,
@@ -460,6 +485,17 @@ fn event(archive: &[u8], state: &State, tables: &[u32], header: u64, end: usize)
         count: head.count,
         extra,
     })
+}
+
+fn log(archive: &[u8], state: &State, tables: &[u32], header: u64, end: usize) -> Result<Log, u8> {
+    let place = state.place;
+    let length = bits(header, 16, 30) as usize;
+    let mut body = Cursor { archive, at: place + 8, end };
+    let timestamp = body.word()?;
+    let thread = body.thread(bits(header, 32, 39))?;
+    let message = body.stream(length)?;
+    let thread = Lookup::new(archive, tables, state.current, place).thread(thread).ok_or(4)?;
+    Ok(Log { place, provider: state.provider(), timestamp, rate: state.rate, thread, message, length })
 }
 
 // An argument of the event at a place, by its number from 0, in the state right after that event.

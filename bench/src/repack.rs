@@ -1,4 +1,5 @@
-// A plain Rust repacker, written for comparison: document 01's checks and replies and its repacking rule, with the hash maps of std.
+// A plain Rust repacker, written for comparison: the checks and replies of document 01 and of request W1 (logs) and the repacking rule,
+// with the hash maps of std.
 // The archive is read twice: once to find what it is refused by and to count the uses, once to write.
 use crate::plain::{bits, record, stream_bytes, word, Stop, HIGHEST_INDEX, LONGEST_ARCHIVE, LONGEST_TEXT, MAGIC};
 use std::collections::HashMap;
@@ -42,6 +43,7 @@ enum Record<'a> {
     ProviderEvent { id: u32, event: u64 },
     Initialization { rate: u64 },
     Event(Event<'a>),
+    Log { timestamp: u64, thread: Thread, message: &'a [u8] },
     // a string or thread record, or one that is skipped
     Nothing,
 }
@@ -200,6 +202,13 @@ impl<'a> Reader<'a> {
                 Record::Nothing
             }
             4 if bits(header, 16, 19) <= 10 => self.event(&mut body, header)?,
+            9 => {
+                let timestamp = body.word()?;
+                let thread = self.tables[self.current].thread(&mut body, bits(header, 32, 39))?;
+                let message = body.stream(bits(header, 16, 30) as usize)?;
+                body.finish(bits(header, 31, 31) | bits(header, 40, 63));
+                Record::Log { timestamp, thread, message }
+            }
             _ => {
                 body.lost = true;
                 Record::Nothing
@@ -285,6 +294,15 @@ fn texts<'a, 'r>(event: &Event<'a>, arguments: &'r [Argument<'a>]) -> impl Itera
     [event.category, event.name].into_iter().chain(arguments.iter().flat_map(of_argument))
 }
 
+// Whether a record has an unresolved reference.
+fn unresolved(read: &Record, arguments: &[Argument]) -> bool {
+    match read {
+        Record::Event(event) => event.thread.is_none() || texts(event, arguments).any(|text| text.is_none()),
+        Record::Log { thread, .. } => thread.is_none(),
+        _ => false,
+    }
+}
+
 // How often a text or a thread is used, and the index that it was given, from 1.
 #[derive(Default)]
 struct Use {
@@ -312,13 +330,23 @@ struct Uses<'a> {
 }
 
 impl<'a> Uses<'a> {
-    // Counts an event without unresolved references; false where there are too many texts or threads by now.
-    fn count(&mut self, event: &Event<'a>, arguments: &[Argument<'a>]) -> bool {
-        self.threads.entry(event.thread.unwrap()).or_default().count += 1;
-        for text in texts(event, arguments).flatten().filter(|text| !text.is_empty()) {
-            self.texts.entry(text).or_default().count += 1;
+    // Counts a record without unresolved references; false where there are too many texts or threads by now. A message is no use.
+    fn count(&mut self, read: &Record<'a>, arguments: &[Argument<'a>]) -> bool {
+        match read {
+            Record::Event(event) => {
+                self.count_thread(event.thread);
+                for text in texts(event, arguments).flatten().filter(|text| !text.is_empty()) {
+                    self.texts.entry(text).or_default().count += 1;
+                }
+            }
+            Record::Log { thread, .. } => self.count_thread(*thread),
+            _ => {}
         }
         self.texts.len() <= MOST_TEXTS && self.threads.len() <= MOST_THREADS
+    }
+
+    fn count_thread(&mut self, thread: Thread) {
+        self.threads.entry(thread.unwrap()).or_default().count += 1;
     }
 
     fn words(&self) -> usize {
@@ -328,7 +356,7 @@ impl<'a> Uses<'a> {
     }
 }
 
-// The words of a record without texts and threads.
+// The words of a record without the texts and threads that it uses.
 fn fixed_words(read: &Record, arguments: &[Argument]) -> usize {
     match read {
         Record::Nothing => 0,
@@ -339,6 +367,7 @@ fn fixed_words(read: &Record, arguments: &[Argument]) -> usize {
             let words = arguments.iter().filter(|argument| matches!(argument.value, Value::Word(_))).count();
             2 + arguments.len() + words + event.extra.is_some() as usize
         }
+        Record::Log { message, .. } => 2 + message.len().div_ceil(8),
     }
 }
 
@@ -355,12 +384,10 @@ fn count(archive: &[u8]) -> Result<(Vec<Uses<'_>>, usize), Stop> {
         if lost {
             found[0].get_or_insert(place);
         }
-        if let Record::Event(event) = read {
-            if event.thread.is_none() || texts(&event, &reader.arguments).any(|text| text.is_none()) {
-                found[1].get_or_insert(place);
-            } else if found == [None; 3] && !uses[reader.current].count(&event, &reader.arguments) {
-                found[2].get_or_insert(place);
-            }
+        if unresolved(&read, &reader.arguments) {
+            found[1].get_or_insert(place);
+        } else if found == [None; 3] && !uses[reader.current].count(&read, &reader.arguments) {
+            found[2].get_or_insert(place);
         }
     }
     for (number, place) in (10..).zip(found) {
@@ -431,6 +458,14 @@ impl Writer<'_> {
         }
     }
 
+    fn inline_thread(&mut self, reference: u64, thread: Thread) {
+        if reference == 0 {
+            for word in thread.unwrap() {
+                self.word(word);
+            }
+        }
+    }
+
     fn argument(&mut self, argument: &Argument, name: u64, value: u64) {
         let start = self.at;
         self.word(0);
@@ -453,8 +488,7 @@ impl Writer<'_> {
     }
 
     fn event(&mut self, uses: &mut Uses, event: &Event, arguments: &[Argument], references: &mut Vec<u64>) {
-        let thread = event.thread.unwrap();
-        let thread_reference = self.thread(uses, thread);
+        let thread = self.thread(uses, event.thread.unwrap());
         references.clear();
         for text in texts(event, arguments) {
             references.push(self.text(uses, text.unwrap()));
@@ -463,10 +497,7 @@ impl Writer<'_> {
         let start = self.at;
         self.word(0);
         self.word(event.timestamp);
-        if thread_reference == 0 {
-            self.word(thread[0]);
-            self.word(thread[1]);
-        }
+        self.inline_thread(thread, event.thread);
         self.inline(category, event.category);
         self.inline(name, event.name);
         for (argument, pair) in arguments.iter().zip(references[2..].chunks_exact(2)) {
@@ -477,7 +508,18 @@ impl Writer<'_> {
         }
         let size = (self.at - start) as u64 / 8;
         let count = arguments.len() as u64;
-        self.header(start, 4 | size << 4 | event.kind << 16 | count << 20 | thread_reference << 24 | category << 32 | name << 48);
+        self.header(start, 4 | size << 4 | event.kind << 16 | count << 20 | thread << 24 | category << 32 | name << 48);
+    }
+
+    fn log(&mut self, uses: &mut Uses, timestamp: u64, thread: Thread, message: &[u8]) {
+        let reference = self.thread(uses, thread.unwrap());
+        let start = self.at;
+        self.word(0);
+        self.word(timestamp);
+        self.inline_thread(reference, thread);
+        self.stream(message);
+        let size = (self.at - start) as u64 / 8;
+        self.header(start, 9 | size << 4 | (message.len() as u64) << 16 | reference << 32);
     }
 }
 
@@ -502,6 +544,7 @@ fn write(archive: &[u8], mut uses: Vec<Uses>, output: &mut [u8]) -> usize {
                 writer.word(rate);
             }
             Record::Event(event) => writer.event(&mut uses[reader.current], &event, &reader.arguments, &mut references),
+            Record::Log { timestamp, thread, message } => writer.log(&mut uses[reader.current], timestamp, thread, message),
         }
     }
     writer.at

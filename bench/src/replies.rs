@@ -7,10 +7,11 @@ pub const ANSWER: usize = 20;
 pub const STATE: usize = 12;
 pub const REPLY: usize = ANSWER + STATE;
 
-// The first number of an end or a refusal, of an event and of an argument.
+// The first number of an end or a refusal, of an event, of an argument and of a log; 11 is a repacking's.
 pub const END: u64 = 1;
 pub const EVENT: u64 = 8;
 pub const ARGUMENT: u64 = 10;
+pub const LOG: u64 = 12;
 
 // Each call answers how many numbers it put: 0 where the words are too few, and then they are as they were.
 pub trait Reader {
@@ -31,6 +32,10 @@ fn thread(t: Thread) -> [u64; 3] {
         Thread::Words { process, thread } => [1, process, thread],
         Thread::Unresolved(index) => [2, index as u64, 0],
     }
+}
+
+fn provider(id: Option<u32>) -> [u64; 2] {
+    id.map_or([0, 0], |id| [1, id as u64])
 }
 
 fn value(v: Value) -> [u64; 4] {
@@ -87,10 +92,15 @@ fn put_answer(out: &mut [u64; ANSWER], answer: Result<Option<Item>, Stop>) {
         Ok(Some(Item::Initialization { rate })) => short(7, rate, 0, 0),
         Ok(Some(Item::Skipped { kind, size })) => short(9, kind as u64, size, 0),
         Ok(Some(Item::Event(e))) => {
-            let [p, q] = e.provider.map_or([0, 0], |id| [1, id as u64]);
+            let [p, q] = provider(e.provider);
             let ([r, s, t], [c, d, f], [l, m, n]) = (thread(e.thread), text(e.category), text(e.name));
             let (place, kind, count, extra) = (e.place as u64, e.kind as u64, e.count as u64, e.extra.unwrap_or(0));
             [EVENT, place, p, q, kind, e.timestamp, e.rate, r, s, t, c, d, f, l, m, n, count, extra, 0, 0]
+        }
+        Ok(Some(Item::Log(l))) => {
+            let ([p, q], [r, s, t]) = (provider(l.provider), thread(l.thread));
+            let (place, message, length) = (l.place as u64, l.message as u64, l.length as u64);
+            [LOG, place, p, q, l.timestamp, l.rate, r, s, t, message, length, 0, 0, 0, 0, 0, 0, 0, 0, 0]
         }
     };
 }

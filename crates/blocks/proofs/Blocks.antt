@@ -9,6 +9,8 @@ use lib.Seq.{getD-take}
 use borrow.Author.Tests.{lt-ltb, le-ltb}
 use Rattle.words.specs.Stream.{overwritten}
 use Rattle.words.proofs.Streams.{overwritten-twice}
+use Rattle.records.specs.declared.Own.{Own}
+use Rattle.records.specs.declared.Own.the-variants.{Event as EventOwn, Log as LogOwn}
 use Rattle.contexts.specs.declared.State.{State}
 use Rattle.contexts.specs.declared.Provider.{Provider}
 use Rattle.contexts.specs.declared.Provider.the-variants.{None, Id}
@@ -18,13 +20,14 @@ use Rattle.views.specs.declared.ShownThread.{ShownThread}
 use Rattle.views.specs.declared.ShownThread.the-variants.{Words, Unresolved as ThreadUnresolved}
 use Rattle.views.specs.declared.ShownReferent.{ShownReferent}
 use Rattle.views.specs.declared.ShownReferent.the-variants.{Text as TextReferent, Thread as ThreadReferent}
+use Rattle.views.specs.declared.ShownReport.{ShownReport}
 use Rattle.views.specs.declared.ShownValue.{ShownValue}
 use Rattle.views.specs.declared.ShownValue.the-variants.{Scalar as ScalarShown, Text as TextShown}
 use Rattle.reader.specs.declared.Asked.{Asked}
 use Rattle.reader.specs.declared.Asked.the-variants.{Refused, Argument as ArgumentShown}
 use Rattle.reader.specs.declared.Answer.{Answer}
 use Rattle.reader.specs.declared.Answer.the-variants.{End, Nothing, Magic, ProviderInfo, Section, ProviderEvent, Initialization, Report, Skipped}
-use Rattle.reader.specs.Numbers.{textValues, threadValues, referentValues, providerValues, valueValues, answerValues, askedValues}
+use Rattle.reader.specs.Numbers.{textValues, threadValues, referentValues, providerValues, valueValues, reportValues, answerValues, askedValues}
 use Rattle.blocks.specs.Block.{block, answerNumbers, askedNumbers, stateNumbers, givenState, putNumbers}
 
 -- a block is as long as it is said to be, where its values fit
@@ -52,7 +55,12 @@ pub length-value : (v : ShownValue) → length (valueValues v) ≡ 4
 length-value (ScalarShown s) = refl
 length-value (TextShown t) = ap suc (length-text t)
 
--- an answer has at most eighteen values, those of a report
+-- a report has at most eighteen values, those of an event
+report-values : (own : Own) (r : ShownReport) → length (reportValues own r) ≤ 18
+report-values (EventOwn e) r = simp (length-append, length-provider, length-referent) (omega arith)
+report-values (LogOwn l) r = simp (length-append, length-provider, length-referent) (omega arith)
+
+-- and so has an answer
 answer-values : (a : Answer) → length (answerValues a) ≤ 18
 answer-values (End number place) = omega arith
 answer-values Nothing = omega arith
@@ -61,7 +69,7 @@ answer-values (ProviderInfo id place long) = omega arith
 answer-values (Section id) = omega arith
 answer-values (ProviderEvent id event) = omega arith
 answer-values (Initialization rate) = omega arith
-answer-values (Report r) = simp (length-append, length-provider, length-referent) (omega arith)
+answer-values (Report r) = report-values (r .own) r
 answer-values (Skipped type size) = omega arith
 
 -- what is answered for an argument has at most eight

@@ -7,7 +7,7 @@ ghost use lib.ListN.{length, getD};
 ghost use Rattle.words.specs.Stream.{overwritten};
 ghost use Rattle.words.specs.Word.{unsigned, bit};
 ghost use Rattle.arguments.specs.Argument.{scalarType};
-ghost use Rattle.reader.specs.Numbers.{textValues, threadValues, referentValues, providerValues, scalarValue, valueValues};
+ghost use Rattle.reader.specs.Numbers.{textValues, threadValues, referentValues, providerValues, scalarValue, valueValues, eventValues, logValues};
 ghost use Rattle.blocks.specs.Block.{block, answerNumbers, askedNumbers, stateNumbers, replyNumbers, givenState, putCount, putNumbers};
 use arguments::Scalar;
 use contexts::Provider;
@@ -15,6 +15,9 @@ use contexts::State;
 use reader::Answer;
 use reader::Asked;
 use reader::Reply;
+use records::Event;
+use records::Log;
+use records::Own;
 use views::ShownArgument;
 use views::ShownReferent;
 use views::ShownReport;
@@ -174,12 +177,11 @@ fn put_short(out: &mut [u64], a: u64, b: u64, c: u64, d: u64)
     put_four(out, 16, 0, 0, 0, 0);
 }
 
-// The block of a record that refers to texts and threads.
-fn put_report(out: &mut [u64], report: ShownReport)
+// The block of an event.
+fn put_event(out: &mut [u64], event: Event, report: ShownReport)
     requires { ⌜ 20 ≤ length (now out) ⌝ }
-    ensures { λ _. ⌜ now (out .exit) ≡ overwritten (now (out .entry)) 0 (answerNumbers (Answer.Report report)) ⌝ }
+    ensures { λ _. ⌜ now (out .exit) ≡ overwritten (now (out .entry)) 0 (block 20 (eventValues event report)) ⌝ }
 {
-    let own = report.own;
     let shown_provider = report.provider;
     let shown_first = report.first;
     let shown_second = report.second;
@@ -192,14 +194,57 @@ fn put_report(out: &mut [u64], report: ShownReport)
     put_four(
         out,
         4,
-        own.variant as u64,
-        own.timestamp,
+        event.variant as u64,
+        event.timestamp,
         report.rate,
         first.tag,
     );
     put_four(out, 8, first.first, first.second, second.tag, second.first);
     put_four(out, 12, second.second, third.tag, third.first, third.second);
     put_four(out, 16, report.count as u64, report.last, 0, 0);
+}
+
+// The block of a log.
+fn put_log(out: &mut [u64], log: Log, report: ShownReport)
+    requires { ⌜ 20 ≤ length (now out) ⌝ }
+    ensures { λ _. ⌜ now (out .exit) ≡ overwritten (now (out .entry)) 0 (block 20 (logValues log report)) ⌝ }
+{
+    let shown_provider = report.provider;
+    let shown_thread = report.first;
+    let message = report.stream;
+    let provider = provider_choice(shown_provider);
+    let thread = referent_choice(shown_thread);
+    put_four(
+        out,
+        0,
+        12,
+        report.place as u64,
+        provider.tag,
+        provider.first,
+    );
+    put_four(out, 4, log.timestamp, report.rate, thread.tag, thread.first);
+    put_four(
+        out,
+        8,
+        thread.second,
+        message.place as u64,
+        message.length as u64,
+        0,
+    );
+    put_four(out, 12, 0, 0, 0, 0);
+    put_four(out, 16, 0, 0, 0, 0);
+}
+
+// The block of a record that refers to texts and threads, by its kind.
+fn put_report(out: &mut [u64], report: ShownReport)
+    requires { ⌜ 20 ≤ length (now out) ⌝ }
+    ensures { λ _. ⌜ now (out .exit) ≡ overwritten (now (out .entry)) 0 (answerNumbers (Answer.Report report)) ⌝ }
+{
+    let own = report.own;
+    match own {
+        Own::Event(event) => put_event(out, event, report),
+        Own::Log(log) => put_log(out, log, report),
+    }
 }
 
 // The block of an answer.

@@ -1,6 +1,7 @@
-// Lists and repacks every case of the file corpus.bin: cases one after another, each a 32-bit length and that many bytes of
-// archive, at most 32,768. What a case shows is written at once. Reading or writing that fails, and a file that ends
-// inside a case, are said on standard error and stop the program.
+// Lists and repacks every case of the file corpus.bin: cases one after another, each a header of 16 bytes, which begins with
+// the archive's length, and an archive of at most 32,768 bytes. What a case shows is written at once. Reading or writing
+// that fails, a file that ends inside a case, and a case that wants what is not read yet (a names sheet, the full size) are
+// said on standard error and stop the program.
 ghost use mathlib.Core.Path.{_≡_};
 ghost use lib.ListN.{length};
 use files::input::Outcome;
@@ -10,10 +11,12 @@ use lines::put_bytes;
 use lines::put_number;
 use packer::Packed;
 
-// The length of a case, none at the file's end, or that it could not be read.
+// The length of a case's archive, none at the file's end, that the case has a sheet or another size, or that its header could
+// not be read.
 enum Length {
     Bytes(usize),
     None,
+    Other,
     Failed,
 }
 
@@ -23,11 +26,25 @@ fn fail(sentence: &[u8]) -> bool {
     false
 }
 
+// The length in a header whose two words are these. A case without a sheet has all bits of its sheet's length set.
+fn length_of(first: u64, second: u64) -> Length {
+    if words::field(first, 32, 63) != 0xffff_ffff {
+        return Length::Other;
+    }
+    if second != 0 {
+        return Length::Other;
+    }
+    Length::Bytes(words::field(first, 0, 31) as usize)
+}
+
 fn read_length(fd: i32) -> Length {
-    let mut bytes = [0u8; 8];
-    let outcome = files::input::read_bytes(fd, &mut bytes, 4);
+    let mut header = [0u8; 16];
+    let outcome = files::input::read_bytes(fd, &mut header, 16);
     match outcome {
-        Outcome::All => Length::Bytes(words::little_word(&bytes, 0) as usize),
+        Outcome::All => length_of(
+            words::little_word(&header, 0),
+            words::little_word(&header, 8),
+        ),
         Outcome::End => Length::None,
         Outcome::Failed => Length::Failed,
     }
@@ -99,6 +116,7 @@ fn next_case(fd: i32, case: u64, room: &mut [u32], out: &mut [u8]) -> bool {
     match length {
         Length::Bytes(n) => show_case(fd, case, n, room, out),
         Length::None => false,
+        Length::Other => fail(b"corpus: a case has a sheet or another size\n"),
         Length::Failed => fail(b"corpus: corpus.bin could not be read to the end of a case\n"),
     }
 }

@@ -14,9 +14,9 @@ use Rattle.format.specs.declared.Format.{Format}
 use Rattle.format.specs.Limits.{smallFormat}
 use Rattle.format.specs.Part.{takePart, takeParts}
 use Rattle.records.specs.declared.Content.the-variants.{Magic, ProviderInfo, Section, ProviderEvent, Initialization}
-use Rattle.records.specs.Layout.{isEvent, layoutOf}
+use Rattle.records.specs.Layout.{isEvent, eventLayout, layoutOf}
 use Rattle.records.specs.Record.{providerInfoOf, metadataOf, initializationOf, contentOf, recordAt}
-use Rattle.records.specs.Item.{Item, magic, providerInfo, section, providerEvent, initialization, report, skipped, layoutOfItem, stream, words, Key}
+use Rattle.records.specs.Item.{Item, magic, providerInfo, section, providerEvent, initialization, report, skipped, layoutOfItem, stream, words, Key, textKey}
 use Rattle.encoding.specs.Encoded.{partsBytes, encodedPieces, recordBytes, layoutHeader, layoutBody, itemRecord}
 use Rattle.encoding.proofs.EncodedParts.{words-read, stream-read}
 use Rattle.encoding.proofs.EncodedRecords.{RecordFits, at-start, length-record, own-field, record-at}
@@ -71,8 +71,8 @@ small-item index (skipped type size) suits pieces fit = absurd suits
 -- ---- items that refer to nothing
 
 -- the magic fits
-pub magic-fits : (f : Format) (index : Key → ℕ) → ItemFits f index magic
-magic-fits f index = record { suits = tt; layout = record { pieces = tt; arguments = tt; last = tt; size = omega arith } }
+pub magic-fits : (f : Format) (index : Key → ℕ) → index (textKey []) ≡ 0 → ItemFits f index magic
+magic-fits f index none = record { suits = tt; empty = none; layout = record { pieces = tt; arguments = tt; last = tt; size = omega arith } }
 
 -- the magic as a word, in each order
 abbrev magicWord : ℕ
@@ -104,13 +104,13 @@ initialization-record f index rate =
 module _ (f : Format) (index : Key → ℕ) (place : ℕ) where
   -- the magic is read as the magic
   pub magic-read : contentOf f (itemRecord f index magic) place ≡ Magic
-  unfolding contentOf layoutOf isEvent metadataOf magicBytes startsWithMagic
+  unfolding contentOf layoutOf eventLayout isEvent metadataOf magicBytes startsWithMagic
   magic-read = rw (magic-record f index, magic-word (f .order))
 
   -- a provider info is read as its id and its name, which stands behind the header
   pub provider-info-read : (id : ℕ) (name : List ℕ) → ItemFits f index (providerInfo id name)
       → contentOf f (itemRecord f index (providerInfo id name)) place ≡ ProviderInfo id (place + 8) (length name)
-  unfolding contentOf layoutOf isEvent metadataOf providerInfoOf takeParts takePart
+  unfolding contentOf layoutOf eventLayout isEvent metadataOf providerInfoOf takeParts takePart
   provider-info-read id name fit =
       let i = providerInfo id name in
       let fits = item-fits f index i fit .fits in
@@ -125,14 +125,14 @@ module _ (f : Format) (index : Key → ℕ) (place : ℕ) where
 
   -- a section is read as its id
   pub section-read : (id : ℕ) → ItemFits f index (section id) → contentOf f (itemRecord f index (section id)) place ≡ Section id
-  unfolding contentOf layoutOf isEvent metadataOf
+  unfolding contentOf layoutOf eventLayout isEvent metadataOf
   section-read id fit =
       let fits = item-fits f index (section id) fit .fits in rw (own-field f fits 0, own-field f fits 2, own-field f fits 3)
 
   -- a provider event is read as its id and its event
   pub provider-event-read : (id e : ℕ) → ItemFits f index (providerEvent id e)
       → contentOf f (itemRecord f index (providerEvent id e)) place ≡ ProviderEvent id e
-  unfolding contentOf layoutOf isEvent metadataOf
+  unfolding contentOf layoutOf eventLayout isEvent metadataOf
   provider-event-read id e fit =
       let fits = item-fits f index (providerEvent id e) fit .fits in
       rw (own-field f fits 0, own-field f fits 2, own-field f fits 3, own-field f fits 4)
@@ -140,7 +140,7 @@ module _ (f : Format) (index : Key → ℕ) (place : ℕ) where
   -- an initialization is read as its rate
   pub initialization-read : (rate : ℕ) → ItemFits f index (initialization rate)
       → contentOf f (itemRecord f index (initialization rate)) place ≡ Initialization rate
-  unfolding contentOf layoutOf isEvent initializationOf takeParts takePart
+  unfolding contentOf layoutOf eventLayout isEvent initializationOf takeParts takePart
   initialization-read rate fit =
       let i = initialization rate in
       let fits = item-fits f index i fit .fits in

@@ -31,7 +31,8 @@ use Rattle.encoding.proofs.EncodedParts.{referenceAt, referencesAt, par
 use Rattle.encoding.proofs.EncodedRecords.{headerFields, at-start, length-record, length-size, field-is, own-field, body-at, StringFits, string-fits, thread-fits}
 use Rattle.encoding.proofs.EncodedArguments.{ValueFits, encodedValue, ArgumentFits, AllFit, argumentWords, AllSized, all-sized, text-encoded, scalar-parts, typeOf, halfOf, argumentFields, argument-record, valueAt, argumentAt, argument-fits, argument-read, length-argument}
 use Rattle.encoding.proofs.EncodedLayouts.{behindPieces, length-layout, ItemFits, pieces-at}
-use Rattle.encoding.proofs.EncodedReports.{reportParts, reportRecord, length-last, behind-few, own-encoded, reportAt, report-content}
+use Rattle.records.proofs.Bounds.{behind-few}
+use Rattle.encoding.proofs.EncodedReports.{reportParts, reportRecord, length-last, own-encoded, reportAt, report-content}
 use Rattle.encoding.proofs.EncodedItems.{item-fits, magic-read, provider-info-read, section-read, provider-event-read, initialization-read}
 
 -- ---- padding

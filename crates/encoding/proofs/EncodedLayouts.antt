@@ -14,11 +14,11 @@ use Rattle.format.specs.declared.Format.{Format}
 use Rattle.format.specs.declared.Part.the-variants.{Thread as threadPart}
 use Rattle.format.specs.Part.{tableOf, body, takeParts}
 use Rattle.records.specs.Item.{Shown, known, unresolved, Thread, thread, Referent, textReferent, threadReferent, Report, ownLayout, Item, magic}
-use Rattle.records.specs.Item.{providerInfo, section, providerEvent, initialization, report, skipped, Piece, words, stream, refers, ItemLayout, layoutOfItem, Key, threadKey}
-use Rattle.records.proofs.Bounds.{OwnSuits}
+use Rattle.records.specs.Item.{providerInfo, section, providerEvent, initialization, report, skipped, Piece, words, stream, refers, ItemLayout, layoutOfItem, Key, textKey, threadKey}
+use Rattle.records.proofs.Bounds.{OwnSuits, Absent, AllWords}
 use Rattle.encoding.specs.Models.Part.{referentTable}
 use Rattle.encoding.specs.Encoded.{Encoded, wordsBytes, referenceOf, partsBytes, encodedThread, encodedReferent, argumentsRecords, encodedPieces, layoutHeader, layoutBody, layoutRecord}
-use Rattle.encoding.proofs.EncodedParts.{partOf, referencesAt, AllWords, Fine, AllFine, partWords, partsWords, length-words, length-parts, parts-read, AllSpell, all-spelled}
+use Rattle.encoding.proofs.EncodedParts.{partOf, referencesAt, Fine, AllFine, partWords, partsWords, length-words, length-parts, parts-read, AllSpell, all-spelled}
 use Rattle.encoding.proofs.EncodedRecords.{RecordFits, length-record, body-at}
 use Rattle.encoding.proofs.EncodedArguments.{TextFits, AsText, AllFit, argumentsWords, text-encoded, length-arguments}
 
@@ -112,6 +112,7 @@ pub record LayoutFits (f : Format) (index : Key → ℕ) (l : ItemLayout) : Type
 -- what is asked of a record that refers to texts and threads, whatever the indexes are
 pub record ReportSuits (r : Report) : Type 0 where
   pub own : OwnSuits (r .own) (referentTable (r .first)) (referentTable (r .second)) (referentTable (r .third)) (length (r .stream)) (length (r .arguments))
+  pub absent : Absent (r .own) (r .first ≡ textReferent (known [])) (r .second ≡ textReferent (known [])) (r .third ≡ textReferent (known []))
   pub no-last : ownLayout (r .own) .behind ≡ 0 → r .last ≡ 0
 
 -- what is asked of an item's header, whatever the indexes are; a skipped record is never written
@@ -124,9 +125,10 @@ KindSuits (initialization rate) = Unit {0}
 KindSuits (report r) = ReportSuits r
 KindSuits (skipped type size) = ⊥
 
--- an item whose values fit their fields, where these are the indexes of its keys
+-- an item whose values fit their fields, where these are the indexes of its keys; the empty text has none
 pub record ItemFits (f : Format) (index : Key → ℕ) (i : Item) : Type 0 where
   pub suits : KindSuits i
+  pub empty : index (textKey []) ≡ 0
   pub layout : LayoutFits f index (layoutOfItem i)
 
 -- the words of a referent are at most those of a text or of a thread

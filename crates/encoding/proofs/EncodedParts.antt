@@ -19,6 +19,7 @@ use Rattle.format.specs.declared.Part.{Part}
 use Rattle.format.specs.declared.Part.the-variants.{Words as wordsPart, Stream as streamPart, Text as textPart, Thread as threadPart}
 use Rattle.format.specs.Part.{takeWords, takeStream, takeText, takeThread, takePart, body, takeParts}
 use Rattle.records.specs.Item.{thread}
+use Rattle.records.proofs.Bounds.{AllWords}
 use Rattle.encoding.specs.Encoded.{Encoded, word, words, stream, wordsBytes, textIndex, threadIndex, textInline, threadInline, referenceOf, partBytes, partsBytes}
 
 -- ---- what is read for a part
@@ -47,10 +48,6 @@ referenceAt (threadInline t) place = Inline place 16
 abbrev pub referencesAt : Format → List Encoded → ℕ → List Reference
 referencesAt f [] place = []
 referencesAt f (w ∷ ws) place = referenceAt w place ∷ referencesAt f ws (place + length (partBytes f w))
-
-abbrev pub AllWords : List ℕ → Type 0
-AllWords [] = Unit {0}
-AllWords (n ∷ ns) = (n < 256 ^ 8) × AllWords ns
 
 -- what can be written: a word of 64 bits, an index that fits its reference, a text that is short enough, a thread of two words
 abbrev pub Fine : Format → Encoded → Type 0

@@ -16,7 +16,7 @@ use Rattle.format.specs.declared.Format.{Format}
 use Rattle.format.specs.Header.{recordWords, extentOf}
 use Rattle.format.specs.Part.{takePart, takeParts}
 use Rattle.records.specs.declared.Content.the-variants.{String, Thread}
-use Rattle.records.specs.Layout.{isEvent, layoutOf}
+use Rattle.records.specs.Layout.{isEvent, eventLayout, layoutOf}
 use Rattle.records.specs.Record.{stringOf, threadOf, contentOf, recordOf, recordAt}
 use Rattle.records.specs.Item.{Thread as ThreadWords, thread}
 use Rattle.encoding.specs.Encoded.{threadInline, partBytes, recordBytes, stringRecord, threadRecord}
@@ -137,7 +137,7 @@ string-fits f index b s =
 -- a string record is read as its index and its text, which stands behind the header
 pub string-read : (f : Format) (index : ℕ) (b : List ℕ) (place : ℕ) → StringFits f index b
     → contentOf f (stringRecord f index b) place ≡ String index (place + 8) (length b)
-unfolding contentOf layoutOf isEvent stringOf takeParts takePart
+unfolding contentOf layoutOf eventLayout isEvent stringOf takeParts takePart
 string-read f index b place s =
     let fit = string-fits f index b s in
     rw (
@@ -159,7 +159,7 @@ thread-fits f index t h =
 -- a thread record is read as its index and its thread, which stands behind the header
 pub thread-read : (f : Format) (index : ℕ) (t : ThreadWords) (place : ℕ) → 0 < index → index < 2 ^ 8
     → contentOf f (threadRecord f index t) place ≡ Thread index (place + 8)
-unfolding contentOf layoutOf isEvent threadOf takeParts takePart
+unfolding contentOf layoutOf eventLayout isEvent threadOf takeParts takePart
 thread-read f index t place some h =
     let fit = thread-fits f index t h in
     rw (

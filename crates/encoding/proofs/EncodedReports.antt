@@ -1,7 +1,7 @@
 -- A record that refers to texts and threads, as it is written, reads back: its own values, its references, its stream, its arguments and its last word.
 -- What a kind has to show is `own-encoded`; all else is the same for all kinds. Assumes nothing.
 use Prim.Native.Nat.{ℕ, _+_, _-_, _*_, _^_, _<_, _≤_}
-use mathlib.Core.Path.{_≡_, refl, ap}
+use mathlib.Core.Path.{_≡_, refl, ap, _∙_}
 use mathlib.Core.List.{List, [], _∷_, _++_, append-assoc}
 use mathlib.Core.Bool.{true}
 use native.Mathlib.Omega.{arith}
@@ -13,22 +13,27 @@ use Rattle.words.specs.Word.{wordAt, wordBytes}
 use Rattle.words.proofs.Words.{At, at-left, at-right, word-is}
 use Rattle.format.specs.declared.Format.{Format}
 use Rattle.format.specs.Limits.{smallFormat}
+use Rattle.format.specs.declared.Part.the-variants.{Text as textPart}
 use Rattle.format.specs.Part.{part}
 use Rattle.arguments.specs.Argument.{arguments, argumentsOf, walked}
 use Rattle.records.specs.declared.Event.{Event}
+use Rattle.records.specs.declared.Log.{Log}
+use Rattle.records.specs.declared.Own.{Own}
+use Rattle.records.specs.declared.Own.the-variants.{Event as EventOwn, Log as LogOwn}
 use Rattle.records.specs.declared.Report.{Report as ReadReport}
 use Rattle.records.specs.declared.Layout.{Layout}
 use Rattle.records.specs.declared.Fields.the-variants.{Fields as FieldsRead}
 use Rattle.records.specs.declared.Last.the-variants.{Word}
 use Rattle.records.specs.declared.Content.the-variants.{Report as ReportRead}
-use Rattle.records.specs.Layout.{isEvent, layoutOf, ownOf, takeFields, lastWord, lookupOf}
+use Rattle.records.specs.Layout.{isEvent, eventLayout, logLayout, layoutOf, eventOf, logOf, ownOf, takeFields, lastWord, lookupOf}
 use Rattle.records.specs.Models.Layouts.{reportArguments}
 use Rattle.records.specs.Record.{contentOf}
-use Rattle.records.specs.Item.{Report, report, ownLayout, lastWords, reportLayout, Key}
-use Rattle.records.proofs.Layouts.{extra-few, report-is}
+use Rattle.records.specs.Item.{known, Referent, textReferent, Report, report, ownLayout, lastWords, reportLayout, Key, textKey}
+use Rattle.records.proofs.Layouts.{report-is}
+use Rattle.records.proofs.Bounds.{AllWords, own-few, own-words-few, behind-few}
 use Rattle.encoding.specs.Models.Part.{referentTable}
 use Rattle.encoding.specs.Encoded.{Encoded, stream, wordsBytes, partsBytes, encodedReferent, argumentsRecords, encodedPieces, layoutHeader, layoutBody, itemRecord}
-use Rattle.encoding.proofs.EncodedParts.{partOf, referencesAt, AllWords, length-words, WordsAre, Spells}
+use Rattle.encoding.proofs.EncodedParts.{partOf, referencesAt, length-words, WordsAre, Spells}
 use Rattle.encoding.proofs.EncodedRecords.{RecordFits, at-start, own-field}
 use Rattle.encoding.proofs.EncodedArguments.{AllFit, all-sized, arguments-words, argumentsAt, arguments-read, SpellsArguments, arguments-spelled}
 use Rattle.encoding.proofs.EncodedLayouts.{layoutWords, behindPieces, length-body, referent-words, PiecesFit, ReportSuits, referent-thread, referent-text, referent-table, ItemFits, behind-at, pieces-spelled, length-all, pieces-read}
@@ -46,9 +51,15 @@ length-last behind last few =
     cases (eqb behind 0) (λ e. let is = eqb-true behind 0 e in rw e (omega (arith, is)))
     (λ e. let is = eqb-false behind 0 e in rw e (omega arith))
 
--- every kind has at most one word behind its arguments
-pub behind-few : (e : Event) → ownLayout e .behind ≤ 1
-behind-few e = extra-few (e .variant)
+-- the header of a record is the same where the count of its arguments, its references and the length of its stream are
+pub header-same : (own : Own) (n n′ a a′ b b′ c c′ long long′ : ℕ) → n ≡ n′ → a ≡ a′ → b ≡ b′ → c ≡ c′ → long ≡ long′
+    → ownLayout own .header n a b c long ≡ ownLayout own .header n′ a′ b′ c′ long′
+header-same own n n′ a a′ b b′ c c′ long long′ count first second third stream-long =
+    ap (λ x. ownLayout own .header x a b c long) count
+    ∙ ap (λ x. ownLayout own .header n′ x b c long) first
+    ∙ ap (λ x. ownLayout own .header n′ a′ x c long) second
+    ∙ ap (λ x. ownLayout own .header n′ a′ b′ x long) third
+    ∙ ap (λ x. ownLayout own .header n′ a′ b′ c′ x) stream-long
 
 -- ---- what a kind has to show
 
@@ -73,24 +84,83 @@ pub record OwnEncoded (f : Format) (index : Key → ℕ) (r : Report) : Type 0 w
   pub layout : layoutOf (wordAt (f .order) (reportRecord f index r) 0) ≡ layoutEncoded index r
   pub values : WordsAre f (reportRecord f index r) 8 (ownLayout (r .own) .words) → ownOf f (reportRecord f index r) ≡ r .own
 
+-- what a record does not refer to is written as the reference 0, where the empty text has no index
+no-part : (f : Format) (index : Key → ℕ) (x : Referent) → x ≡ textReferent (known []) → index (textKey []) ≡ 0
+    → partOf (encodedReferent index x) ≡ textPart 0
+no-part f index x is none = rw (is, none)
+
+-- a record with this for what is its own
+abbrev withOwn : Own → Report → Report
+withOwn own r =
+    record {
+      provider = r .provider;
+      rate = r .rate;
+      own = own;
+      first = r .first;
+      second = r .second;
+      third = r .third;
+      stream = r .stream;
+      arguments = r .arguments;
+      last = r .last;
+    }
+
 -- an event
-pub own-encoded : (f : Format) (index : Key → ℕ) (r : Report) → ItemFits f index (report r) → OwnEncoded f index r
-unfolding layoutOf isEvent ownOf
-own-encoded f index r fit =
+event-encoded : (f : Format) (index : Key → ℕ) (e : Event) (r : Report) → ItemFits f index (report (withOwn (EventOwn e) r))
+    → OwnEncoded f index (withOwn (EventOwn e) r)
+unfolding layoutOf eventLayout isEvent ownOf eventOf
+event-encoded f index e r fit =
     let own = fit .suits .own in
-    let size = length-body f index (reportLayout r) in
+    let l = reportLayout (withOwn (EventOwn e) r) in
+    let size = length-body f index l in
     let a = referent-thread f index (r .first) (own .first) (fit .layout .pieces .1 .0) in
     let b = referent-text f index (r .second) (own .second) (fit .layout .pieces .1 .1 .0) in
     let c = referent-text f index (r .third) (own .third) (fit .layout .pieces .1 .1 .1 .0) in
-    let fits : RecordFits (ownLayout (r .own) .type) (layoutHeader index (reportLayout r)) (layoutBody f index (reportLayout r)) =
+    let fits : RecordFits 4 (layoutHeader index l) (layoutBody f index l) =
     record { fits = omega (arith, size, fit .layout .size, own .type, own .few, a .bits, b .bits, c .bits); full = refl; whole = omega (arith, size) } in
     record {
       known = omega arith;
       fits = fits;
       layout =
-          rw (own-field f fits 0, own-field f fits 4, own-field f fits 5, own-field f fits 6, own-field f fits 3, own-field f fits 2, le-leb (r .own .variant) 10 (own .type), ← (a .part), ← (b .part), ← (c .part), own .stream);
-      values = λ w. rw (own-field f fits 2, w .0);
+          rw (own-field f fits 0, own-field f fits 4, own-field f fits 5, own-field f fits 6, own-field f fits 3, own-field f fits 2, le-leb (e .variant) 10 (own .type), ← (a .part), ← (b .part), ← (c .part), own .stream);
+      values = λ w. rw (own-field f fits 0, own-field f fits 2, w .0);
     }
+
+-- a log: what it does not refer to is written as the reference 0
+log-encoded : (f : Format) (index : Key → ℕ) (g : Log) (r : Report) → ItemFits f index (report (withOwn (LogOwn g) r))
+    → OwnEncoded f index (withOwn (LogOwn g) r)
+unfolding layoutOf logLayout ownOf logOf
+log-encoded f index g r fit =
+    let own = fit .suits .own in
+    let l = reportLayout (withOwn (LogOwn g) r) in
+    let size = length-body f index l in
+    let a = referent-thread f index (r .first) (own .first) (fit .layout .pieces .1 .0) in
+    let fits : RecordFits 9 (layoutHeader index l) (layoutBody f index l) =
+    record { fits = omega (arith, size, fit .layout .size, own .stream, a .bits); full = refl; whole = omega (arith, size) } in
+    record {
+      known = omega arith;
+      fits = fits;
+      layout =
+          rw (
+            own-field f fits 0,
+            own-field f fits 2,
+            own-field f fits 3,
+            own-field f fits 4,
+            own-field f fits 5,
+            ← (a .part),
+            own .none,
+            no-part f index (r .second) (fit .suits .absent .no-second (omega arith)) (fit .empty),
+            no-part f index (r .third) (fit .suits .absent .no-third (omega arith)) (fit .empty),
+          );
+      values = λ w. rw (own-field f fits 0, w .0);
+    }
+
+-- every kind
+pub own-encoded : (f : Format) (index : Key → ℕ) (r : Report) → ItemFits f index (report r) → OwnEncoded f index r
+own-encoded f index r fit = go (r .own) fit
+  where
+    go : (own : Own) → ItemFits f index (report (withOwn own r)) → OwnEncoded f index (withOwn own r)
+    go (EventOwn e) h = event-encoded f index e r h
+    go (LogOwn g) h = log-encoded f index g r h
 
 -- ---- reading
 
@@ -229,7 +299,8 @@ pub small-report : (index : Key → ℕ) (r : Report) → ReportSuits r → Piec
 small-report index r suits pieces fit =
     omega (
       arith,
-      suits .own .few,
+      own-few (r .own) _ _ _ _ _ (suits .own),
+      own-words-few (r .own),
       referent-words smallFormat index (r .first) (pieces .1 .0),
       referent-words smallFormat index (r .second) (pieces .1 .1 .0),
       referent-words smallFormat index (r .third) (pieces .1 .1 .1 .0),

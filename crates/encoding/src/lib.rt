@@ -1,13 +1,15 @@
 // Records, written into lent bytes at a place. Each function answers the place right behind what it wrote.
 ghost use mathlib.Core.Path.{_≡_};
+ghost use mathlib.Core.List.{[], _∷_};
 ghost use Prim.Native.Nat.{_+_, _*_, _^_, _<_, _≤_};
 ghost use lib.ListN.{length};
 ghost use Rattle.words.specs.Stream.{streamWords, padded, overwritten, magic as magicBytes};
-ghost use Rattle.records.specs.Item.{thread as threadOf, providerInfo, section, providerEvent, initialization, ownLayout};
+ghost use Rattle.records.specs.Item.{thread as threadOf, providerInfo, section, providerEvent, initialization, eventFields, logFields, ownLayout};
 ghost use Rattle.encoding.specs.Encoded.{referenceOf, wordsBytes, partBytes, stringRecord, threadRecord};
-ghost use Rattle.encoding.specs.Models.Part.{plainRecord, textPart, textBytes, referentReference, threadPart, referentPart, FieldsFit, reportHeader};
+ghost use Rattle.encoding.specs.Models.Part.{plainRecord, textPart, textBytes, referentReference, threadPart, referentPart, FieldsFit, headerWord, reportHeader};
 use format::Format;
 use records::Event;
+use records::Own;
 
 // The registration of a text.
 pub fn put_string_record(
@@ -236,13 +238,53 @@ pub fn put_stream(out: &mut [u8], place: usize, bytes: &[u8]) -> usize
     place + words::stream_words(bytes.len()) * 8
 }
 
+// The header of an event of this size in words.
+fn event_header(event: Event, size: usize, count: usize, first: u64, second: u64, third: u64) -> u64
+    requires { ⌜ (size < 2 ^ 12) × FieldsFit (eventFields (event .variant) count first second third) ⌝ }
+    ensures { λ r. ⌜ r ≡ headerWord 4 size (eventFields (event .variant) count first second third) ⌝ }
+{
+    let with_variant = words::with_field(format::header(4, size), 16, 19, event.variant as u64);
+    let with_count = words::with_field(with_variant, 20, 23, count as u64);
+    let with_first = words::with_field(with_count, 24, 31, first);
+    let with_second = words::with_field(with_first, 32, 47, second);
+    words::with_field(with_second, 48, 63, third)
+}
+
+// The header of a log of this size in words.
+fn log_header(size: usize, thread: u64, long: usize) -> u64
+    requires { ⌜ (size < 2 ^ 12) × FieldsFit (logFields long thread) ⌝ }
+    ensures { λ r. ⌜ r ≡ headerWord 9 size (logFields long thread) ⌝ }
+{
+    let with_length = words::with_field(format::header(9, size), 16, 30, long as u64);
+    words::with_field(with_length, 32, 39, thread)
+}
+
 // The header of a record that refers to texts and threads, of this size in words: from what is particular to its kind, its count of arguments, its
-// three references and the length of its stream. An event has no stream.
+// three references and the length of its stream. An event has no stream, a log has one reference and no arguments.
+fn report_header(
+    own: Own,
+    size: usize,
+    count: usize,
+    first: u64,
+    second: u64,
+    third: u64,
+    long: usize,
+) -> u64
+    requires { ⌜ (size < 2 ^ 12) × FieldsFit (ownLayout own .header count first second third long) ⌝ }
+    ensures { λ r. ⌜ r ≡ headerWord (ownLayout own .type) size (ownLayout own .header count first second third long) ⌝ }
+{
+    match own {
+        Own::Event(event) => event_header(event, size, count, first, second, third),
+        Own::Log(_) => log_header(size, first, long),
+    }
+}
+
+// Such a header, written at a place.
 pub fn put_report_header(
     f: Format,
     out: &mut [u8],
     place: usize,
-    own: Event,
+    own: Own,
     size: usize,
     count: usize,
     first: u64,
@@ -255,26 +297,34 @@ pub fn put_report_header(
     ensures { λ r. ⌜ r ≡ place + 8 ⌝ }
 {
     let order = f.order;
-    let with_variant = words::with_field(format::header(4, size), 16, 19, own.variant as u64);
-    let with_count = words::with_field(with_variant, 20, 23, count as u64);
-    let with_first = words::with_field(with_count, 24, 31, first);
-    let with_second = words::with_field(with_first, 32, 47, second);
     words::put_word(
         order,
         out,
         place,
-        words::with_field(with_second, 48, 63, third),
+        report_header(own, size, count, first, second, third, long),
     );
     place + 8
 }
 
-// The words of its own that such a record has before its references: an event has its timestamp.
-pub fn put_own_words(f: Format, out: &mut [u8], place: usize, own: Event) -> usize
+// One word, written in a body.
+fn put_one_word(f: Format, out: &mut [u8], place: usize, word: u64) -> usize
+    requires { ⌜ place + length (wordsBytes f (word ∷ [])) ≤ length (now out) ⌝ }
+    ensures { λ _. ⌜ now (out .exit) ≡ overwritten (now (out .entry)) place (wordsBytes f (word ∷ [])) ⌝ }
+    ensures { λ r. ⌜ r ≡ place + length (wordsBytes f (word ∷ [])) ⌝ }
+{
+    let order = f.order;
+    words::put_word(order, out, place, word);
+    place + 8
+}
+
+// The words of its own that such a record has before its references: an event and a log have their timestamp.
+pub fn put_own_words(f: Format, out: &mut [u8], place: usize, own: Own) -> usize
     requires { ⌜ place + length (wordsBytes f (ownLayout own .words)) ≤ length (now out) ⌝ }
     ensures { λ _. ⌜ now (out .exit) ≡ overwritten (now (out .entry)) place (wordsBytes f (ownLayout own .words)) ⌝ }
     ensures { λ r. ⌜ r ≡ place + length (wordsBytes f (ownLayout own .words)) ⌝ }
 {
-    let order = f.order;
-    words::put_word(order, out, place, own.timestamp);
-    place + 8
+    match own {
+        Own::Event(event) => put_one_word(f, out, place, event.timestamp),
+        Own::Log(log) => put_one_word(f, out, place, log.timestamp),
+    }
 }

@@ -31,7 +31,8 @@ use Rattle.records.specs.declared.Lookup.{Lookup}
 use Rattle.records.specs.declared.Report.{Report as ReadReport}
 use Rattle.records.specs.Lookups.{argumentLookups, argumentsTo, reportLookups}
 use Rattle.records.specs.Item.{known, thread, Key, textKey, threadKey, Use, textUses, referentUses, valueUses, argumentsUses, report, usesOf, isUnresolved, referentUnresolved, valueUnresolved, argumentsUnresolved, ownLayout}
-use Rattle.encoding.proofs.EncodedReports.{length-last, behind-few}
+use Rattle.records.proofs.Bounds.{behind-few}
+use Rattle.encoding.proofs.EncodedReports.{length-last}
 use Rattle.contexts.specs.declared.State.{State}
 use Rattle.contexts.specs.Context.{providerOf}
 use Rattle.tables.specs.declared.Resolved.{Resolved}

@@ -5,6 +5,9 @@ use mathlib.Core.Bool.{Bool, true, false}
 use Rattle.words.specs.Stream.{partOf}
 use Rattle.words.specs.Word.{pick}
 use Rattle.records.specs.declared.Event.{Event}
+use Rattle.records.specs.declared.Log.{Log}
+use Rattle.records.specs.declared.Own.{Own}
+use Rattle.records.specs.declared.Own.the-variants.{Event as EventOwn, Log as LogOwn}
 use Rattle.records.specs.Layout.{hasExtra}
 use Rattle.contexts.specs.declared.Provider.{Provider}
 use Rattle.views.specs.declared.ShownReport.{ShownReport}
@@ -66,9 +69,20 @@ extraShown type extra = pick (hasExtra type) (numberShown extra) []
 unfoldable pub eventShown : List ℕ → Event → ShownReport → List ℕ
 eventShown archive e r = eventStart e r ++ referentsShown archive r ++ numberShown (r .count) ++ extraShown (e .variant) (r .last)
 
--- the line of a report: what is its own says, here alone, which letter and which fields in which order
+-- "`L provider timestamp rate process thread message`" (request W1)
+unfoldable pub logShown : List ℕ → Log → ShownReport → List ℕ
+logShown archive l r =
+    (76 ∷ []) ++ timestampShown (r .provider) (l .timestamp) (r .rate) ++ referentShown archive (r .first)
+    ++ bytesShown (partOf archive (r .stream .place) (r .stream .length))
+
+-- a report: what is its own says, here alone, which letter and which fields in which order
+unfoldable pub ownShown : List ℕ → Own → ShownReport → List ℕ
+ownShown archive (EventOwn e) r = eventShown archive e r
+ownShown archive (LogOwn l) r = logShown archive l r
+
+-- the line of a report
 unfoldable pub reportLine : List ℕ → ShownReport → List ℕ
-reportLine archive r = eventShown archive (r .own) r ++ lineEnd
+reportLine archive r = ownShown archive (r .own) r ++ lineEnd
 
 -- "`A type name value`"
 unfoldable pub argumentLine : List ℕ → ShownArgument → List ℕ

@@ -1,7 +1,7 @@
 // The lines of document 01's listing, each put into a lent buffer. Each function puts its bytes from a place on and answers the place
 // behind them; what does not fit is left out. Nothing here asks anything of its caller.
 ghost use Rattle.lines.specs.Put.{Puts};
-ghost use Rattle.item_lines.specs.Line.{providerInfoLine, sectionLine, providerEventLine, initializationLine, skippedLine, timestampShown, eventStart, referentsShown, extraShown, eventShown, reportLine, argumentLine, endLine, answerLine, askedLine};
+ghost use Rattle.item_lines.specs.Line.{providerInfoLine, sectionLine, providerEventLine, initializationLine, skippedLine, timestampShown, eventStart, referentsShown, extraShown, eventShown, logShown, ownShown, reportLine, argumentLine, endLine, answerLine, askedLine};
 use contexts::Provider;
 use lines::put_bytes;
 use lines::put_number;
@@ -14,6 +14,8 @@ use lines::value_type;
 use reader::Answer;
 use reader::Asked;
 use records::Event;
+use records::Log;
+use records::Own;
 use views::ShownArgument;
 use views::ShownReport;
 
@@ -120,12 +122,39 @@ fn put_event(out: &mut [u8], at: usize, archive: &[u8], event: Event, report: Sh
     put_extra(out, last, event.variant, report.last)
 }
 
-// The line of a report: what is its own says, here alone, which letter and which fields in which order.
+// A log's letter and fields.
+fn put_log(out: &mut [u8], at: usize, archive: &[u8], log: Log, report: ShownReport) -> usize
+    ensures { λ r. ⌜ Puts (now (out .entry)) at (logShown (now (archive .entry)) log report) r (now (out .exit)) ⌝ }
+{
+    let provider = report.provider;
+    let thread = report.first;
+    let message = report.stream;
+    let first = put_bytes(out, at, b"L");
+    let second = put_timestamp(out, first, provider, log.timestamp, report.rate);
+    let last = put_referent(out, second, archive, thread);
+    put_text_bytes(
+        out,
+        last,
+        reader::text(archive, message.place, message.length),
+    )
+}
+
+// What is a report's own says, here alone, which letter and which fields in which order.
+fn put_own(out: &mut [u8], at: usize, archive: &[u8], own: Own, report: ShownReport) -> usize
+    ensures { λ r. ⌜ Puts (now (out .entry)) at (ownShown (now (archive .entry)) own report) r (now (out .exit)) ⌝ }
+{
+    match own {
+        Own::Event(event) => put_event(out, at, archive, event, report),
+        Own::Log(log) => put_log(out, at, archive, log, report),
+    }
+}
+
+// The line of a report.
 fn put_report(out: &mut [u8], at: usize, archive: &[u8], report: ShownReport) -> usize
     ensures { λ r. ⌜ Puts (now (out .entry)) at (reportLine (now (archive .entry)) report) r (now (out .exit)) ⌝ }
 {
     let own = report.own;
-    let last = put_event(out, at, archive, own, report);
+    let last = put_own(out, at, archive, own, report);
     put_bytes(out, last, b"\n")
 }
 

@@ -14,7 +14,7 @@ use Rattle.format.specs.Part.{takeWords, takeStream, takeText, takeThread, tabl
 use Rattle.arguments.specs.declared.Scalar.the-variants.{Null, Signed32, Double, Boolean, Unknown}
 use Rattle.arguments.specs.Argument.{headerScalar, holdsWord, wordScalar, argumentBody, argumentOf, argumentsOf, numberedOf, argumentsRead}
 use Rattle.arguments.specs.Models.Reading.{takeValue, textsOf, valueText}
-use Rattle.records.specs.Layout.{hasExtra, extraWords, isEvent, layoutOf, ownOf, takeFields, lastWord, reportOf}
+use Rattle.records.specs.Layout.{hasExtra, extraWords, isEvent, eventLayout, logLayout, layoutOf, eventOf, logOf, ownOf, takeFields, lastWord, reportOf}
 use Rattle.records.specs.Record.{metadataOf, stringOf, contentOf, recordOf}
 use Rattle.records.specs.Effect.{effectOf}
 use Rattle.contexts.specs.Context.{belongsTo, findId, entering, providerOf}
@@ -25,7 +25,7 @@ use Rattle.views.specs.Shown.{isBad, shownText, shownThread, shownReferent, sho
 use Rattle.reader.specs.Step.{openingNumber, stopping, contentDecision, placeDecision, decisionOf, reportAnswer, plainAnswer, effectDecision}
 use Rattle.reader.specs.Ask.{shownArgument, askedReport, askedPlace, argumentReply}
 use Rattle.lines.specs.Shown.{decimalWithin, decimal, numberShown, signedShown, booleanShown, doubleShown, unresolvedShown, bytesShown, textShown, threadShown, referentShown, providerShown, scalarShown, valueShown, valueType}
-use Rattle.item_lines.specs.Line.{traceLine, magicLine, timestampShown, eventStart, referentsShown, extraShown, eventShown, reportLine, argumentLine, endLine, answerLine, askedLine, skippedLine}
+use Rattle.item_lines.specs.Line.{traceLine, magicLine, timestampShown, eventStart, referentsShown, extraShown, eventShown, logShown, ownShown, reportLine, argumentLine, endLine, answerLine, askedLine, skippedLine}
 use Rattle.listings.specs.Listing.{argumentLines, answerArguments, stepLines, isEnd, linesFrom, listing}
 
 -- the words of an archive, one after another
@@ -48,9 +48,23 @@ nineListing =
     ∷ 65 ∷ 32 ∷ 50 ∷ 32 ∷ 54 ∷ 58 ∷ 99 ∷ 104 ∷ 97 ∷ 114 ∷ 103 ∷ 101 ∷ 32 ∷ 52 ∷ 50 ∷ 10
     ∷ 101 ∷ 110 ∷ 100 ∷ 32 ∷ 48 ∷ 32 ∷ 55 ∷ 50 ∷ 10 ∷ []
 
+-- a log of the thread 7 8 at 200 with the message "hot", and its listing: `L - 200 1000000000 7 8 3:hot`
+abbrev hot : List ℕ
+hot = archiveOf (0x0016547846040010 ∷ 0x0000000000030059 ∷ 200 ∷ 7 ∷ 8 ∷ 0x0000000000746F68 ∷ [])
+
+abbrev hotListing : List ℕ
+hotListing =
+    116 ∷ 114 ∷ 97 ∷ 99 ∷ 101 ∷ 32 ∷ 49 ∷ 10
+    ∷ 77 ∷ 10
+    ∷ 76 ∷ 32 ∷ 45 ∷ 32 ∷ 50 ∷ 48 ∷ 48 ∷ 32 ∷ 49 ∷ 48 ∷ 48 ∷ 48 ∷ 48 ∷ 48 ∷ 48 ∷ 48 ∷ 48 ∷ 48 ∷ 32 ∷ 55 ∷ 32 ∷ 56 ∷ 32
+    ∷ 51 ∷ 58 ∷ 104 ∷ 111 ∷ 116 ∷ 10
+    ∷ 101 ∷ 110 ∷ 100 ∷ 32 ∷ 48 ∷ 32 ∷ 52 ∷ 56 ∷ 10 ∷ []
+
 pub record Table : Type 0 where
   -- the nine words
   pub nine-words : listing smallFormat nine (replicate 6912 0) ≡ nineListing
+  -- the log
+  pub hot-log : listing smallFormat hot (replicate 6912 0) ≡ hotListing
   -- ` 0`, ` 1000000000` and the highest number of 64 bits
   pub zero-shown : numberShown 0 ≡ 32 ∷ 48 ∷ []
   pub rate-shown : numberShown 1000000000 ≡ 32 ∷ 49 ∷ replicate 9 48
@@ -75,17 +89,18 @@ pub record Table : Type 0 where
 pub table : Table
 unfolding little littleAt wordAt wordBytes bytesOf magic startsWithMagic recordWords extentOf takeWords takeStream takeText takeThread tableOf takePart takeParts
     headerScalar holdsWord wordScalar takeValue argumentBody argumentOf textsOf valueText argumentsOf numberedOf
-    hasExtra extraWords isEvent layoutOf ownOf takeFields lastWord reportOf metadataOf stringOf contentOf recordOf
+    hasExtra extraWords isEvent eventLayout logLayout layoutOf eventOf logOf ownOf takeFields lastWord reportOf metadataOf stringOf contentOf recordOf
     belongsTo providerOf highestOf position registrationOf entryAt resolved
     isBad shownText shownThread shownReferent shownStream shownReport noneBad shownValue
     openingNumber archiveNumber stopping reportAnswer plainAnswer effectDecision contentDecision followed followedEntered changeOf effectOf argumentsRead
     placeDecision decisionOf changed shownArgument askedReport askedPlace argumentReply partOf
     decimalWithin decimal numberShown signedShown booleanShown doubleShown unresolvedShown bytesShown textShown threadShown referentShown providerShown
-    scalarShown valueShown valueType traceLine magicLine timestampShown eventStart referentsShown extraShown eventShown reportLine argumentLine endLine
+    scalarShown valueShown valueType traceLine magicLine timestampShown eventStart referentsShown extraShown eventShown logShown ownShown reportLine argumentLine endLine
     answerLine askedLine skippedLine argumentLines answerArguments stepLines isEnd linesFrom listing
 table =
     record {
       nine-words = refl;
+      hot-log = refl;
       zero-shown = refl;
       rate-shown = refl;
       highest-shown = refl;

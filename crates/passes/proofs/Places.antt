@@ -12,7 +12,7 @@ use lib.ListN.{length, take, drop, getD, length-take, length-drop, take-append-d
 use lib.Seq.{length-take-le}
 use Rattle.records.proofs.Bounds.{ContentShort, record-short, ReportShort, lengthOf}
 use Rattle.records.proofs.Passes.{ThreadReference}
-use Rattle.encoding.proofs.EncodedItems.{magic-read, item-stands, magic-record}
+use Rattle.encoding.proofs.EncodedItems.{magic-fits, magic-read, item-stands, magic-record}
 use Rattle.words.specs.Stream.{magic as magicBytes, startsWithMagic, partOf}
 use Rattle.words.proofs.Same.{same-true}
 use Rattle.words.proofs.Tests.{on-pick, cases}
@@ -231,7 +231,7 @@ pub first-magic : (f : Format) (archive : List ℕ) → startsWithMagic archive 
 unfolding startsWithMagic
 first-magic f archive e =
     ap (λ r. r .content)
-    (item-stands f (λ key. 0) archive 0 magic (record { suits = tt; layout = record { pieces = tt; arguments = tt; last = tt; size = omega arith } })
+    (item-stands f (λ key. 0) archive 0 magic (magic-fits f (λ key. 0) refl)
     (drop 8 archive, sym (take-append-drop 8 archive) ∙ rw (same-true (take 8 archive) magicBytes e, magic-record f (λ key. 0))))
     ∙ magic-read f (λ key. 0) 0
 

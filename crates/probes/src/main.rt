@@ -1,6 +1,7 @@
-// Makes every call of the file probes.bin: steps and arguments with any state and any tables. Each is a header of 96
+// Makes every call of the file probes.bin: steps and arguments with any state and any tables. Each is a header of 176
 // bytes, table entries, and an archive of at most 4,096 bytes. What a call shows is written at once. Reading or writing
-// that fails, and a file that ends inside a call, are said on standard error and stop the program.
+// that fails, a file that ends inside a call, and a call that wants what is not read yet (a names sheet, the full size, a
+// rate for each context, marks) are said on standard error and stop the program.
 ghost use mathlib.Core.Path.{_≡_};
 ghost use Prim.Native.Nat.{_<_};
 ghost use lib.ListN.{length};
@@ -13,8 +14,8 @@ use lines::put_number;
 use reader::Answer;
 
 // The word of this number, from 0, of a header.
-fn word(header: &[u8; 96], n: usize) -> u64
-    requires { ⌜ n < 12 ⌝ }
+fn word(header: &[u8; 176], n: usize) -> u64
+    requires { ⌜ n < 22 ⌝ }
 {
     words::little_word(header, 8 * n)
 }
@@ -27,23 +28,34 @@ fn high_half(word: u64) -> u32 {
     words::field(word, 32, 63) as u32
 }
 
-fn state_of(header: &[u8; 96]) -> State {
+fn state_of(header: &[u8; 176]) -> State {
     State {
         place: word(header, 1) as usize,
         rate: word(header, 2),
         ids: [
-            low_half(word(header, 3)),
-            high_half(word(header, 3)),
-            low_half(word(header, 4)),
-            high_half(word(header, 4)),
-            low_half(word(header, 5)),
-            high_half(word(header, 5)),
-            low_half(word(header, 6)),
-            high_half(word(header, 6)),
+            low_half(word(header, 11)),
+            high_half(word(header, 11)),
+            low_half(word(header, 12)),
+            high_half(word(header, 12)),
+            low_half(word(header, 13)),
+            high_half(word(header, 13)),
+            low_half(word(header, 14)),
+            high_half(word(header, 14)),
         ],
-        count: word(header, 7) as usize,
-        current: word(header, 8) as usize,
+        count: word(header, 15) as usize,
+        current: word(header, 16) as usize,
     }
+}
+
+// Whether a call has no sheet, the small size and no marks. The rates of the eight contexts are 0 where they are not used.
+fn is_read(header: &[u8; 176]) -> bool {
+    if word(header, 20) != 0xffff_ffff {
+        return false;
+    }
+    if word(header, 21) != 0 {
+        return false;
+    }
+    word(header, 3) == 0
 }
 
 // Says why the calls are not all made, and answers that they do not go on.
@@ -176,7 +188,7 @@ fn read_entries(fd: i32, tables: &mut [u32], count: u32) -> bool {
 fn put_call(
     out: &mut [u8],
     at: usize,
-    header: &[u8; 96],
+    header: &[u8; 176],
     archive: &[u8],
     before: &[u32],
     tables: &mut [u32],
@@ -191,8 +203,8 @@ fn put_call(
             archive,
             state,
             tables,
-            word(header, 9) as usize,
-            word(header, 10) as usize,
+            word(header, 17) as usize,
+            word(header, 18) as usize,
         )
     }
 }
@@ -212,7 +224,7 @@ fn write_call(out: &[u8], n: usize) -> bool {
 fn show_call(
     fd: i32,
     probe: u64,
-    header: &[u8; 96],
+    header: &[u8; 176],
     before: &[u32],
     tables: &mut [u32],
     out: &mut [u8],
@@ -238,13 +250,13 @@ fn show_call(
 }
 
 // Makes the call of a header, whose table entries come next in the file, and answers whether the calls go on.
-fn show_probe(fd: i32, probe: u64, header: &[u8; 96], out: &mut [u8]) -> bool {
-    let room = low_half(word(header, 11)) as usize;
+fn show_probe(fd: i32, probe: u64, header: &[u8; 176], out: &mut [u8]) -> bool {
+    let room = low_half(word(header, 19)) as usize;
     let mut tables = [0u32; 7000];
     if 7000 < room {
         return fail(b"probes: a call has tables of more than 7,000 words\n");
     }
-    if read_entries(fd, &mut tables, high_half(word(header, 11))) {
+    if read_entries(fd, &mut tables, high_half(word(header, 19))) {
         let before = tables;
         return show_call(fd, probe, header, &before[..room], &mut tables[..room], out);
     }
@@ -253,10 +265,15 @@ fn show_probe(fd: i32, probe: u64, header: &[u8; 96], out: &mut [u8]) -> bool {
 
 // Makes the next call, and answers whether the calls go on.
 fn next_probe(fd: i32, probe: u64, out: &mut [u8]) -> bool {
-    let mut header = [0u8; 96];
-    let outcome = files::input::read_bytes(fd, &mut header, 96);
+    let mut header = [0u8; 176];
+    let outcome = files::input::read_bytes(fd, &mut header, 176);
     match outcome {
-        Outcome::All => show_probe(fd, probe, &header, out),
+        Outcome::All => {
+            if is_read(&header) {
+                return show_probe(fd, probe, &header, out);
+            }
+            fail(b"probes: a call has a sheet, another size, more rates or marks\n")
+        }
         Outcome::End => false,
         Outcome::Failed => fail(b"probes: probes.bin could not be read to the end of a call\n"),
     }

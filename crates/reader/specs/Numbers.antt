@@ -7,6 +7,10 @@ use Rattle.arguments.specs.declared.Scalar.{Scalar}
 use Rattle.arguments.specs.declared.Scalar.the-variants.{Null, Signed32, Unsigned32, Signed64, Unsigned64, Double, Pointer, KernelObject, Boolean, Unknown}
 use Rattle.words.specs.Word.{unsigned, bit}
 use Rattle.arguments.specs.Argument.{scalarType}
+use Rattle.records.specs.declared.Event.{Event}
+use Rattle.records.specs.declared.Log.{Log}
+use Rattle.records.specs.declared.Own.{Own}
+use Rattle.records.specs.declared.Own.the-variants.{Event as EventOwn, Log as LogOwn}
 use Rattle.contexts.specs.declared.Provider.{Provider}
 use Rattle.contexts.specs.declared.Provider.the-variants.{None, Id}
 use Rattle.views.specs.declared.ShownText.{ShownText}
@@ -78,12 +82,23 @@ referentValues (TextReferent t) = textValues t
 referentValues (ThreadReferent t) = threadValues t
 
 -- an event in document 01's order, with the place by which its arguments are asked for
-abbrev pub reportValues : ShownReport → List ℕ
-reportValues r =
-    r .place ∷ (providerValues (r .provider) ++ (r .own .variant ∷ r .own .timestamp ∷ r .rate
+abbrev pub eventValues : Event → ShownReport → List ℕ
+eventValues e r =
+    8 ∷ r .place ∷ (providerValues (r .provider) ++ (e .variant ∷ e .timestamp ∷ r .rate
     ∷ (referentValues (r .first) ++ (referentValues (r .second) ++ (referentValues (r .third) ++ (r .count ∷ r .last ∷ []))))))
 
--- what a step or an opening answers: which case it is, then its values. 1 with number and place is an end or a refusal in every kind of answer
+-- a log in request W1's order, with its place, and its message by place and length
+abbrev pub logValues : Log → ShownReport → List ℕ
+logValues l r =
+    12 ∷ r .place ∷ (providerValues (r .provider) ++ (l .timestamp ∷ r .rate ∷ (referentValues (r .first) ++ (r .stream .place ∷ r .stream .length ∷ []))))
+
+-- a record that refers to texts and threads: which kind it is, then its values
+abbrev pub reportValues : Own → ShownReport → List ℕ
+reportValues (EventOwn e) r = eventValues e r
+reportValues (LogOwn l) r = logValues l r
+
+-- what a step or an opening answers: which case it is, then its values. 1 with number and place is an end or a refusal in every kind of answer;
+-- 8 is an event, 12 a log
 abbrev pub answerValues : Answer → List ℕ
 answerValues (End number place) = 1 ∷ number ∷ place ∷ []
 answerValues Nothing = 2 ∷ []
@@ -92,7 +107,7 @@ answerValues (ProviderInfo id place long) = 4 ∷ id ∷ place ∷ long ∷ []
 answerValues (Section id) = 5 ∷ id ∷ []
 answerValues (ProviderEvent id event) = 6 ∷ id ∷ event ∷ []
 answerValues (Initialization rate) = 7 ∷ rate ∷ []
-answerValues (Report r) = 8 ∷ reportValues r
+answerValues (Report r) = reportValues (r .own) r
 answerValues (Skipped type size) = 9 ∷ type ∷ size ∷ []
 
 -- what is answered for an argument

@@ -28,6 +28,10 @@ use Rattle.format.proofs.Headers.{extent-read}
 use Rattle.arguments.specs.declared.Argument.{Argument}
 use Rattle.arguments.proofs.Bounds.{TextShort, TakenShort, text-short}
 use Rattle.records.specs.declared.Event.{Event}
+use Rattle.records.specs.declared.Log.{Log}
+use Rattle.records.specs.declared.Own.{Own}
+use Rattle.records.specs.declared.Own.the-variants.{Event as EventOwn, Log as LogOwn}
+use Rattle.records.specs.declared.Lookup.{Lookup}
 use Rattle.records.specs.declared.Report.{Report}
 use Rattle.records.specs.declared.Layout.{Layout}
 use Rattle.records.specs.declared.Fields.{Fields}
@@ -36,11 +40,11 @@ use Rattle.records.specs.declared.Last.{Last}
 use Rattle.records.specs.declared.Last.the-variants.{Refused as LastRefused, Word}
 use Rattle.records.specs.declared.Content.{Content}
 use Rattle.records.specs.declared.Content.the-variants.{Refused, Magic, ProviderInfo, Section, ProviderEvent, Initialization, String, Thread, Report as ReportRead, Ignored, Skipped}
-use Rattle.records.specs.Layout.{isEvent, layoutOf, layoutParts, ownOf, fieldsOf, takeFields, lastWord, reportRead}
+use Rattle.records.specs.Layout.{isEvent, eventLayout, isLog, logLayout, layoutOf, layoutParts, eventOf, logOf, ownOf, fieldsOf, takeFields, lastWord, lookupOf, reportRead}
 use Rattle.records.specs.Record.{contentOf, onExtent, recordOf, recordAt}
 use Rattle.records.specs.Item.{ownLayout}
 use Rattle.records.specs.Models.Layouts.{ReferenceFits}
-use Rattle.records.proofs.Layouts.{layout-fits}
+use Rattle.records.proofs.Layouts.{extra-few, layout-fits}
 use Rattle.records.proofs.Contents.{ReportIs, ContentIs, refused as isRefused, magic as isMagic, providerInfo as isProviderInfo, section as isSection, providerEvent as isProviderEvent}
 use Rattle.records.proofs.Contents.{initialization as isInitialization, string as isString, thread as isThread, report as isReportRead, ignored as isIgnored, skipped as isSkipped, content-is}
 
@@ -62,11 +66,25 @@ text-low f r place source start =
     (λ e. on-pick (TakenLow r) (ltb (f .longest) (r - 0x8000)) _ _ (λ e. tt)
     (λ e. on-pick (TakenLow r) (ltb (start + length source) _) _ _ (λ e. tt) (λ e. omega arith))))
 
--- a text and a stream are short enough, and a stream has the length that its header says
+-- an empty inline text, as a reference that a kind has not
+abbrev pub Empty : Reference → Type 0
+Empty (Inline place n) = n ≡ 0
+Empty (Index i) = ⊥
+
+-- the reference 0 is the empty text
+abbrev TakenEmpty : Taken → Type 0
+TakenEmpty (PartRefused number) = Unit {0}
+TakenEmpty (PartRead x next) = Empty x
+
+text-empty : (f : Format) (r place : ℕ) (source : List ℕ) (start : ℕ) → r ≡ 0 → TakenEmpty (takeText f r place source start)
+unfolding takeText
+text-empty f r place source start e = rw e refl
+
+-- a text and a stream are short enough, a reference 0 is empty, and a stream has the length that its header says
 abbrev PartShort : Format → Part → Reference → Type 0
 PartShort f (words n) x = Unit {0}
 PartShort f (stream n) x = (lengthOf x ≡ n) × (n ≤ f .longest)
-PartShort f (text r) x = TextShort f x × (lengthOf x ≤ r)
+PartShort f (text r) x = TextShort f x × (lengthOf x ≤ r) × (r ≡ 0 → Empty x)
 PartShort f (thread r) x = Unit {0}
 
 abbrev TakenPart : Format → Part → Taken → Type 0
@@ -83,11 +101,12 @@ part-short f (words n) place source start = go (takeWords n place source start)
 part-short f (stream n) place source start =
     on-pick (TakenPart f (stream n)) (ltb (f .longest) n) _ _ (λ e. tt)
     (λ e. on-pick (TakenPart f (stream n)) (ltb (start + length source) (place + 8 * streamWords n)) _ _ (λ q. tt) (λ q. (refl, ltb-false (f .longest) n e)))
-part-short f (text r) place source start = go (takeText f r place source start) (text-short f r place source start) (text-low f r place source start)
+part-short f (text r) place source start =
+    go (takeText f r place source start) (text-short f r place source start) (text-low f r place source start) (text-empty f r place source start)
   where
-    go : (x : Taken) → TakenShort f x → TakenLow r x → TakenPart f (text r) x
-    go (PartRefused number) h l = tt
-    go (PartRead x next) h l = (h, l)
+    go : (x : Taken) → TakenShort f x → TakenLow r x → (r ≡ 0 → TakenEmpty x) → TakenPart f (text r) x
+    go (PartRefused number) h l e = tt
+    go (PartRead x next) h l e = (h, l, e)
 part-short f (thread r) place source start = go (takeThread r place source start)
   where
     go : (x : Taken) → TakenPart f (thread r) x
@@ -147,22 +166,71 @@ last-bound f source place at behind bytes =
     (λ e. on-pick (LastBound behind) (eqb behind 0) _ _ (λ q. (omega arith, λ z. refl))
     (λ q. (wordAt-lt (f .order) source (at - place) bytes, λ z. absurd (eqb-false behind 0 q z))))
 
--- what is asked of a kind, whatever the indexes are: of its own values, the tables of its three referents, the length of its stream and its number of
--- arguments. An event has a type up to 10, a thread and two texts, no stream, at most 15 arguments.
-pub record OwnSuits (own : Event) (a b c long count : ℕ) : Type 0 where
-  pub type : own .variant ≤ 10
-  pub timestamp : own .timestamp < 2 ^ 64
+-- ---- what is asked of a kind, read or written
+
+-- an event has a type up to 10, a thread and two texts, no stream, at most 15 arguments
+pub record EventSuits (e : Event) (a b c long count : ℕ) : Type 0 where
+  pub type : e .variant ≤ 10
+  pub timestamp : e .timestamp < 2 ^ 64
   pub first : a ≡ 3
   pub second : b ≡ 2
   pub third : c ≡ 2
   pub stream : long ≡ 0
   pub few : count ≤ 15
 
--- what a kind has to show of a record that is read: it suits, with a stream of the length that its layout says, and its own words, and those behind
--- its arguments, are as many as its layout says
-pub record OwnRead (f : Format) (source : List ℕ) (l : Layout) (own : Event) : Type 0 where
+-- a log has a thread, a stream whose length has 15 bits, and no arguments
+pub record LogSuits (l : Log) (a long count : ℕ) : Type 0 where
+  pub timestamp : l .timestamp < 2 ^ 64
+  pub first : a ≡ 3
+  pub stream : long < 2 ^ 15
+  pub none : count ≡ 0
+
+-- whatever the indexes are, of its own values, the tables of its three referents, the length of its stream and its number of arguments
+abbrev pub OwnSuits : Own → (a b c long count : ℕ) → Type 0
+OwnSuits (EventOwn e) a b c long count = EventSuits e a b c long count
+OwnSuits (LogOwn l) a b c long count = LogSuits l a long count
+
+-- how many of the three references a kind has
+abbrev pub ownReferences : Own → ℕ
+ownReferences (EventOwn e) = 3
+ownReferences (LogOwn l) = 1
+
+-- the references that a kind has not are absent, where `first`, `second` and `third` say so of each
+pub record Absent (own : Own) (first second third : Type 0) : Type 0 where
+  pub no-first : ownReferences own < 1 → first
+  pub no-second : ownReferences own < 2 → second
+  pub no-third : ownReferences own < 3 → third
+
+-- every kind has at most 15 arguments
+pub own-few : (own : Own) (a b c long count : ℕ) → OwnSuits own a b c long count → count ≤ 15
+own-few (EventOwn e) a b c long count k = k .few
+own-few (LogOwn l) a b c long count k = omega (arith, k .none)
+
+-- words of 64 bits
+abbrev pub AllWords : List ℕ → Type 0
+AllWords [] = Unit {0}
+AllWords (n ∷ ns) = (n < 256 ^ 8) × AllWords ns
+
+-- and at most three words of its own, each of 64 bits
+pub own-words-few : (own : Own) → length (ownLayout own .words) ≤ 3
+own-words-few (EventOwn e) = omega arith
+own-words-few (LogOwn l) = omega arith
+
+pub own-words-fit : (own : Own) (a b c long count : ℕ) → OwnSuits own a b c long count → AllWords (ownLayout own .words)
+own-words-fit (EventOwn e) a b c long count k = (k .timestamp, tt)
+own-words-fit (LogOwn l) a b c long count k = (k .timestamp, tt)
+
+-- and at most one word behind its arguments
+pub behind-few : (own : Own) → ownLayout own .behind ≤ 1
+behind-few (EventOwn e) = extra-few (e .variant)
+behind-few (LogOwn l) = omega arith
+
+-- what a kind has to show of a record that is read: it suits, with a stream of the length that its layout says; what it refers to not at all is the
+-- reference 0; its own words, and those behind its arguments, are as many as its layout says
+pub record OwnRead (f : Format) (source : List ℕ) (l : Layout) (own : Own) : Type 0 where
   pub suits : AllBytes source → (long : ℕ) → long ≡ l .stream
       → OwnSuits own (tableOf (l .first)) (tableOf (l .second)) (tableOf (l .third)) long (l .count)
+  pub absent : Absent own (l .first ≡ text 0) (l .second ≡ text 0) (l .third ≡ text 0)
   pub words : length (ownLayout own .words) ≡ l .words
   pub behind : ownLayout own .behind ≡ l .behind
 
@@ -171,9 +239,10 @@ low-type : (header : ℕ) → isEvent header ≡ true → field 16 19 header ≤
 unfolding isEvent
 low-type header e = cases (eqb (field 0 3 header) 4) (λ q. leb-true (field 16 19 header) 10 (rw q at e)) (λ q. absurd (true≢false (sym (rw q at e))))
 
-own-read : (f : Format) (source : List ℕ) → layoutOf (wordAt (f .order) source 0) .read ≡ true → OwnRead f source (layoutOf (wordAt (f .order) source 0)) (ownOf f source)
-unfolding layoutOf ownOf tableOf
-own-read f source e =
+event-read : (f : Format) (source : List ℕ) → eventLayout (wordAt (f .order) source 0) .read ≡ true
+    → OwnRead f source (eventLayout (wordAt (f .order) source 0)) (EventOwn (eventOf f source))
+unfolding eventLayout eventOf tableOf
+event-read f source e =
     record {
       suits = λ bytes long is. record {
         type = low-type (wordAt (f .order) source 0) e;
@@ -184,15 +253,43 @@ own-read f source e =
         stream = is;
         few = omega arith;
       };
+      absent =
+          record { no-first = λ h. absurd (omega (arith, h)); no-second = λ h. absurd (omega (arith, h)); no-third = λ h. absurd (omega (arith, h)) };
       words = refl;
       behind = refl;
     }
 
+-- a log
+log-read : (f : Format) (source : List ℕ) → OwnRead f source (logLayout (wordAt (f .order) source 0)) (LogOwn (logOf f source))
+unfolding logLayout logOf tableOf
+log-read f source =
+    record {
+      suits = λ bytes long is. record { timestamp = wordAt-lt (f .order) source 8 bytes; first = refl; stream = omega (arith, is); none = refl };
+      absent = record { no-first = λ h. absurd (omega (arith, h)); no-second = λ h. refl; no-third = λ h. refl };
+      words = refl;
+      behind = refl;
+    }
+
+own-read : (f : Format) (source : List ℕ) → layoutOf (wordAt (f .order) source 0) .read ≡ true
+    → OwnRead f source (layoutOf (wordAt (f .order) source 0)) (ownOf f source)
+unfolding layoutOf ownOf
+own-read f source e = let header = wordAt (f .order) source 0 in cases (isLog header) (λ q. rw q (log-read f source)) (λ q. rw q (event-read f source (rw q at e)))
+
 -- ---- any kind
+
+-- a reference that a kind has not, as it is read
+abbrev pub LookupEmpty : Lookup → Type 0
+LookupEmpty x = (x .table ≡ 2) × Empty (x .reference)
+
+-- the reference 0 is read so
+empty-lookup : (f : Format) (p : Part) (x : Reference) → p ≡ text 0 → PartShort f p x → LookupEmpty (lookupOf p x)
+unfolding tableOf
+empty-lookup f p x e k = let k′ : PartShort f (text 0) x = rw e at k in rw e (refl, k′ .2 refl)
 
 -- what is known of a record that refers to texts and threads
 pub record ReportBound (f : Format) (r : Report) : Type 0 where
   pub suits : OwnSuits (r .own) (r .first .table) (r .second .table) (r .third .table) (lengthOf (r .stream)) (r .count)
+  pub absent : Absent (r .own) (LookupEmpty (r .first)) (LookupEmpty (r .second)) (LookupEmpty (r .third))
   pub first : r .first .table ≡ 2 → TextShort f (r .first .reference)
   pub second : r .second .table ≡ 2 → TextShort f (r .second .reference)
   pub third : r .third .table ≡ 2 → TextShort f (r .third .reference)
@@ -298,6 +395,11 @@ report-bound f source place bytes a b c s first at last list is =
     let z = subst (LastBound (l .behind)) (is .last-is) (last-bound f source place at (l .behind) bytes) in
     record {
       suits = own .suits bytes (lengthOf s) (k .3 .0);
+      absent = record {
+        no-first = λ h. empty-lookup f (l .first) a (own .absent .no-first h) (k .0);
+        no-second = λ h. empty-lookup f (l .second) b (own .absent .no-second h) (k .1);
+        no-third = λ h. empty-lookup f (l .third) c (own .absent .no-third h) (k .2);
+      };
       first = text-reference f (l .first) a (fits .first) (k .0);
       second = text-reference f (l .second) b (fits .second) (k .1);
       third = text-reference f (l .third) c (fits .third) (k .2);

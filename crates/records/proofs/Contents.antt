@@ -34,7 +34,7 @@ use Rattle.records.specs.declared.Last.the-variants.{Refused as LastRefu
 use Rattle.records.specs.declared.Content.{Content}
 use Rattle.records.specs.declared.Content.the-variants.{Refused, Magic, ProviderInfo, Section, ProviderEvent, Initialization, String, Thread, Report as ReportRead, Ignored, Skipped}
 use Rattle.records.specs.declared.Record.{Record}
-use Rattle.records.specs.Layout.{isEvent, layoutOf, takeFields, lastWord, onFields, onWalked, onLast, reportRead, reportOf}
+use Rattle.records.specs.Layout.{isEvent, eventLayout, layoutOf, takeFields, lastWord, onFields, onWalked, onLast, reportRead, reportOf}
 use Rattle.records.specs.Models.Layouts.{reportArguments}
 use Rattle.records.specs.Record.{providerInfoOf, metadataOf, initializationOf, stringOf, threadOf, contentOf, recordOf, recordAt}
 use Rattle.records.specs.Models.Bounds.{ContentInside}
@@ -196,12 +196,12 @@ module _ (f : Format) (source : List ℕ) (place : ℕ) where
 -- a record of type 2 is a string record, one of type 3 a thread record
 pub content-string : (f : Format) (source : List ℕ) (place : ℕ) → field 0 3 (wordAt (f .order) source 0) ≡ 2
     → contentOf f source place ≡ stringOf f source place
-unfolding contentOf layoutOf isEvent
+unfolding contentOf layoutOf eventLayout isEvent
 content-string f source place e = rw e
 
 pub content-thread : (f : Format) (source : List ℕ) (place : ℕ) → field 0 3 (wordAt (f .order) source 0) ≡ 3
     → contentOf f source place ≡ threadOf f source place
-unfolding contentOf layoutOf isEvent
+unfolding contentOf layoutOf eventLayout isEvent
 content-thread f source place e = rw e
 
 -- ---- where the content of a record stands, and what it costs

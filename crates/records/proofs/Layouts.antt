@@ -31,7 +31,7 @@ use Rattle.records.specs.declared.Last.the-variants.{Refused as LastRefu
 use Rattle.records.specs.declared.Report.{Report}
 use Rattle.records.specs.declared.Content.{Content}
 use Rattle.records.specs.declared.Content.the-variants.{Refused, Report as ReportRead}
-use Rattle.records.specs.Layout.{hasExtra, extraWords, layoutOf, fieldsOf, takeFields, lastWord, onFields, onWalked, onLast, reportRead, reportOf}
+use Rattle.records.specs.Layout.{hasExtra, extraWords, eventLayout, isLog, logLayout, layoutOf, fieldsOf, takeFields, lastWord, onFields, onWalked, onLast, reportRead, reportOf}
 use Rattle.records.specs.Models.Layouts.{ReferenceFits, LayoutFits, takePair, onPair, pairOf}
 
 -- an event has at most one word behind its arguments
@@ -40,9 +40,9 @@ unfolding extraWords
 extra-few type = on-pick (λ n. n ≤ 1) (hasExtra type) 1 0 (λ e. omega arith) (λ e. omega arith)
 
 -- the layout of every kind fits
-pub layout-fits : (header : ℕ) → LayoutFits (layoutOf header)
-unfolding layoutOf
-layout-fits header =
+event-fits : (header : ℕ) → LayoutFits (eventLayout header)
+unfolding eventLayout
+event-fits header =
     record {
       words = omega arith;
       first = omega arith;
@@ -52,6 +52,23 @@ layout-fits header =
       few = omega arith;
       behind = extra-few (field 16 19 header);
     }
+
+log-fits : (header : ℕ) → LayoutFits (logLayout header)
+unfolding logLayout
+log-fits header =
+    record {
+      words = omega arith;
+      first = omega arith;
+      second = omega arith;
+      third = omega arith;
+      stream = omega arith;
+      few = omega arith;
+      behind = omega arith;
+    }
+
+pub layout-fits : (header : ℕ) → LayoutFits (layoutOf header)
+unfolding layoutOf
+layout-fits header = on-pick LayoutFits (isLog header) (logLayout header) (eventLayout header) (λ e. log-fits header) (λ e. event-fits header)
 
 -- ---- any kind
 

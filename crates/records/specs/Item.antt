@@ -10,6 +10,9 @@ use Rattle.words.specs.Word.{pick, Field, _of_}
 use Rattle.words.specs.Stream.{streamWords}
 use Rattle.arguments.specs.declared.Scalar.{Scalar}
 use Rattle.records.specs.declared.Event.{Event}
+use Rattle.records.specs.declared.Log.{Log}
+use Rattle.records.specs.declared.Own.{Own}
+use Rattle.records.specs.declared.Own.the-variants.{Event as EventOwn, Log as LogOwn}
 use Rattle.records.specs.Layout.{extraWords}
 
 -- what a reference is shown as: what it stands for, or "unresolved with its index"
@@ -39,11 +42,12 @@ pub data Referent : Type 0 where
 
 -- "An event item holds its provider id or none, type, timestamp, the rate in force, process and thread (or unresolved), category, name,
 -- arguments, and extra word": type and timestamp are its own, its references are thread, category and name, its last word is the extra word,
--- 0 where the type has none, and it has no stream. A reference that a kind has not is the empty text.
+-- 0 where the type has none, and it has no stream. A log's own is its timestamp, its reference is the thread, its stream is the message
+-- ("provider or none, timestamp, rate in force, process and thread or unresolved, message"). A reference that a kind has not is the empty text.
 pub record Report : Type 0 where
   pub provider : Option ℕ
   pub rate : ℕ
-  pub own : Event
+  pub own : Own
   pub first : Referent
   pub second : Referent
   pub third : Referent
@@ -88,14 +92,34 @@ pub record OwnLayout : Type 0 where
   pub behind : ℕ
 
 -- an event
-abbrev pub ownLayout : Event → OwnLayout
-ownLayout e =
+abbrev pub eventFields : (type count first second third : ℕ) → List Field
+eventFields type count first second third = type of 4 ∷ count of 4 ∷ first of 8 ∷ second of 16 ∷ third of 16 ∷ []
+
+abbrev pub eventOwnLayout : Event → OwnLayout
+eventOwnLayout e =
     record {
       type = 4;
-      header = λ count first second third long. e .variant of 4 ∷ count of 4 ∷ first of 8 ∷ second of 16 ∷ third of 16 ∷ [];
+      header = λ count first second third long. eventFields (e .variant) count first second third;
       words = e .timestamp ∷ [];
       behind = extraWords (e .variant);
     }
+
+-- a log
+abbrev pub logFields : (long first : ℕ) → List Field
+logFields long first = long of 15 ∷ 0 of 1 ∷ first of 8 ∷ 0 of 24 ∷ []
+
+abbrev pub logOwnLayout : Log → OwnLayout
+logOwnLayout l =
+    record {
+      type = 9;
+      header = λ count first second third long. logFields long first;
+      words = l .timestamp ∷ [];
+      behind = 0;
+    }
+
+abbrev pub ownLayout : Own → OwnLayout
+ownLayout (EventOwn e) = eventOwnLayout e
+ownLayout (LogOwn l) = logOwnLayout l
 
 abbrev pub lastWords : ℕ → ℕ → List ℕ
 lastWords behind last = pick (eqb behind 0) [] (last ∷ [])

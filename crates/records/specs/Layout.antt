@@ -17,6 +17,9 @@ use Rattle.arguments.specs.declared.Walked.{Walked}
 use Rattle.arguments.specs.declared.Walked.the-variants.{Refused as WalkRefused, End}
 use Rattle.arguments.specs.Argument.{argumentsOf, walked}
 use Rattle.records.specs.declared.Event.{Event}
+use Rattle.records.specs.declared.Log.{Log}
+use Rattle.records.specs.declared.Own.{Own}
+use Rattle.records.specs.declared.Own.the-variants.{Event as EventOwn, Log as LogOwn}
 use Rattle.records.specs.declared.Lookup.{Lookup}
 use Rattle.records.specs.declared.Report.{Report}
 use Rattle.records.specs.declared.Layout.{Layout}
@@ -41,9 +44,9 @@ unfoldable pub isEvent : ℕ → Bool
 isEvent header = pick (eqb (field 0 3 header) 4) (leb (field 16 19 header) 10) false
 
 -- "Event (4): event type [16..19], argument count [20..23], thread [24..31], category [32..47], name [48..63];
--- then timestamp, inline process and thread, inline category, inline name, arguments, and one more word". No other record is read so.
-unfoldable pub layoutOf : ℕ → Layout
-layoutOf header =
+-- then timestamp, inline process and thread, inline category, inline name, arguments, and one more word"
+unfoldable pub eventLayout : ℕ → Layout
+eventLayout header =
     record {
       read = isEvent header;
       words = 1;
@@ -56,9 +59,40 @@ layoutOf header =
       reserved = 0;
     }
 
+-- a log, type 9 (request W1)
+abbrev pub isLog : ℕ → Bool
+isLog header = eqb (field 0 3 header) 9
+
+-- "message length [16..30], thread reference [32..39], timestamp, inline process and thread, message stream"; the other bits are reserved, and it
+-- has neither a second nor a third reference
+unfoldable pub logLayout : ℕ → Layout
+logLayout header =
+    record {
+      read = true;
+      words = 1;
+      first = thread (field 32 39 header);
+      second = text 0;
+      third = text 0;
+      stream = field 16 30 header;
+      count = 0;
+      behind = 0;
+      reserved = field 31 31 header + field 40 63 header;
+    }
+
+-- no record but events and logs is read so
+unfoldable pub layoutOf : ℕ → Layout
+layoutOf header = pick (isLog header) (logLayout header) (eventLayout header)
+
+-- what is particular to an event that is read, and to a log
+unfoldable pub eventOf : Format → List ℕ → Event
+eventOf f source = record { variant = field 16 19 (wordAt (f .order) source 0); timestamp = wordAt (f .order) source 8 }
+
+unfoldable pub logOf : Format → List ℕ → Log
+logOf f source = record { timestamp = wordAt (f .order) source 8 }
+
 -- what is particular to the kind of a record that is read
-unfoldable pub ownOf : Format → List ℕ → Event
-ownOf f source = record { variant = field 16 19 (wordAt (f .order) source 0); timestamp = wordAt (f .order) source 8 }
+unfoldable pub ownOf : Format → List ℕ → Own
+ownOf f source = pick (isLog (wordAt (f .order) source 0)) (LogOwn (logOf f source)) (EventOwn (eventOf f source))
 
 -- ---- any kind
 

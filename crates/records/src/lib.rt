@@ -4,7 +4,7 @@ ghost use Prim.Native.Nat.{_+_, _-_, _*_, _^_, _<_, _≤_};
 ghost use lib.ListN.{length};
 ghost use Rattle.words.specs.Word.{wordAt};
 ghost use Rattle.format.specs.Models.Bounds.{PartFits};
-ghost use Rattle.records.specs.Layout.{hasExtra, extraWords, isEvent, layoutOf, ownOf, takeFields, lastWord, lookupOf, reportRead, reportOf};
+ghost use Rattle.records.specs.Layout.{hasExtra, extraWords, isEvent, eventLayout, isLog, logLayout, layoutOf, eventOf, logOf, ownOf, takeFields, lastWord, lookupOf, reportRead, reportOf};
 ghost use Rattle.records.specs.Models.Layouts.{LayoutFits, takePair};
 ghost use Rattle.records.specs.Record.{providerInfoOf, metadataOf, initializationOf, stringOf, threadOf, contentOf, recordAt};
 ghost use Rattle.records.specs.Item.{ownLayout};
@@ -22,6 +22,17 @@ pub struct Event {
     pub timestamp: u64,
 }
 
+// What is particular to a log: its timestamp.
+pub struct Log {
+    pub timestamp: u64,
+}
+
+// What is particular to the kind of a record that refers to texts and threads.
+pub enum Own {
+    Event(Event),
+    Log(Log),
+}
+
 // A reference with the table that it is looked up in, by the type of its records: 2 for texts, 3 for threads.
 pub struct Lookup {
     pub table: u64,
@@ -32,7 +43,7 @@ pub struct Lookup {
 // that is no reference, where its arguments start, and its last word. An absent reference is the empty inline text, an
 // absent stream has no bytes, an absent last word is 0.
 pub struct Report {
-    pub own: Event,
+    pub own: Own,
     pub first: Lookup,
     pub second: Lookup,
     pub third: Lookup,
@@ -175,9 +186,9 @@ fn extra_words(variant: u64) -> usize
     0
 }
 
-// Whether the record of this header refers to texts and threads, and how it is laid out then.
-pub fn layout_of(header: u64) -> Layout
-    ensures { λ r. ⌜ r ≡ layoutOf header ⌝ }
+// How an event is laid out, and whether it is one that is read.
+fn event_layout(header: u64) -> Layout
+    ensures { λ r. ⌜ r ≡ eventLayout header ⌝ }
 {
     Layout {
         read: is_event(header),
@@ -192,16 +203,73 @@ pub fn layout_of(header: u64) -> Layout
     }
 }
 
-// What is particular to the kind of such a record.
-fn own_of(f: Format, source: &[u8]) -> Event
-    requires { ⌜ 8 + 8 * (layoutOf (wordAt (f .order) (now source) 0) .words) ≤ length (now source) ⌝ }
-    ensures { λ r. ⌜ r ≡ ownOf f (now (source .entry)) ⌝ }
+// Whether this is the header of a log.
+fn is_log(header: u64) -> bool
+    ensures { λ r. ⌜ r ≡ isLog header ⌝ }
+{
+    words::field(header, 0, 3) == 9
+}
+
+// How a log is laid out.
+fn log_layout(header: u64) -> Layout
+    ensures { λ r. ⌜ r ≡ logLayout header ⌝ }
+{
+    Layout {
+        read: true,
+        words: 1,
+        first: Part::Thread(words::field(header, 32, 39)),
+        second: Part::Text(0),
+        third: Part::Text(0),
+        stream: words::field(header, 16, 30) as usize,
+        count: 0,
+        behind: 0,
+        reserved: words::field(header, 31, 31) + words::field(header, 40, 63),
+    }
+}
+
+// Whether the record of this header refers to texts and threads, and how it is laid out then.
+pub fn layout_of(header: u64) -> Layout
+    ensures { λ r. ⌜ r ≡ layoutOf header ⌝ }
+{
+    if is_log(header) {
+        return log_layout(header);
+    }
+    event_layout(header)
+}
+
+// What is particular to an event.
+fn event_of(f: Format, source: &[u8]) -> Event
+    requires { ⌜ 16 ≤ length (now source) ⌝ }
+    ensures { λ r. ⌜ r ≡ eventOf f (now (source .entry)) ⌝ }
 {
     let order = f.order;
     Event {
         variant: words::field(words::word(order, source, 0), 16, 19) as u8,
         timestamp: words::word(order, source, 8),
     }
+}
+
+// What is particular to a log.
+fn log_of(f: Format, source: &[u8]) -> Log
+    requires { ⌜ 16 ≤ length (now source) ⌝ }
+    ensures { λ r. ⌜ r ≡ logOf f (now (source .entry)) ⌝ }
+{
+    let order = f.order;
+    Log {
+        timestamp: words::word(order, source, 8),
+    }
+}
+
+// What is particular to the kind of such a record.
+fn own_of(f: Format, source: &[u8]) -> Own
+    requires { ⌜ 8 + 8 * (layoutOf (wordAt (f .order) (now source) 0) .words) ≤ length (now source) ⌝ }
+    ensures { λ r. ⌜ r ≡ ownOf f (now (source .entry)) ⌝ }
+{
+    let order = f.order;
+    if is_log(words::word(order, source, 0)) {
+        return Own::Log(log_of(f, source));
+    }
+    Own::Event(event_of(f, source))
 }
 
 // Two parts, one behind the other, at a place of a record, whose bytes are `source` and start at the place `start`.

@@ -14,7 +14,7 @@ use Rattle.passes.specs.Models.Item.{referentAt, textAt, argumentAt, argumentsA
 use Rattle.indexing.specs.Models.Indexes.{indexOf}
 use Rattle.encoding.proofs.EncodedArguments.{TextFits, ValueFits, ArgumentFits as ArgumentItemFits, AllFit, argumentWords, AllSized, all-sized, length-argument}
 use Rattle.encoding.proofs.EncodedLayouts.{ThreadFits, ReferentFits, ItemFits, length-body}
-use Rattle.encoding.proofs.EncodedReports.{own-encoded}
+use Rattle.encoding.proofs.EncodedReports.{header-same, own-encoded}
 use Rattle.encoding.specs.Encoded.{Encoded, layoutBody, valueRecord, argumentRecord, argumentsRecords, encodedText, encodedReferent, itemRecord, layoutHeader, referenceOf, recordBytes}
 use Rattle.encoding.specs.Models.Part.{textArgument, FieldsFit}
 use Rattle.words.specs.Word.{wordAt, Field}
@@ -256,9 +256,8 @@ module _ (f : Format) (archive : List ℕ) (last : State) (uses : List Use) (few
     header-spelled : reportFields f archive tables slots s r ≡ layoutHeader keyIndex (reportLayout item)
     unfolding reportAt
     header-spelled =
-        rw (first .part-is, second .part-is, third .part-is)
-        (ap (λ (n : ℕ). ownLayout (r .own) .header n (referenceOf (encodedReferent keyIndex (item .first))) (referenceOf (encodedReferent keyIndex (item .second)))
-        (referenceOf (encodedReferent keyIndex (item .third))) (length (item .stream))) (sym all))
+        header-same (r .own) (r .count) _ _ _ _ _ _ _ (length (item .stream)) _ (sym all) (ap referenceOf (first .part-is)) (ap referenceOf (second .part-is))
+        (ap referenceOf (third .part-is)) refl
 
     -- it is written as the rule writes it
     pub report-spelled : reportBytes f archive tables slots s r next ≡ itemRecord f keyIndex (report item)

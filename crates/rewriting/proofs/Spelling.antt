@@ -28,6 +28,7 @@ use Rattle.records.specs.Lookups.{textLookup, argumentsTo}
 use Rattle.contexts.specs.declared.State.{State}
 use Rattle.tables.specs.Table.{tableWords}
 use Rattle.encoding.proofs.Parts.{referent-reference}
+use Rattle.encoding.proofs.EncodedReports.{header-same}
 use Rattle.rewriting.specs.declared.Spelled.{Spelled}
 use Rattle.rewriting.specs.Models.Write.{SpelledAs, spelledBytes, spelledLookup, argumentBytes, argumentsBytes, spelledPart, streamOf, spelledPieces, spelledFields, spelledHeader, firstSpelled, secondSpelled, thirdSpelled, reportBody, reportBytes}
 use Rattle.rewriting.specs.Models.Fits.{SpelledThread, TextShort, ArgumentsFit, SpelledHeaderFits}
@@ -226,13 +227,7 @@ module _ (f : Format) (archive : List ℕ) (r : Report) (first second third : Sp
   long = length bytes
 
   fields-are : ownLayout (r .own) .header (r .count) a b c long ≡ spelledFields f archive r first second third
-  fields-are =
-      ap (λ (n : ℕ). ownLayout (r .own) .header (r .count) n b c long) one
-      ∙ ap (λ (n : ℕ). ownLayout (r .own) .header (r .count) (referenceOf (spelledPart f archive (r .first .table) first)) n c long) two
-      ∙ ap (λ (n : ℕ). ownLayout (r .own) .header (r .count) (referenceOf (spelledPart f archive (r .first .table) first))
-      (referenceOf (spelledPart f archive (r .second .table) second)) n long) three
-      ∙ ap (λ (n : ℕ). ownLayout (r .own) .header (r .count) (referenceOf (spelledPart f archive (r .first .table) first))
-      (referenceOf (spelledPart f archive (r .second .table) second)) (referenceOf (spelledPart f archive (r .third .table) third)) n) (ap length stream-is)
+  fields-are = header-same (r .own) (r .count) (r .count) a _ b _ c _ long _ refl one two three (ap length stream-is)
 
   pub header-is : (size : ℕ) → reportHeader f (r .own) size (r .count) a b c long ≡ spelledHeader f archive size r first second third
   header-is size = ap (λ (fields : List Field). wordBytes (f .order) (pack (ownLayout (r .own) .type of 4 ∷ size of 12 ∷ fields))) fields-are
@@ -270,10 +265,21 @@ module _ (f : Format) (archive tables slots : List ℕ) (s : State) (r : Report)
         p .third-is .1,
       )
 
+  -- a part is spelled as what it is spelled as
+  part-as : (table : ℕ) (x y : Spelled) → SpelledAs archive x y → referenceOf (spelledPart f archive table x) ≡ referenceOf (spelledPart f archive table y)
+  part-as table x y e = rw (e .0, e .1)
+
+  -- so the fields of its header are the same
+  fields-as : spelledFields f archive r first second third
+      ≡ spelledFields f archive r (firstSpelled f archive tables slots s r) (secondSpelled f archive tables slots s r) (thirdSpelled f archive tables slots s r)
+  fields-as =
+      header-same (r .own) (r .count) (r .count) _ _ _ _ _ _ (length (streamOf archive r)) _ refl (part-as (r .first .table) first _ (p .first-is))
+      (part-as (r .second .table) second _ (p .second-is)) (part-as (r .third .table) third _ (p .third-is)) refl
+
   -- the values of its header fit
   pub report-header : SpelledHeaderFits f archive r (firstSpelled f archive tables slots s r) (secondSpelled f archive tables slots s r)
       (thirdSpelled f archive tables slots s r) → SpelledHeaderFits f archive r first second third
-  report-header fit = rw (p .first-is .0, p .first-is .1, p .second-is .0, p .second-is .1, p .third-is .0, p .third-is .1) fit
+  report-header fit = subst FieldsFit (sym fields-as) fit
 
   -- a record is as long as its header and what is behind it
   pub report-long : length (reportBytes f archive tables slots s r next) ≡ 8 + length (reportBody f archive tables slots s r next)
@@ -297,7 +303,7 @@ module _ (f : Format) (archive tables slots : List ℕ) (s : State) (r : Report)
       let long = report-long in
       let size : (end - at) / 8 ≡ 1 + length (reportBody f archive tables slots s r next) / 8 = omega (arith, ended .1) in (
         a
-            ∙ rw (size, p .first-is .0, p .first-is .1, p .second-is .0, p .second-is .1, p .third-is .0, p .third-is .1, ended .0)
+            ∙ rw (size, fields-as, ended .0)
             (header-last f out at _ (reportBody f archive tables slots s r next) (omega (arith, long))),
         omega (arith, ended .1, long),
       )

@@ -550,7 +550,8 @@ fn put_pieces(
     let two = report.second;
     let three = report.third;
     let stream = report.stream;
-    let owned = encoding::put_own_words(f, out, at, report.own);
+    let own = report.own;
+    let owned = encoding::put_own_words(f, out, at, own);
     let behind_first = put_spelled(f, archive, out, owned, one.table, first);
     let behind_second = put_spelled(f, archive, out, behind_first, two.table, second);
     let behind_third = put_spelled(f, archive, out, behind_second, three.table, third);
@@ -577,11 +578,12 @@ fn put_header(
     let two = report.second;
     let three = report.third;
     let stream = report.stream;
+    let own = report.own;
     encoding::put_report_header(
         f,
         out,
         at,
-        report.own,
+        own,
         size,
         report.count,
         spelled_reference(archive, one.table, first),

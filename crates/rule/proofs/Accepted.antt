@@ -16,7 +16,7 @@ use Rattle.words.proofs.Same.{same-true}
 use Rattle.words.proofs.Words.{AllBytes, At}
 use Rattle.format.specs.declared.Format.{Format}
 use Rattle.format.specs.Limits.{smallFormat, longestArchive}
-use Rattle.records.specs.Item.{Item, magic, itemProvider, Use, usesOf}
+use Rattle.records.specs.Item.{Item, magic, itemProvider, Key, textKey, threadKey, Use, usesOf}
 use Rattle.encoding.specs.Encoded.{itemRecord}
 use Rattle.encoding.proofs.EncodedItems.{magic-fits, magic-record}
 use Rattle.contexts.specs.declared.State.{State}
@@ -31,12 +31,12 @@ use Rattle.reader.proofs.Runs.{Sound, fresh-sound, step-sound}
 use Rattle.reader.proofs.Steps.{admitted}
 use Rattle.effects.specs.declared.Change.{Change}
 use Rattle.format.specs.Header.{archiveNumber}
-use Rattle.rule.specs.Rule.{usesAll, Entry, indexIn, nextIndex, withUse, entriesAfter, chosenIn, rule}
+use Rattle.rule.specs.Rule.{sameKey, sameProvider, usesAll, Entry, indexIn, nextIndex, isNew, withUse, entriesAfter, chosenIn, rule}
 use Rattle.rule.specs.Refusal.{keepsAt, runFrom, runOf, Refusal, refusal, lossRefusal, unresolvedRefusal, itemUnresolved, Accepted}
 use Rattle.rule.proofs.Fitting.{GoodItem, step-good}
 use Rattle.rule.proofs.Items.{ShownAs, item-shown}
 use Rattle.rule.proofs.Limits.{Limited, limits-kept, limits-of, LowTable, low-index, UsesLow, uses-low}
-use Rattle.rule.proofs.Plain.{ItemPlain, KeysPlain, plain-fits, plain-keys}
+use Rattle.rule.proofs.Plain.{ItemPlain, Low, SomeKey, KeysPlain, plain-fits, plain-keys}
 use Rattle.rule.proofs.ReadBack.{UsesFit, AllFit, AllSuit, Starts, Writable}
 use Rattle.rule.proofs.WholeRuns.{nothing-advances, item-advances, run-passes, run-shows, reads-items, not-refused-passes}
 
@@ -51,19 +51,45 @@ uses-fit : (chosen : Use → Bool) (entries : List Entry) (us : List Use) → Ke
     → UsesFit smallFormat chosen entries us
 uses-fit chosen entries [] k l = tt
 uses-fit chosen entries (u ∷ us) k l =
-    ((λ e. k .0 (nextIndex entries u) (l .0 e .0) (l .0 e .1)), uses-fit chosen (withUse chosen entries u) us (k .1) (l .1))
+    ((λ e. k .0 (nextIndex entries u) (l .0 e .0) (l .0 e .1)), uses-fit chosen (withUse chosen entries u) us (k .2) (l .1))
+
+-- the empty text has no index
+abbrev NoEmpty : List Entry → Type 0
+NoEmpty entries = (provider : Option ℕ) → indexIn entries provider (textKey []) ≡ 0
+
+-- a use of another key gives it none
+other-use : (entries : List Entry) (u : Use) (index : ℕ) → SomeKey (u .key) → NoEmpty entries → NoEmpty (record { use-of = u; index = index } ∷ entries)
+other-use entries u index named empty provider =
+    let other = not-empty (u .key) named in
+    cases (sameProvider provider (u .provider)) (λ e. rw (e, other) (empty provider)) (λ e. rw e (empty provider))
+  where
+    not-empty : (key : Key) → SomeKey key → sameKey (textKey []) key ≡ false
+    not-empty (textKey []) h = absurd h
+    not-empty (textKey (b ∷ bs)) h = refl
+    not-empty (threadKey t) h = refl
+
+-- so it has none behind uses of plain items
+empty-left : (chosen : Use → Bool) (entries : List Entry) (us : List Use) → KeysPlain us → NoEmpty entries → NoEmpty (entriesAfter chosen entries us)
+empty-left chosen entries [] k empty = empty
+empty-left chosen entries (u ∷ us) k empty =
+    empty-left chosen (withUse chosen entries u) us (k .2)
+    (cases (isNew chosen entries u) (λ e. rw e (other-use entries u (nextIndex entries u) (k .1) empty)) (λ e. rw e empty))
 
 -- plain items fit where their uses keep the limits
 pub all-fit : (chosen : Use → Bool) (entries : List Entry) (items : List Item) → AllPlain smallFormat items
-    → Limited smallFormat (entriesAfter chosen entries (usesAll items)) (usesAll items) → LowTable smallFormat entries
+    → Limited smallFormat (entriesAfter chosen entries (usesAll items)) (usesAll items) → LowTable smallFormat entries → NoEmpty entries
     → AllFit smallFormat chosen entries items
-all-fit chosen entries [] plain limited low = tt
-all-fit chosen entries (i ∷ items) plain limited low =
+all-fit chosen entries [] plain limited low empty = tt
+all-fit chosen entries (i ∷ items) plain limited low empty =
     let u = uses-low smallFormat chosen entries (usesOf i) (usesAll items) limited low in
-    let entries′ = entriesAfter chosen entries (usesOf i) in (
-      uses-fit chosen entries (usesOf i) (plain-keys i (plain .0)) (u .0),
-      plain-fits (indexIn entries′ (itemProvider i)) i (low-index smallFormat entries′ (itemProvider i) (u .1)) (plain .0),
-      all-fit chosen entries′ items (plain .1) (u .2) (u .1),
+    let keys = plain-keys i (plain .0) in
+    let left = empty-left chosen entries (usesOf i) keys empty in
+    let entries′ = entriesAfter chosen entries (usesOf i) in
+    let indexes : Low (indexIn entries′ (itemProvider i)) =
+    record { limited = low-index smallFormat entries′ (itemProvider i) (u .1); empty = left (itemProvider i) } in (
+      uses-fit chosen entries (usesOf i) keys (u .0),
+      plain-fits (indexIn entries′ (itemProvider i)) i indexes (plain .0),
+      all-fit chosen entries′ items (plain .1) (u .2) (u .1) left,
     )
 
 -- ---- a run that loses nothing
@@ -175,12 +201,12 @@ accepted-writable archive items accepted bytes reads short =
     let index = indexIn [] none in
     let begins-so : At archive 0 (itemRecord smallFormat index magic) =
     rw (magic-record smallFormat index) (magic-at archive (opening-magic f archive (tableWords f) (accepted .opened))) in
-    let shown = item-shown f archive tables opening [] opens sound tt magic tt (magic-fits f index) begins-so in
+    let shown = item-shown f archive tables opening [] opens sound tt magic tt (magic-fits f index refl) begins-so in
     let limits = limits-of f [] run refl (passes .limits) in
     let limited = limits-kept f (chosenIn (usesAll items)) (usesAll items) (usesAll items) (rw (reads-items f archive items reads) at limits) in
     record {
       starts = begins f archive (reads .1) _ shown;
       suits = good .suits;
-      fits = all-fit (chosenIn (usesAll items)) [] items (good .plain) limited tt;
+      fits = all-fit (chosenIn (usesAll items)) [] items (good .plain) limited tt (λ provider. refl);
       short = omega (arith, short, admitted f archive (tableWords f) (accepted .opened) .short);
     }

@@ -1,4 +1,4 @@
--- Bench examples of document 01, those marked K and the nine words, computed of the definitions.
+-- Bench examples of document 01, those marked K and the nine words, and logs, computed of the definitions.
 -- Assumes nothing.
 use Prim.Native.Nat.{ℕ, _*_}
 use mathlib.Core.Path.{_≡_, refl}
@@ -20,9 +20,10 @@ use Rattle.arguments.specs.declared.Value.the-variants.{Scalar}
 use Rattle.arguments.specs.declared.Argued.the-variants.{Argument as ArgumentRead}
 use Rattle.arguments.specs.Argument.{headerScalar, holdsWord, argumentBody, argumentOf, argumentsOf, numberedOf, argumentsRead}
 use Rattle.arguments.specs.Loss.{valueBytes, reservedBits, valuePaddingZero, argumentKeeps, argumentsKeep}
+use Rattle.records.specs.declared.Own.the-variants.{Event as EventOwn, Log as LogOwn}
 use Rattle.records.specs.declared.Content.the-variants.{Refused, String, Skipped}
-use Rattle.records.specs.Layout.{hasExtra, extraWords, isEvent, layoutOf, ownOf, takeFields, lastWord, reportOf}
-use Rattle.records.specs.Record.{metadataOf, stringOf, contentOf, recordOf, recordAt}
+use Rattle.records.specs.Layout.{hasExtra, extraWords, isEvent, eventLayout, logLayout, layoutOf, eventOf, logOf, ownOf, takeFields, lastWord, reportOf}
+use Rattle.records.specs.Record.{metadataOf, stringOf, threadOf, contentOf, recordOf, recordAt}
 use Rattle.records.specs.Loss.{wordsKeep, streamKeeps, reportKeeps, recordKeeps}
 use Rattle.records.specs.Item.{known, Thread, thread, scalar, textReferent, threadReferent, Item, magic, report, threadKey, keyWords}
 use Rattle.contexts.specs.Context.{opening, belongsTo, providerOf}
@@ -34,7 +35,7 @@ use Rattle.reader.specs.Ask.{shownArgument, askedReport, askedPlace, argumentRe
 use Rattle.reader.specs.Reads.{argumentItems, itemOf}
 use Rattle.records.specs.Effect.{effectOf}
 use Rattle.rule.specs.Rule.{rule}
-use Rattle.rule.specs.Refusal.{ended, passed, runFrom, runOf, refusalOf, itemsOf, Accepted, writtenLength}
+use Rattle.rule.specs.Refusal.{refusal, ended, passed, runFrom, runOf, refusalOf, itemsOf, Accepted, writtenLength}
 
 -- the words of an archive, one after another
 abbrev archiveOf : List ℕ → List ℕ
@@ -77,7 +78,7 @@ nineEvent =
     report (record {
       provider = none;
       rate = 1000000000;
-      own = record { variant = 0; timestamp = 100 };
+      own = EventOwn (record { variant = 0; timestamp = 100 });
       first = threadReferent (known (thread 7 8));
       second = textReferent (known charge);
       third = textReferent (known sun);
@@ -92,7 +93,7 @@ elevenEvent =
     report (record {
       provider = none;
       rate = 1000000000;
-      own = record { variant = 0; timestamp = 100 };
+      own = EventOwn (record { variant = 0; timestamp = 100 });
       first = threadReferent (known (thread 7 8));
       second = textReferent (known sun);
       third = textReferent (known sun);
@@ -119,6 +120,32 @@ eleven =
     ∷ 8 ∷ 0 ∷ 0 ∷ 0 ∷ 0 ∷ 0 ∷ 0 ∷ 0
     ∷ 0x10 ∷ 0x00 ∷ 0x01 ∷ 0x00 ∷ 0x00 ∷ 0x00 ∷ 0x00 ∷ 0x00
     ∷ []
+
+-- request W1: two logs of the thread 7 8 with the message "sun", spelled inline: the magic, and five words for each
+abbrev logsInline : List ℕ
+logsInline = archiveOf (0x0016547846040010 ∷ 0x0000000000030059 ∷ 200 ∷ 7 ∷ 8 ∷ 0x6E7573 ∷ 0x0000000000030059 ∷ 300 ∷ 7 ∷ 8 ∷ 0x6E7573 ∷ [])
+
+-- the same repacked: the thread is registered under 1 right before the first, and both messages are inline, though they are the same
+abbrev logs : List ℕ
+logs = archiveOf (0x0016547846040010 ∷ 0x0000000000010033 ∷ 7 ∷ 8 ∷ 0x0000000100030039 ∷ 200 ∷ 0x6E7573 ∷ 0x0000000100030039 ∷ 300 ∷ 0x6E7573 ∷ [])
+
+abbrev logItem : ℕ → Item
+logItem timestamp =
+    report (record {
+      provider = none;
+      rate = 1000000000;
+      own = LogOwn (record { timestamp = timestamp });
+      first = threadReferent (known (thread 7 8));
+      second = textReferent (known []);
+      third = textReferent (known []);
+      stream = sun;
+      arguments = [];
+      last = 0;
+    })
+
+-- a log without a message that has the reserved bit 31 set
+abbrev logReserved : List ℕ
+logReserved = archiveOf (0x0016547846040010 ∷ 0x0000000080000049 ∷ 200 ∷ 7 ∷ 8 ∷ [])
 
 -- the magic from its last byte to its first
 abbrev reversed : List ℕ
@@ -168,6 +195,12 @@ pub record Table : Type 0 where
   pub k11-inline-repacked : rule smallFormat (itemsOf (runOf smallFormat elevenInline)) ≡ eleven
   -- the written length in the reply is theirs
   pub k11-inline-written : writtenLength smallFormat elevenInline ≡ 64
+  -- logs are items, and repacked with their thread registered and their messages inline
+  pub logs-run : runOf smallFormat logsInline ≡ passed 0 true (some magic) (passed 8 true (some (logItem 200)) (passed 48 true (some (logItem 300)) (ended 0 88)))
+  pub logs-repacked : rule smallFormat (itemsOf (runOf smallFormat logsInline)) ≡ logs
+  pub logs-again : itemsOf (runOf smallFormat logs) ≡ magic ∷ logItem 200 ∷ logItem 300 ∷ []
+  -- a reserved bit is lost: 10 at the log
+  pub log-reserved : refusalOf smallFormat (runOf smallFormat logReserved) ≡ some (refusal 10 8)
   -- K12: thread used once inline
   pub k12-once : (t : Thread) → registers (keyWords (threadKey t)) 1 ≡ false
   -- twice registered
@@ -191,8 +224,8 @@ pub record Table : Type 0 where
 pub table : Table
 unfolding little littleAt wordAt wordBytes bytesOf magicBytes startsWithMagic recordWords extentOf takeWords takeStream takeText takeThread takePart takeParts
     paddingZero headerScalar holdsWord argumentBody argumentOf argumentsOf numberedOf valueBytes reservedBits valuePaddingZero argumentKeeps
-    argumentsKeep hasExtra extraWords isEvent layoutOf ownOf takeFields lastWord reportOf tableOf metadataOf stringOf contentOf recordOf wordsKeep
-    streamKeeps reportKeeps recordKeeps belongsTo providerOf highestOf position registrationOf entryAt resolved isBad shownText shownThread
+    argumentsKeep hasExtra extraWords isEvent eventLayout logLayout layoutOf eventOf logOf ownOf takeFields lastWord reportOf tableOf
+    metadataOf stringOf threadOf contentOf recordOf wordsKeep streamKeeps reportKeeps recordKeeps belongsTo providerOf highestOf position registrationOf entryAt resolved isBad shownText shownThread
     shownReferent shownStream shownReport noneBad shownValue openingNumber archiveNumber stopping reportAnswer plainAnswer effectDecision
     contentDecision followed followedEntered changeOf effectOf argumentsRead
     placeDecision decisionOf changed shownArgument askedReport askedPlace argumentReply partOf argumentItems itemOf registers rule runFrom runOf
@@ -220,6 +253,10 @@ table =
       k11-inline-accepted = record { opened = refl; not-refused = refl };
       k11-inline-repacked = refl;
       k11-inline-written = refl;
+      logs-run = refl;
+      logs-repacked = refl;
+      logs-again = refl;
+      log-reserved = refl;
       k12-once = λ t. refl;
       k12-twice = λ t. refl;
       k13 = refl;

@@ -9,7 +9,7 @@ use mathlib.Core.Bool.{true, false, _&&_, _||_, true≢false}
 use mathlib.Core.Option.{Option, none, some}
 use native.Mathlib.Omega.{arith}
 use borrow.Author.Tests.{eqb-false, le-leb}
-use lib.Dec.{eqb, ltb}
+use lib.Dec.{eqb, leb, ltb}
 use lib.ListN.{length, getD, take, drop, length-take, length-drop}
 use Rattle.effects.specs.Follow.{changed, followed, changeOf}
 use Rattle.reader.proofs.Changes.{enteringAs, showing, entering-decided}
@@ -36,7 +36,7 @@ use Rattle.records.specs.Layout.{layoutOf}
 use Rattle.records.specs.Record.{recordAt}
 use Rattle.records.specs.Loss.{reportKeeps, recordKeeps}
 use Rattle.records.specs.Models.Bounds.{ReportInside}
-use Rattle.records.specs.Item.{Argument, Item, providerInfo, section, Referent, isUnresolved, valueUnresolved, argumentsUnresolved, referentUnresolved, ownLayout, lastWords}
+use Rattle.records.specs.Item.{known, Argument, Item, providerInfo, section, Referent, textReferent, isUnresolved, valueUnresolved, argumentsUnresolved, referentUnresolved, ownLayout, lastWords}
 use Rattle.contexts.specs.declared.State.{State}
 use Rattle.contexts.specs.Context.{moved, entering}
 use Rattle.tables.specs.declared.Resolved.{Resolved}
@@ -60,9 +60,8 @@ use Rattle.records.specs.Effect.{effectOf}
 use Rattle.words.specs.Stream.{partOf}
 use Rattle.rule.specs.Refusal.{keepsAt, itemUnresolved}
 use Rattle.arguments.proofs.Bounds.{TextShort, ValueBound, ArgumentBound, ArguedBound, number-bound}
-use Rattle.records.proofs.Bounds.{ReportBound, lengthOf, ContentBound, record-bound}
+use Rattle.records.proofs.Bounds.{Empty, LookupEmpty, ReportBound, lengthOf, AllWords, own-words-fit, ContentBound, record-bound}
 use Rattle.encoding.specs.Models.Part.{referentTable}
-use Rattle.encoding.proofs.EncodedParts.{AllWords}
 use Rattle.rule.proofs.LowerUses.{part-length}
 use Rattle.rule.proofs.Events.{asked-is}
 use Rattle.rule.proofs.Items.{ItemSuits, shownAt, report-decided, ninth-same, provider-moved, decision-is, end-is}
@@ -207,6 +206,24 @@ module _ (f : Format) (archive tables : List ℕ) (s : State) (bytes : AllBytes 
 
 -- ---- events
 
+-- no bytes of an archive are none
+part-empty : (archive : List ℕ) (place : ℕ) → partOf archive place 0 ≡ []
+unfolding partOf
+part-empty archive place =
+    on-pick (λ b. b ≡ []) (leb place (length archive)) (pick (leb 0 (length archive - place)) (take 0 (drop place archive)) []) []
+    (λ e. on-pick (λ b. b ≡ []) (leb 0 (length archive - place)) (take 0 (drop place archive)) [] (λ q. refl) (λ q. refl)) (λ e. refl)
+
+-- what a kind does not refer to is shown as the empty text
+referent-empty : (f : Format) (archive tables : List ℕ) (context until : ℕ) (l : Lookup) → LookupEmpty l
+    → referentItem archive (shownReferent f archive (l .table) (resolved f archive tables context (l .table) until (l .reference))) ≡ textReferent (known [])
+unfolding shownReferent shownText resolved
+referent-empty f archive tables context until l h = rw (h .0) (of-reference (l .reference) (h .1))
+  where
+    of-reference : (x : Reference) → Empty x
+        → textReferent (textItem archive (shownText (resolved f archive tables context 2 until x))) ≡ textReferent (known [])
+    of-reference (Inline place n) e = rw (e, part-empty archive place)
+    of-reference (Index i) e = absurd e
+
 -- the word behind the arguments, if there is one, is a word
 last-small : (behind last : ℕ) → last < 256 ^ 8 → AllWords (lastWords behind last)
 last-small behind last h = on-pick AllWords (eqb behind 0) _ _ (λ e. tt) (λ e. (h, tt))
@@ -284,8 +301,16 @@ module _ (f : Format) (archive tables : List ℕ) (s : State) (opens : openingNu
           let z = referent-plain f archive tables (s .current) (s .place) (q .third .table) (q .third .reference) bytes (fits .third .table) (bound .third) (e3 .0) in (
             (ap providerItem (sym (provider-moved s)), refl),
             record {
-              suits = record { own = rw (x .1, y .1, z .1, long, k .0) (bound .suits); no-last = bound .no-last };
-              pieces = ((bound .suits .timestamp, tt), (x .0, (y .0, (z .0, (omega (arith, long, bound .stream), tt)))));
+              suits = record {
+                own = rw (x .1, y .1, z .1, long, k .0) (bound .suits);
+                absent = record {
+                  no-first = λ h. referent-empty f archive tables (s .current) (s .place) (q .first) (bound .absent .no-first h);
+                  no-second = λ h. referent-empty f archive tables (s .current) (s .place) (q .second) (bound .absent .no-second h);
+                  no-third = λ h. referent-empty f archive tables (s .current) (s .place) (q .third) (bound .absent .no-third h);
+                };
+                no-last = bound .no-last;
+              };
+              pieces = (own-words-fit (q .own) _ _ _ _ _ (bound .suits), (x .0, (y .0, (z .0, (omega (arith, long, bound .stream), tt)))));
               arguments = k .1 (e3 .1);
               last = last-small (ownLayout (q .own) .behind) (q .last) (bound .last);
             },

@@ -40,7 +40,8 @@ use Rattle.records.specs.Models.Fixed.{fixedWords}
 use Rattle.records.specs.Models.Bounds.{ContentInside}
 use Rattle.records.proofs.Contents.{contentBytes, RecordStands, record-read}
 use Rattle.records.proofs.Bounds.{SizeShown, size-shown}
-use Rattle.encoding.proofs.EncodedReports.{length-last, behind-few}
+use Rattle.records.proofs.Bounds.{behind-few}
+use Rattle.encoding.proofs.EncodedReports.{length-last}
 use Rattle.contexts.specs.declared.State.{State}
 use Rattle.contexts.specs.Context.{opening, belongsTo, providerOf, moved, rated, inContext, withId, entering}
 use Rattle.tables.specs.Table.{Entry}

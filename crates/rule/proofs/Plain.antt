@@ -1,6 +1,7 @@
 -- Items whose values fit their fields: at the small size they can be written with any indexes that the tables hold.
 -- Assumes nothing.
 use Prim.Native.Nat.{ℕ, _^_, _≤_, _<_}
+use mathlib.Core.Path.{_≡_}
 use mathlib.Core.List.{[], List, _∷_, _++_}
 use mathlib.Core.Option.{Option, some}
 use native.Mathlib.Omega.{arith}
@@ -10,7 +11,7 @@ use Rattle.format.specs.Limits.{smallFormat}
 use Rattle.records.specs.Item.{Shown, known, unresolved, Thread, thread, Text, Value, scalar, text, Argument, Referent, textReferent, threadReferent, Item, Piece}
 use Rattle.records.specs.Item.{words, stream, refers, layoutOfItem, Key, textKey, threadKey, Use, textUses, threadUses, referentUses, valueUses, argumentsUses, piecesUses, usesOf}
 use Rattle.arguments.proofs.Bounds.{ScalarFits}
-use Rattle.encoding.proofs.EncodedParts.{AllWords}
+use Rattle.records.proofs.Bounds.{AllWords}
 use Rattle.encoding.proofs.EncodedArguments.{TextFits, ValueFits, AllFit}
 use Rattle.encoding.proofs.EncodedLayouts.{ThreadFits, ReferentFits, PiecesFit, KindSuits, ItemFits}
 use Rattle.encoding.proofs.EncodedItems.{small-item}
@@ -60,16 +61,17 @@ pub record ItemPlain (f : Format) (i : Item) : Type 0 where
 
 -- ---- so they are written, at the small size
 
--- indexes that the tables hold
-abbrev pub Low : (Key → ℕ) → Type 0
-Low index = (key : Key) → index key ≤ limitOf smallFormat key
+-- indexes that the tables hold, none of the empty text
+pub record Low (index : Key → ℕ) : Type 0 where
+  pub limited : (key : Key) → index key ≤ limitOf smallFormat key
+  pub empty : index (textKey []) ≡ 0
 
 text-fits : (index : Key → ℕ) (t : Text) → Low index → TextPlain smallFormat t → TextFits smallFormat index t
-text-fits index (known b) low h = (h, omega arith, omega (arith, low (textKey b)))
+text-fits index (known b) low h = (h, omega arith, omega (arith, low .limited (textKey b)))
 text-fits index (unresolved i) low h = h
 
 thread-fits : (index : Key → ℕ) (t : Shown Thread) → Low index → ThreadPlain t → ThreadFits index t
-thread-fits index (known (thread p t)) low h = (h .0, h .1, omega (arith, low (threadKey (thread p t))))
+thread-fits index (known (thread p t)) low h = (h .0, h .1, omega (arith, low .limited (threadKey (thread p t))))
 thread-fits index (unresolved i) low h = h
 
 referent-fits : (index : Key → ℕ) (s : Referent) → Low index → ReferentPlain smallFormat s → ReferentFits smallFormat index s
@@ -98,19 +100,27 @@ plain-fits index i low h =
     let arguments = arguments-fit index (layoutOfItem i .arguments) low (h .arguments) in
     record {
       suits = h .suits;
+      empty = low .empty;
       layout = record { pieces = pieces; arguments = arguments; last = h .last; size = small-item index i (h .suits) pieces arguments };
     }
 
 -- ---- and so are their keys
 
--- the keys of these uses fit under every index of their table
+-- a key that is not the empty text
+abbrev pub SomeKey : Key → Type 0
+SomeKey (textKey []) = ⊥
+SomeKey (textKey (b ∷ bs)) = Unit {0}
+SomeKey (threadKey t) = Unit {0}
+
+-- the keys of these uses fit under every index of their table, and none is the empty text
 abbrev pub KeysPlain : List Use → Type 0
 KeysPlain [] = Unit {0}
-KeysPlain (u ∷ us) = ((index : ℕ) → 0 < index → index ≤ limitOf smallFormat (u .key) → KeyFits smallFormat index (u .key)) × KeysPlain us
+KeysPlain (u ∷ us) =
+    ((index : ℕ) → 0 < index → index ≤ limitOf smallFormat (u .key) → KeyFits smallFormat index (u .key)) × SomeKey (u .key) × KeysPlain us
 
 keys-both : (us vs : List Use) → KeysPlain us → KeysPlain vs → KeysPlain (us ++ vs)
 keys-both [] vs h k = k
-keys-both (u ∷ us) vs h k = (h .0, keys-both us vs (h .1) k)
+keys-both (u ∷ us) vs h k = (h .0, h .1, keys-both us vs (h .2) k)
 
 text-keys : (provider : Option ℕ) (t : Text) → TextPlain smallFormat t → KeysPlain (textUses provider t)
 text-keys provider (known []) h = tt
@@ -124,11 +134,12 @@ text-keys provider (known (b ∷ bs)) h = (
     size-bits = omega arith;
   },
   tt,
+  tt,
 )
 text-keys provider (unresolved i) h = tt
 
 thread-keys : (provider : Option ℕ) (t : Shown Thread) → ThreadPlain t → KeysPlain (threadUses provider t)
-thread-keys provider (known (thread p t)) h = (λ index some low. (some, omega arith, h .0, h .1), tt)
+thread-keys provider (known (thread p t)) h = (λ index some low. (some, omega arith, h .0, h .1), tt, tt)
 thread-keys provider (unresolved i) h = tt
 
 referent-keys : (provider : Option ℕ) (s : Referent) → ReferentPlain smallFormat s → KeysPlain (referentUses provider s)

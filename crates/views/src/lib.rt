@@ -22,10 +22,10 @@ use contexts::Provider;
 use format::Format;
 use format::Reference;
 use records::Content;
-use records::Event;
 use records::Fields;
 use records::Last;
 use records::Layout;
+use records::Own;
 use records::Report;
 use tables::Resolved;
 
@@ -59,7 +59,7 @@ pub struct ShownReport {
     pub place: usize,
     pub provider: Provider,
     pub rate: u64,
-    pub own: Event,
+    pub own: Own,
     pub first: ShownReferent,
     pub second: ShownReferent,
     pub third: ShownReferent,

@@ -1,21 +1,21 @@
--- `put_own_words` meets its contract: an event has one word of its own.
-use native.Mathlib.Omega.{arith}
-use mathlib.Core.List.{append-nil}
-use Rattle.words.specs.Word.{wordBytes}
-use Rattle.words.proofs.Words.{length-wordBytes}
+-- `put_own_words` meets its contract: each kind has one word of its own. Assumes nothing.
 use borrow.Author.Needs.{needs}
 use Rattle.encoding.proofs.put_own_words.Statement.{statement}
 use Rattle.encoding.proofs.put_own_words.Tie as tie
 
-put-word-requires : tie.Need-put-word-requires
-put-word-requires c κs = let t = c .before .before .args .own .timestamp in
-    let e = append-nil (wordBytes (c .before .before .args .f .order) t) in
-    omega (arith, rw e at (c .before .before .pre), length-wordBytes (c .before .before .args .f .order) t)
+put-one-word-requires : tie.Need-put-one-word-requires
+put-one-word-requires c κs = rw (c .before .before .own .given .1) at (c .before .before .before .before .before .pre)
+
+put-one-word-requires-2 : tie.Need-put-one-word-requires-2
+put-one-word-requires-2 c κs = rw (c .before .before .own2 .given .1) at (c .before .before .before .before .before .pre)
 
 returns : tie.Need-returns
-returns c = let t = c .before .before .before .before .before .args .own .timestamp in
-    rw (append-nil (wordBytes (c .before .before .before .before .before .args .f .order) t)) (c .before .before .put-word .ensures, omega (arith, length-wordBytes (c .before .before .before .before .before .args .f .order) t))
+returns c = rw (c .before .before .before .before .before .own .given .1) (c .before .before .put-one-word .ensures)
+
+returns-2 : tie.Need-returns-2
+returns-2 c = rw (c .before .before .before .before .before .own2 .given .1) (c .before .before .put-one-word2 .ensures)
 
 pub put-own-words-spec : {M : Type 1} → statement M
 put-own-words-spec =
-    tie.close (tie.spec put-word-requires (λ c. search needs) (λ c. search needs) returns)
+    tie.close (tie.spec (λ c. search needs) put-one-word-requires (λ c. search needs) put-one-word-requires-2 (λ c. search needs) returns (λ c. search needs)
+    returns-2)

@@ -8,7 +8,7 @@ use Rattle.words.specs.Word.{pick, wordAt, wordBytes, Field, _of_, pack}
 use Rattle.format.specs.declared.Format.{Format}
 use Rattle.words.specs.Stream.{padded}
 use Rattle.arguments.specs.declared.Scalar.{Scalar}
-use Rattle.records.specs.declared.Event.{Event}
+use Rattle.records.specs.declared.Own.{Own}
 use Rattle.records.specs.Item.{Thread, thread, Referent, textReferent, threadReferent, Item, ownLayout}
 use Rattle.encoding.specs.Encoded.{Encoded, textIndex, threadIndex, textInline, threadInline, referenceOf, partBytes, scalarHalf, scalarParts, encodedArgument, itemRecord}
 use Rattle.arguments.specs.Argument.{scalarType}
@@ -47,9 +47,12 @@ FieldsFit [] = Unit {0}
 FieldsFit (v of w ∷ fields) = (v < 2 ^ w) × FieldsFit fields
 
 -- the header of a record that refers to texts and threads, from the size of its record in words
-abbrev pub reportHeader : Format → Event → (size count first second third long : ℕ) → List ℕ
+abbrev pub headerWord : (type size : ℕ) → List Field → ℕ
+headerWord type size fields = pack (type of 4 ∷ size of 12 ∷ fields)
+
+abbrev pub reportHeader : Format → Own → (size count first second third long : ℕ) → List ℕ
 reportHeader f own size count first second third long =
-    wordBytes (f .order) (pack (ownLayout own .type of 4 ∷ size of 12 ∷ ownLayout own .header count first second third long))
+    wordBytes (f .order) (headerWord (ownLayout own .type) size (ownLayout own .header count first second third long))
 
 -- an argument's header and name, where so many words follow them
 abbrev pub argumentStart : Format → (type more half : ℕ) → Encoded → List ℕ

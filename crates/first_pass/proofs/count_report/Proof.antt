@@ -6,7 +6,7 @@ use mathlib.Core.Bool.{_&&_}
 use native.Mathlib.Omega.{arith}
 use lib.ListN.{take, drop}
 use Rattle.records.specs.Lookups.{argumentLookups, argumentsTo}
-use Rattle.encoding.proofs.EncodedReports.{behind-few}
+use Rattle.records.proofs.Bounds.{own-words-few, behind-few}
 use Rattle.passes.proofs.Places.{report-bounds}
 use Rattle.first_pass.specs.Models.Count.{tablesIn}
 use Rattle.first_pass.proofs.References.{report-words}
@@ -142,6 +142,20 @@ inline-bytes-requires c κs =
     (stream-inside (a .f) (a .archive .now) (a .s .place) (a .report) (a .next) (p .1 .1)) in
     omega (arith, stream, b .last, p .0 .short)
 
+add-fixed : tie.Need-add-fixed
+add-fixed c =
+    let back = c .before .before .before .before .before .before .before .before .before .before in
+    let further = back .before .before .before .before .before .before .before .before .before .before in
+    let a = further .before .before .before .before .before .before .args in
+    omega (arith, c .own-words .ensures, own-words-few (a .report .own))
+
+add-fixed-2 : tie.Need-add-fixed-2
+add-fixed-2 c =
+    let back = c .before .before .before .before .before .before .before .before .before .before in
+    let further = back .before .before .before .before .before .before .before .before .before .before in
+    let a = further .before .before .before .before .before .before .before .args in
+    omega (arith, c .before .own-words .ensures, own-words-few (a .report .own))
+
 add-t33 : tie.Need-add-t33
 add-t33 c =
     let back = c .before .before .before .before .before .before .before .before .before .before in
@@ -154,7 +168,18 @@ add-t33 c =
     (stream-inside (a .f) (a .archive .now) (a .s .place) (a .report) (a .next) (p .1 .1)) in
     let words = count-arguments .ensures .1 .0 in
     let most = words-few (a .f) (a .report .count) (take (a .next - a .report .arguments) (drop (a .report .arguments) (a .archive .now))) (a .report .arguments) in
-    omega (arith, stream, b .last, b .few, p .0 .short, words, most, c .before .inline-bytes .ensures, c .before .before .own-words .ensures)
+    omega (
+      arith,
+      stream,
+      b .last,
+      b .few,
+      p .0 .short,
+      words,
+      most,
+      c .before .inline-bytes .ensures,
+      c .before .before .own-words .ensures,
+      own-words-few (a .report .own),
+    )
 
 own-behind-requires : tie.Need-own-behind-requires
 own-behind-requires c κs =
@@ -186,6 +211,7 @@ add-t39 c =
       most,
       c .before .before .inline-bytes .ensures,
       own-words .ensures,
+      own-words-few (a .report .own),
       c .own-behind .ensures,
       behind-few (a .report .own),
     )
@@ -245,4 +271,4 @@ pub count-report-spec : {M : Type 1} → statement M
 count-report-spec =
     tie.close (tie.spec count-reference-requires count-reference-requires-2 count-reference-requires-3 sub-count-arguments part-count-arguments-start
     part-count-arguments-end count-arguments-requires (λ c κs. search needs) (λ c κs. search needs) (λ c κs. search needs)
-    own-words-requires (λ c. search needs) inline-bytes-requires (λ c. search needs) add-t33 own-behind-requires add-t39 same-length returns)
+    own-words-requires add-fixed inline-bytes-requires add-fixed-2 add-t33 own-behind-requires add-t39 same-length returns)

@@ -8,8 +8,8 @@ use Rattle.item_lines.proofs.put_report.Tie as tie
 returns : tie.Need-returns
 unfolding reportLine
 returns c =
-    let put-event = c .before .before .before .before .before .before .before .put-event in
-    put-event .ensures then c .before .before .put-bytes .ensures
+    let put-own = c .before .before .before .before .before .before .before .put-own in
+    put-own .ensures then c .before .before .put-bytes .ensures
 
 pub put-report-spec : {M : Type 1} → statement M
 put-report-spec =
