@@ -1,6 +1,6 @@
 // Digests of a whole reading by either reader, through the same calls and the same loop.
 use crate::plain;
-use crate::replies::{count, walk, Reader, ANSWER, ARGUMENT, EVENT, LOG, REPLY};
+use crate::replies::{count, walk, Reader, ANSWER, ARGUMENT, EVENT, LOG, RATES, REPLY};
 
 fn mix(x: u64, number: u64) -> u64 {
     x.rotate_left(7).wrapping_add(number)
@@ -56,9 +56,9 @@ pub fn read<R: Reader>(archive: &[u8], tables: &mut [u32]) -> u64 {
     x
 }
 
-// Steps through an archive and asks for nothing: the place and the rate after each step.
+// Steps through an archive and asks for nothing: the place and the current context's rate after each step.
 pub fn steps<R: Reader>(archive: &[u8], tables: &mut [u32]) -> u64 {
     let mut x = 0;
-    walk::<R>(archive, tables, |_, out, _, _| x = mix(mix(x, out[ANSWER]), out[ANSWER + 1]));
+    walk::<R>(archive, tables, |_, out, _, _| x = mix(mix(x, out[ANSWER]), out[ANSWER + RATES + out[REPLY - 1] as usize]));
     x
 }

@@ -1,4 +1,5 @@
-// The listing of document 01, with the lines of request W1 (logs), by the plain reader, to compare it with the expected answers of the test vectors.
+// The listing of document 01, with the lines of requests W1 (logs) and W2 (nine rates in a state), by the plain reader, to compare it
+// with the expected answers of the test vectors.
 use crate::plain::{self, Argument, Item, State, Stop, Text, Thread, Value};
 
 fn text(archive: &[u8], t: Text) -> Vec<u8> {
@@ -72,8 +73,9 @@ pub fn stop_line(stop: &Stop) -> Vec<u8> {
 }
 
 pub fn state_line(s: &State) -> Vec<u8> {
-    let ids: Vec<String> = s.ids.iter().map(|id| id.to_string()).collect();
-    format!("s {} {} {} {} {}\n", s.place, s.rate, ids.join(" "), s.count, s.current).into_bytes()
+    let rates = s.rates.map(|rate| rate.to_string()).join(" ");
+    let ids = s.ids.map(|id| id.to_string()).join(" ");
+    format!("s {} {rates} {ids} {} {}\n", s.place, s.count, s.current).into_bytes()
 }
 
 pub fn listing(archive: &[u8]) -> Vec<u8> {

@@ -137,6 +137,10 @@ fn compare_states(random: &mut Random, archive: &[u8]) -> Result<u64, String> {
                 *id = random.below(6) as u32;
             }
         }
+        // any rates, also in slots that are opened later
+        if random.chance(80) {
+            state.rates = std::array::from_fn(|_| make::rate(random));
+        }
         if random.chance(10) {
             state.place = random.below(archive.len() + 20);
         }
@@ -149,7 +153,7 @@ fn compare_states(random: &mut Random, archive: &[u8]) -> Result<u64, String> {
         }
         let mut numbers = replies::state_numbers(&state).to_vec();
         if random.chance(10) {
-            numbers[2 + random.below(8)] |= random.next() << 32;
+            numbers[replies::IDS + random.below(8)] |= random.next() << 32;
         }
         if random.chance(5) {
             numbers.resize(random.below(STATE + 3), 7);
@@ -215,8 +219,8 @@ fn test(many: usize) {
     }
     println!("{many} archives, whole, cut and damaged: {answers} replies and {calls} calls with any state and tables, no difference");
     println!("they ended by number (0 to 9): {outcomes:?}");
-    // every cut of one archive
-    let archive = make::bytes_of(&make::records(&mut Random(77)).concat());
+    // every cut of one archive, with rates of several contexts
+    let archive = make::bytes_of(&make::records(&mut Random(951)).concat());
     for n in 0..=archive.len() {
         if let Err(what) = compare(&archive[..n], TABLE_WORDS, n as u64) {
             save(&archive[..n], &what);
@@ -296,8 +300,8 @@ fn probes(path: &str) {
     let (mut lines, mut at, mut probe) = (vec![], 0, 0);
     while at < bytes.len() {
         let header = &bytes[at..at + 176];
-        if word32(header, 160) != NO_SHEET || header[164..].iter().chain(&header[24..88]).any(|&byte| byte != 0) {
-            unread(format!("probe {probe} has a sheet, another size, marks or a second rate"));
+        if word32(header, 160) != NO_SHEET || header[164..].iter().any(|&byte| byte != 0) {
+            unread(format!("probe {probe} has a sheet, another size or marks"));
         }
         let n = word32(header, 4);
         let entries = word32(header, 156);
@@ -310,7 +314,7 @@ fn probes(path: &str) {
         at = start + n;
         let mut state = State {
             place: word64(header, 8) as usize,
-            rate: word64(header, 16),
+            rates: std::array::from_fn(|i| word64(header, 16 + 8 * i)),
             ids: std::array::from_fn(|i| word32(header, 88 + 4 * i) as u32),
             count: word64(header, 120) as usize,
             current: word64(header, 128) as usize,

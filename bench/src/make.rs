@@ -66,6 +66,18 @@ fn section_record(id: u32) -> Vec<u64> {
     vec![1 << 4 | 2 << 16 | (id as u64) << 20]
 }
 
+pub fn rate(random: &mut Random) -> u64 {
+    match random.below(8) {
+        0 => [0, 1, 1_000_000_000, u64::MAX][random.below(4)],
+        1 => random.next(),
+        _ => random.next() % 5_000_000_000,
+    }
+}
+
+fn initialization_record(random: &mut Random) -> Vec<u64> {
+    vec![1 | 2 << 4, rate(random)]
+}
+
 // A log of a thread by its index, or of one that is spelled where the index is 0.
 fn log_record(time: u64, index: usize, words: [u64; 2], message: &[u8]) -> Vec<u64> {
     let mut body = vec![time];
@@ -297,13 +309,17 @@ pub fn records(random: &mut Random) -> Vec<Vec<u64>> {
     };
     let long_names = random.chance(10);
     let odd_logs = random.chance(40);
-    let ids = if random.chance(25) { 40 } else { 5 };
+    let many_rates = random.chance(40);
+    let ids = if random.chance(25) { 40 } else if many_rates { 3 } else { 5 };
     let mut records = vec![vec![MAGIC]];
+    if random.chance(20) {
+        records.push(initialization_record(random));
+    }
     for _ in 0..random.within(1..40) {
         let index = random.within(1..many + 2);
         let id = random.below(ids) as u32;
         records.push(match random.below(40) {
-            0 => vec![1 | 2 << 4, random.next() % 5_000_000_000],
+            0 => initialization_record(random),
             1 | 2 => provider_record(id, &name(random, 0..12)),
             3..=5 => section_record(id),
             6 => vec![1 << 4 | 3 << 16 | (id as u64) << 20 | (random.next() & 15) << 52],
@@ -327,6 +343,9 @@ pub fn records(random: &mut Random) -> Vec<Vec<u64>> {
             25 => vec![MAGIC],
             26..=28 => style.log(random, records.len() as u64),
             29 | 30 if odd_logs => style.odd_log(random, records.len() as u64),
+            // contexts with rates of their own, and back to them
+            31..=33 if many_rates => initialization_record(random),
+            34..=36 if many_rates => section_record(id),
             _ => {
                 let mut words = style.event(random, records.len() as u64);
                 if random.chance(5) {
@@ -361,6 +380,9 @@ fn context(random: &mut Random, provider: Option<u32>) -> (Style, Vec<Vec<u64>>)
     if let Some(id) = provider {
         start.push(if random.chance(60) { provider_record(id, &name(random, 0..12)) } else { section_record(id) });
     }
+    if random.chance(50) {
+        start.push(initialization_record(random));
+    }
     start.extend((0..registered[0]).map(|i| string_record(i + 1, &texts[i])));
     start.extend((0..registered[1]).map(|i| thread_record(i + 1, threads[i])));
     let style = Style { texts, threads, registered, inline: random.below(101), arguments: random.below(16) };
@@ -387,7 +409,7 @@ pub fn sound(random: &mut Random) -> Vec<Vec<u64>> {
         }
         let style = styles[current].as_mut().unwrap();
         records.push(match random.below(40) {
-            0 => vec![1 | 2 << 4, random.next() % 5_000_000_000],
+            0 => initialization_record(random),
             1 => vec![1 << 4 | 3 << 16 | random.next() % 9 << 20 | (random.next() & 15) << 52],
             2 => string_record(0, b"ignored"),
             3 => thread_record(0, [1, 2]),
@@ -422,6 +444,7 @@ pub fn every_kind(random: &mut Random) -> Vec<u8> {
     };
     let mut words = vec![MAGIC, 1 | 2 << 4, 24_000_000];
     words.extend(provider_record(7, b"provider"));
+    words.extend([1 | 2 << 4, 19_200_000]);
     words.extend(section_record(9));
     words.push(1 << 4 | 3 << 16 | 9 << 20 | 2 << 52);
     words.extend((0..2).flat_map(|i| string_record(i + 1, &style.texts[i])));
@@ -435,6 +458,8 @@ pub fn every_kind(random: &mut Random) -> Vec<u8> {
     words.extend(log_record(7, 1, [0, 0], b"one"));
     words.extend(log_record(8, 0, [3, 4], b"log message"));
     words.extend(log_record(9, 0, [1, 2], b""));
+    words.extend(section_record(7));
+    words.extend(log_record(10, 0, [1, 2], b"met again"));
     bytes_of(&words)
 }
 

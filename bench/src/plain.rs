@@ -1,5 +1,5 @@
-// A plain Rust reader of Fuchsia traces, written for comparison: the checks and replies of document 01 and of request W1 (logs), and
-// nothing proved.
+// A plain Rust reader of Fuchsia traces, written for comparison: the checks and replies of document 01 and of requests W1 (logs) and
+// W2 (a rate for each context), and nothing proved.
 // A record is read through a cursor; what it refers to is looked up in the tables of its context.
 
 pub const CONTEXT_WORDS: usize = 768;
@@ -7,12 +7,15 @@ pub const TABLE_WORDS: usize = 9 * CONTEXT_WORDS;
 pub const LONGEST_ARCHIVE: usize = 1 << 24;
 pub const LONGEST_TEXT: usize = 256;
 pub const HIGHEST_INDEX: usize = 511;
+// The rate from opening the archive or the context until its own initialization record.
+pub const FIRST_RATE: u64 = 1_000_000_000;
 pub const MAGIC: [u8; 8] = [0x10, 0x00, 0x04, 0x46, 0x78, 0x54, 0x16, 0x00];
 
+// The rates are by slot: 0 for no provider, then one for each id.
 #[derive(Clone, Copy, Debug, PartialEq, Eq)]
 pub struct State {
     pub place: usize,
-    pub rate: u64,
+    pub rates: [u64; 9],
     pub ids: [u32; 8],
     pub count: usize,
     pub current: usize,
@@ -20,13 +23,17 @@ pub struct State {
 
 impl Default for State {
     fn default() -> Self {
-        State { place: 0, rate: 1_000_000_000, ids: [0; 8], count: 0, current: 0 }
+        State { place: 0, rates: [FIRST_RATE; 9], ids: [0; 8], count: 0, current: 0 }
     }
 }
 
 impl State {
     fn provider(&self) -> Option<u32> {
         self.current.checked_sub(1).map(|slot| self.ids[slot])
+    }
+
+    fn rate(&self) -> u64 {
+        self.rates[self.current]
     }
 }
 
@@ -380,7 +387,7 @@ fn read(archive: &[u8], state: &mut State, tables: &mut [u32]) -> Result<Option<
                 return Err(6);
             }
             let rate = word(archive, place + 8);
-            state.rate = rate;
+            state.rates[state.current] = rate;
             Some(Item::Initialization { rate })
         }
         2 => {
@@ -456,6 +463,7 @@ fn enter(state: &mut State, id: u32) -> Result<(), u8> {
     state.ids[state.count] = id;
     state.count += 1;
     state.current = state.count;
+    state.rates[state.current] = FIRST_RATE;
     Ok(())
 }
 
@@ -478,7 +486,7 @@ fn event(archive: &[u8], state: &State, tables: &[u32], header: u64, end: usize)
         provider: state.provider(),
         kind: head.kind,
         timestamp: head.timestamp,
-        rate: state.rate,
+        rate: state.rate(),
         thread: lookup.thread(head.thread).ok_or(4)?,
         category: lookup.text(head.category).ok_or(4)?,
         name: lookup.text(head.name).ok_or(4)?,
@@ -495,7 +503,7 @@ fn log(archive: &[u8], state: &State, tables: &[u32], header: u64, end: usize) -
     let thread = body.thread(bits(header, 32, 39))?;
     let message = body.stream(length)?;
     let thread = Lookup::new(archive, tables, state.current, place).thread(thread).ok_or(4)?;
-    Ok(Log { place, provider: state.provider(), timestamp, rate: state.rate, thread, message, length })
+    Ok(Log { place, provider: state.provider(), timestamp, rate: state.rate(), thread, message, length })
 }
 
 // An argument of the event at a place, by its number from 0, in the state right after that event.

@@ -4,8 +4,12 @@ use crate::plain::{self, Argument, Item, State, Stop, Text, Thread, Value};
 
 // How many numbers an answer or an argument has, a state, and a reply, which is an answer and a state.
 pub const ANSWER: usize = 20;
-pub const STATE: usize = 12;
+pub const STATE: usize = 20;
 pub const REPLY: usize = ANSWER + STATE;
+
+// Where the rates and the ids stand in a state's numbers; the place is in front, how many ids and the current slot are behind.
+pub const RATES: usize = 1;
+pub const IDS: usize = RATES + 9;
 
 // The first number of an end or a refusal, of an event, of an argument and of a log; 11 is a repacking's.
 pub const END: u64 = 1;
@@ -58,8 +62,9 @@ fn value(v: Value) -> [u64; 4] {
 }
 
 pub fn state_numbers(s: &State) -> [u64; STATE] {
-    let [a, b, c, d, e, f, g, h] = s.ids.map(u64::from);
-    [s.place as u64, s.rate, a, b, c, d, e, f, g, h, s.count as u64, s.current as u64]
+    let [a, b, c, d, e, f, g, h, i] = s.rates;
+    let [j, k, l, m, n, o, p, q] = s.ids.map(u64::from);
+    [s.place as u64, a, b, c, d, e, f, g, h, i, j, k, l, m, n, o, p, q, s.count as u64, s.current as u64]
 }
 
 // The state that numbers stand for; those that are missing are 0.
@@ -70,10 +75,10 @@ fn given_state(numbers: &[u64]) -> State {
     };
     State {
         place: n[0] as usize,
-        rate: n[1],
-        ids: std::array::from_fn(|i| n[2 + i] as u32),
-        count: n[10] as usize,
-        current: n[11] as usize,
+        rates: std::array::from_fn(|i| n[RATES + i]),
+        ids: std::array::from_fn(|i| n[IDS + i] as u32),
+        count: n[STATE - 2] as usize,
+        current: n[STATE - 1] as usize,
     }
 }
 

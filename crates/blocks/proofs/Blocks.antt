@@ -86,8 +86,8 @@ pub length-asked : (a : Asked) → length (askedNumbers a) ≡ 20
 unfolding askedNumbers
 length-asked a = length-block 20 (askedValues a) (omega (arith, asked-values a))
 
--- a reply has thirty-two numbers
-pub length-reply : (a : Answer) (s : State) → length (answerNumbers a ++ stateNumbers s) ≡ 32
+-- a reply has forty numbers
+pub length-reply : (a : Answer) (s : State) → length (answerNumbers a ++ stateNumbers s) ≡ 40
 unfolding stateNumbers
 length-reply a s = rw (length-append (answerNumbers a), length-answer a)
 
@@ -98,17 +98,18 @@ onward out {before} place at a b h e p q =
     q ∙ ap (λ (n : ℕ). overwritten before n b) e ∙ ap (λ (o : List ℕ). overwritten o (place + length a) b) p ∙ overwritten-twice out place a b h
 
 -- five times four numbers, put one behind the other, are one writing
-pub twenty : (out : List ℕ) {o1 o2 o3 o4 o5 : List ℕ} (a b c d e : List ℕ) → length a ≡ 4 → length b ≡ 4 → length c ≡ 4 → length d ≡ 4
-    → o1 ≡ overwritten out 0 a → o2 ≡ overwritten o1 4 b → o3 ≡ overwritten o2 8 c → o4 ≡ overwritten o3 12 d → o5 ≡ overwritten o4 16 e
-    → o5 ≡ overwritten out 0 (a ++ (b ++ (c ++ (d ++ e))))
-twenty out a b c d e la lb lc ld p1 p2 p3 p4 p5 =
-    let p12 = onward out 0 4 a b (omega arith) (omega arith) p1 p2 in
-    let p13 = onward out 0 8 (a ++ b) c (omega arith) (omega (arith, length-append a b)) p12 p3 in
-    let p14 = onward out 0 12 ((a ++ b) ++ c) d (omega arith) (omega (arith, length-append a b, length-append (a ++ b) c)) p13 p4 in
+pub twenty : (out : List ℕ) (at : ℕ) {o1 o2 o3 o4 o5 : List ℕ} (a b c d e : List ℕ) → at ≤ length out
+    → length a ≡ 4 → length b ≡ 4 → length c ≡ 4 → length d ≡ 4
+    → o1 ≡ overwritten out at a → o2 ≡ overwritten o1 (at + 4) b → o3 ≡ overwritten o2 (at + 8) c → o4 ≡ overwritten o3 (at + 12) d
+    → o5 ≡ overwritten o4 (at + 16) e → o5 ≡ overwritten out at (a ++ (b ++ (c ++ (d ++ e))))
+twenty out at a b c d e h la lb lc ld p1 p2 p3 p4 p5 =
+    let p12 = onward out at (at + 4) a b h (omega arith) p1 p2 in
+    let p13 = onward out at (at + 8) (a ++ b) c h (omega (arith, length-append a b)) p12 p3 in
+    let p14 = onward out at (at + 12) ((a ++ b) ++ c) d h (omega (arith, length-append a b, length-append (a ++ b) c)) p13 p4 in
     let ends : length (((a ++ b) ++ c) ++ d) ≡ 16 =
     omega (arith, length-append a b, length-append (a ++ b) c, length-append ((a ++ b) ++ c) d) in
-    let p15 = onward out 0 16 (((a ++ b) ++ c) ++ d) e (omega arith) (omega arith) p14 p5 in
-    p15 ∙ ap (overwritten out 0) (append-assoc ((a ++ b) ++ c) d e ∙ append-assoc (a ++ b) c (d ++ e) ∙ append-assoc a b (c ++ (d ++ e)))
+    let p15 = onward out at (at + 16) (((a ++ b) ++ c) ++ d) e h (omega arith) p14 p5 in
+    p15 ∙ ap (overwritten out at) (append-assoc ((a ++ b) ++ c) d e ∙ append-assoc (a ++ b) c (d ++ e) ∙ append-assoc a b (c ++ (d ++ e)))
 
 -- lent words that are too few stay as they were
 pub put-none : (out numbers : List ℕ) (n : ℕ) → length numbers ≡ n → length out < n → out ≡ putNumbers out numbers
@@ -117,23 +118,3 @@ put-none out numbers n long h = rw (long, lt-ltb _ _ h)
 -- lent words that are enough hold the numbers at their start
 pub put-all : (out numbers : List ℕ) (n : ℕ) → length numbers ≡ n → n ≤ length out → overwritten out 0 numbers ≡ putNumbers out numbers
 put-all out numbers n long h = let l : length numbers ≤ length out = omega arith in rw (le-ltb _ _ l)
-
--- numbers behind the twelve say nothing
-pub first-twelve : (numbers : List ℕ) → givenState (take 12 numbers) ≡ givenState numbers
-unfolding givenState
-first-twelve numbers =
-    let first : (i : ℕ) → i < 12 → getD (take 12 numbers) i 0 ≡ getD numbers i 0 = λ i h. getD-take 12 numbers i 0 h in
-    rw (
-      first 0 (omega arith),
-      first 1 (omega arith),
-      first 2 (omega arith),
-      first 3 (omega arith),
-      first 4 (omega arith),
-      first 5 (omega arith),
-      first 6 (omega arith),
-      first 7 (omega arith),
-      first 8 (omega arith),
-      first 9 (omega arith),
-      first 10 (omega arith),
-      first 11 (omega arith),
-    )

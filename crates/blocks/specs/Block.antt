@@ -23,10 +23,12 @@ answerNumbers a = block 20 (answerValues a)
 unfoldable pub askedNumbers : Asked → List ℕ
 askedNumbers a = block 20 (askedValues a)
 
--- a state has twelve: its place, the rate, "The eight provider ids, their number and the current one"
+-- a state has twenty: its place, the rate of each context, "The eight provider ids, their number and the current one"
 unfoldable pub stateNumbers : State → List ℕ
 stateNumbers s =
-    s .place ∷ s .rate
+    s .place
+    ∷ getD (s .rates) 0 0 ∷ getD (s .rates) 1 0 ∷ getD (s .rates) 2 0 ∷ getD (s .rates) 3 0 ∷ getD (s .rates) 4 0
+    ∷ getD (s .rates) 5 0 ∷ getD (s .rates) 6 0 ∷ getD (s .rates) 7 0 ∷ getD (s .rates) 8 0
     ∷ getD (s .ids) 0 0 ∷ getD (s .ids) 1 0 ∷ getD (s .ids) 2 0 ∷ getD (s .ids) 3 0
     ∷ getD (s .ids) 4 0 ∷ getD (s .ids) 5 0 ∷ getD (s .ids) 6 0 ∷ getD (s .ids) 7 0
     ∷ s .count ∷ s .current ∷ []
@@ -39,16 +41,18 @@ replyNumbers r = answerNumbers (r .answer) ++ stateNumbers (r .state)
 abbrev pub idAt : List ℕ → ℕ → ℕ
 idAt numbers i = getD numbers i 0 % 2 ^ 32
 
--- the state that a list of numbers stands for, in the same order; a number that is missing is 0, and those behind the twelve say nothing
+-- the state that a list of numbers stands for, in the same order; a number that is missing is 0, and those behind the twenty say nothing
 unfoldable pub givenState : List ℕ → State
 givenState numbers = record {
   place = getD numbers 0 0;
-  rate = getD numbers 1 0;
+  rates =
+      getD numbers 1 0 ∷ getD numbers 2 0 ∷ getD numbers 3 0 ∷ getD numbers 4 0 ∷ getD numbers 5 0
+      ∷ getD numbers 6 0 ∷ getD numbers 7 0 ∷ getD numbers 8 0 ∷ getD numbers 9 0 ∷ [];
   ids =
-      idAt numbers 2 ∷ idAt numbers 3 ∷ idAt numbers 4 ∷ idAt numbers 5
-      ∷ idAt numbers 6 ∷ idAt numbers 7 ∷ idAt numbers 8 ∷ idAt numbers 9 ∷ [];
-  count = getD numbers 10 0;
-  current = getD numbers 11 0;
+      idAt numbers 10 ∷ idAt numbers 11 ∷ idAt numbers 12 ∷ idAt numbers 13
+      ∷ idAt numbers 14 ∷ idAt numbers 15 ∷ idAt numbers 16 ∷ idAt numbers 17 ∷ [];
+  count = getD numbers 18 0;
+  current = getD numbers 19 0;
 }
 
 -- how many of n numbers are put into so many lent words: all, or none where the words are too few

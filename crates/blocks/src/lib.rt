@@ -275,14 +275,17 @@ fn wide(x: u32) -> u64
 
 // The numbers of a state, behind an answer's.
 fn put_state(out: &mut [u64], s: State)
-    requires { ⌜ 32 ≤ length (now out) ⌝ }
+    requires { ⌜ 40 ≤ length (now out) ⌝ }
     ensures { λ _. ⌜ now (out .exit) ≡ overwritten (now (out .entry)) 20 (stateNumbers s) ⌝ }
 {
+    let rates = s.rates;
     let ids = s.ids;
-    put_four(out, 20, s.place as u64, s.rate, wide(ids[0]), wide(ids[1]));
+    put_four(out, 20, s.place as u64, rates[0], rates[1], rates[2]);
+    put_four(out, 24, rates[3], rates[4], rates[5], rates[6]);
+    put_four(out, 28, rates[7], rates[8], wide(ids[0]), wide(ids[1]));
     put_four(
         out,
-        24,
+        32,
         wide(ids[2]),
         wide(ids[3]),
         wide(ids[4]),
@@ -290,7 +293,7 @@ fn put_state(out: &mut [u64], s: State)
     );
     put_four(
         out,
-        28,
+        36,
         wide(ids[6]),
         wide(ids[7]),
         s.count as u64,
@@ -300,17 +303,17 @@ fn put_state(out: &mut [u64], s: State)
 
 // A reply's numbers, where the words hold them.
 pub fn put_reply(out: &mut [u64], reply: Reply) -> u64
-    ensures { λ r. ⌜ r ≡ putCount (length (now (out .entry))) 32 ⌝ }
+    ensures { λ r. ⌜ r ≡ putCount (length (now (out .entry))) 40 ⌝ }
     ensures { λ _. ⌜ now (out .exit) ≡ putNumbers (now (out .entry)) (replyNumbers reply) ⌝ }
 {
-    if out.len() < 32 {
+    if out.len() < 40 {
         return 0;
     }
     let answer = reply.answer;
     let state = reply.state;
     put_answer(out, answer);
     put_state(out, state);
-    32
+    40
 }
 
 // The numbers of an argument's value, behind those of its name.
@@ -369,42 +372,95 @@ fn given(numbers: &[u64], i: usize) -> u64
     0
 }
 
+// The 32 bits of an id.
+fn id_of(number: u64) -> u32
+    ensures { λ r. ⌜ r ≡ number % 2 ^ 32 ⌝ }
+{
+    (number % 0x1_0000_0000) as u32
+}
+
 // An id by the lowest 32 bits of a number.
 fn given_id(numbers: &[u64], i: usize) -> u32
     ensures { λ r. ⌜ r ≡ getD (now (numbers .entry)) i 0 % 2 ^ 32 ⌝ }
 {
-    (given(numbers, i) % 0x1_0000_0000) as u32
+    id_of(given(numbers, i))
 }
 
 // The state that numbers stand for, each looked for by itself.
 fn state_of(numbers: &[u64]) -> State
     ensures { λ r. ⌜ r ≡ givenState (now (numbers .entry)) ⌝ }
 {
+    let rates = [
+        given(numbers, 1),
+        given(numbers, 2),
+        given(numbers, 3),
+        given(numbers, 4),
+        given(numbers, 5),
+        given(numbers, 6),
+        given(numbers, 7),
+        given(numbers, 8),
+        given(numbers, 9),
+    ];
     let ids = [
-        given_id(numbers, 2),
-        given_id(numbers, 3),
-        given_id(numbers, 4),
-        given_id(numbers, 5),
-        given_id(numbers, 6),
-        given_id(numbers, 7),
-        given_id(numbers, 8),
-        given_id(numbers, 9),
+        given_id(numbers, 10),
+        given_id(numbers, 11),
+        given_id(numbers, 12),
+        given_id(numbers, 13),
+        given_id(numbers, 14),
+        given_id(numbers, 15),
+        given_id(numbers, 16),
+        given_id(numbers, 17),
     ];
     State {
         place: given(numbers, 0) as usize,
-        rate: given(numbers, 1),
+        rates,
         ids,
-        count: given(numbers, 10) as usize,
-        current: given(numbers, 11) as usize,
+        count: given(numbers, 18) as usize,
+        current: given(numbers, 19) as usize,
     }
 }
 
-// The same, with one test of the length where all twelve are there.
+// The same where all twenty are there, which a caller that steps over an archive always hands over: none is looked for.
+fn whole_state(numbers: &[u64]) -> State
+    requires { ⌜ 20 ≤ length (now numbers) ⌝ }
+    ensures { λ r. ⌜ r ≡ givenState (now (numbers .entry)) ⌝ }
+{
+    let rates = [
+        numbers[1],
+        numbers[2],
+        numbers[3],
+        numbers[4],
+        numbers[5],
+        numbers[6],
+        numbers[7],
+        numbers[8],
+        numbers[9],
+    ];
+    let ids = [
+        id_of(numbers[10]),
+        id_of(numbers[11]),
+        id_of(numbers[12]),
+        id_of(numbers[13]),
+        id_of(numbers[14]),
+        id_of(numbers[15]),
+        id_of(numbers[16]),
+        id_of(numbers[17]),
+    ];
+    State {
+        place: numbers[0] as usize,
+        rates,
+        ids,
+        count: numbers[18] as usize,
+        current: numbers[19] as usize,
+    }
+}
+
+// The state that numbers stand for.
 pub fn given_state(numbers: &[u64]) -> State
     ensures { λ r. ⌜ r ≡ givenState (now (numbers .entry)) ⌝ }
 {
-    if numbers.len() < 12 {
+    if numbers.len() < 20 {
         return state_of(numbers);
     }
-    state_of(&numbers[..12])
+    whole_state(numbers)
 }

@@ -126,7 +126,6 @@ pub record InContext (s : State) (id place : ℕ) (t : State) : Type 0 where
   pub slots : length (t .ids) ≡ 8
   pub place-is : t .place ≡ place
   pub grown : s .count ≤ t .count
-  pub rate-same : t .rate ≡ s .rate
   pub ids-kept : (j : ℕ) → j < s .count → getD (t .ids) j 0 ≡ getD (s .ids) j 0
   pub provider-is : providerOf t ≡ Id id
 
@@ -157,7 +156,6 @@ entered-belongs s id place n l = go (findId (s .ids) (s .count) id) refl
           slots = l;
           place-is = refl;
           grown = omega arith;
-          rate-same = refl;
           ids-kept = λ j k. refl;
           provider-is = rw (ne-eqb (i + 1) 0 (λ q. omega arith), add-sub-cancel i 1, found-is (s .ids) (s .count) id i e);
         }
@@ -171,7 +169,6 @@ entered-belongs s id place n l = go (findId (s .ids) (s .count) id) refl
           slots = length-set (s .ids) (s .count) id ∙ l;
           place-is = refl;
           grown = omega arith;
-          rate-same = refl;
           ids-kept = λ j k. getD-set-other (s .ids) (s .count) j id 0 (λ p. omega arith);
           provider-is = rw (ne-eqb (s .count + 1) 0 (λ q. omega arith), add-sub-cancel (s .count) 1, getD-set-same (s .ids) (s .count) id 0 (omega arith));
         }))

@@ -12,9 +12,14 @@ use Rattle.contexts.specs.declared.Entered.{Entered}
 use Rattle.contexts.specs.declared.Provider.{Provider}
 use Rattle.contexts.specs.declared.Provider.the-variants.{None, Id}
 
--- "Its state has no ids (all eight places 0), no provider current and the rate 1,000,000,000"; it "stands at byte 0"
+-- request W2: "Each context has its own rate, held in the state value, 1,000,000,000 from opening the archive or the context until its own
+-- initialization record"
+abbrev pub defaultRate : ℕ
+defaultRate = 1000000000
+
+-- "Its state has no ids (all eight places 0), no provider current" and that rate in all nine contexts; it "stands at byte 0"
 abbrev pub opening : State
-opening = record { place = 0; rate = 1000000000; ids = replicate 8 0; count = 0; current = 0 }
+opening = record { place = 0; rates = replicate 9 defaultRate; ids = replicate 8 0; count = 0; current = 0 }
 
 -- number 4's opposite for a state: "the place is not a multiple of 8 or is past the end; more than 8 ids; the current context is not open"
 unfoldable pub belongsTo : State → ℕ → Bool
@@ -29,19 +34,25 @@ findFrom i (x ∷ xs) id = pick (eqb x id) (At i) (findFrom (i + 1) xs id)
 unfoldable pub findId : List ℕ → ℕ → ℕ → Found
 findId ids count id = findFrom 0 (take count ids) id
 
--- the state at another place; with another rate; in another context; with one id more
+-- the state at another place; with another rate of the current context; in another context; with one id more, whose context is opened
 abbrev pub moved : State → ℕ → State
-moved s place = record { place = place; rate = s .rate; ids = s .ids; count = s .count; current = s .current }
+moved s place = record { place = place; rates = s .rates; ids = s .ids; count = s .count; current = s .current }
 
 abbrev pub rated : State → ℕ → ℕ → State
-rated s rate place = record { place = place; rate = rate; ids = s .ids; count = s .count; current = s .current }
+rated s rate place = record { place = place; rates = set (s .rates) (s .current) rate; ids = s .ids; count = s .count; current = s .current }
 
 abbrev pub inContext : State → ℕ → ℕ → State
-inContext s current place = record { place = place; rate = s .rate; ids = s .ids; count = s .count; current = current }
+inContext s current place = record { place = place; rates = s .rates; ids = s .ids; count = s .count; current = current }
 
 abbrev pub withId : State → ℕ → ℕ → State
 withId s id place =
-    record { place = place; rate = s .rate; ids = set (s .ids) (s .count) id; count = s .count + 1; current = s .count + 1 }
+    record {
+      place = place;
+      rates = set (s .rates) (s .count + 1) defaultRate;
+      ids = set (s .ids) (s .count) id;
+      count = s .count + 1;
+      current = s .count + 1;
+    }
 
 abbrev pub onFound : Found → (ℕ → Entered) → Entered → Entered
 onFound (At i) found missing = found i
@@ -56,3 +67,7 @@ entering s id place =
 -- the provider of the current context: none, or the id of its slot
 unfoldable pub providerOf : State → Provider
 providerOf s = pick (eqb (s .current) 0) None (Id (getD (s .ids) (s .current - 1) 0))
+
+-- the rate in force: that of the current context
+abbrev pub rateOf : State → ℕ
+rateOf s = getD (s .rates) (s .current) 0

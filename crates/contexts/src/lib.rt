@@ -2,13 +2,13 @@
 ghost use mathlib.Core.Path.{_≡_};
 ghost use Prim.Native.Nat.{_+_, _<_, _≤_};
 ghost use lib.ListN.{set};
-ghost use Rattle.contexts.specs.Context.{opening, belongsTo, findId, moved, rated, entering, providerOf};
+ghost use Rattle.contexts.specs.Context.{opening, belongsTo, findId, moved, rated, entering, providerOf, rateOf};
 
-// Where a reading stands: its place, the tick rate in force, the provider ids as opened, and the current context,
+// Where a reading stands: its place, the tick rate of each context, the provider ids as opened, and the current context,
 // 0 for the one with no provider and n for that of the n-th id.
 pub struct State {
     pub place: usize,
-    pub rate: u64,
+    pub rates: [u64; 9],
     pub ids: [u32; 8],
     pub count: usize,
     pub current: usize,
@@ -36,7 +36,7 @@ pub fn opening_state() -> State
 {
     State {
         place: 0,
-        rate: 1000000000,
+        rates: [1000000000; 9],
         ids: [0; 8],
         count: 0,
         current: 0,
@@ -85,6 +85,17 @@ fn with_id(ids: [u32; 8], n: usize, id: u32) -> [u32; 8]
     all
 }
 
+fn with_rate(rates: [u64; 9], n: usize, rate: u64) -> [u64; 9]
+    ensures { λ r. ⌜ r ≡ set rates n rate ⌝ }
+{
+    let mut all = rates;
+    if n < 9 {
+        all[n] = rate;
+        return all;
+    }
+    all
+}
+
 // The state at another place.
 pub fn move_to(s: State, place: usize) -> State
     ensures { λ r. ⌜ r ≡ moved s place ⌝ }
@@ -94,14 +105,22 @@ pub fn move_to(s: State, place: usize) -> State
     t
 }
 
-// The state at another place and with another tick rate.
+// The state at another place and with another tick rate of the current context.
 pub fn set_rate(s: State, rate: u64, place: usize) -> State
     ensures { λ r. ⌜ r ≡ rated s rate place ⌝ }
 {
-    let mut t = s;
-    t.rate = rate;
-    t.place = place;
-    t
+    let rates = s.rates;
+    let ids = s.ids;
+    let count = s.count;
+    let current = s.current;
+    let changed = with_rate(rates, current, rate);
+    State {
+        place,
+        rates: changed,
+        ids,
+        count,
+        current,
+    }
 }
 
 // The state at another place, in the context of an id.
@@ -111,14 +130,14 @@ pub fn enter(s: State, id: u32, place: usize) -> Entered
 {
     let ids = s.ids;
     let count = s.count;
-    let rate = s.rate;
+    let rates = s.rates;
     let found = find_id(ids, count, id);
     match found {
         Found::At(i) => Entered {
             ninth: false,
             state: State {
                 place,
-                rate,
+                rates,
                 ids,
                 count,
                 current: i + 1,
@@ -132,11 +151,12 @@ pub fn enter(s: State, id: u32, place: usize) -> Entered
                 }
             } else {
                 let more = with_id(ids, count, id);
+                let opened = with_rate(rates, count + 1, 1000000000);
                 Entered {
                     ninth: false,
                     state: State {
                         place,
-                        rate,
+                        rates: opened,
                         ids: more,
                         count: count + 1,
                         current: count + 1,
@@ -159,4 +179,14 @@ pub fn provider_of(s: State) -> Provider
     let ids = s.ids;
     let slot = current - 1;
     Provider::Id(ids[slot])
+}
+
+// The rate in force, that of the current context.
+pub fn rate_of(s: State) -> u64
+    requires { ⌜ s .current ≤ 8 ⌝ }
+    ensures { λ r. ⌜ r ≡ rateOf s ⌝ }
+{
+    let rates = s.rates;
+    let current = s.current;
+    rates[current]
 }

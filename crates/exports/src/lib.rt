@@ -29,10 +29,10 @@ fn put_packed(out: &mut [u64], packed: Packed) -> u64
     4
 }
 
-// Opens an archive, and puts the reply: twenty numbers of its answer, twelve of its state.
+// Opens an archive, and puts the reply: twenty numbers of its answer, twenty of its state.
 #[no_mangle]
 pub extern "C" fn inthuchot_open(archive: &[u8], tables: &mut [u32], out: &mut [u64]) -> u64
-    ensures { λ r. ⌜ r ≡ putCount (length (now (out .entry))) 32 ⌝ }
+    ensures { λ r. ⌜ r ≡ putCount (length (now (out .entry))) 40 ⌝ }
     ensures { λ _. ⌜ now (out .exit) ≡ putNumbers (now (out .entry)) (replyNumbers (openReply smallFormat (now (archive .entry)) (length (now (tables .entry))))) ⌝ }
     ensures { λ _. ⌜ now (tables .exit) ≡ openTables smallFormat (now (archive .entry)) (now (tables .entry)) ⌝ }
 {
@@ -40,7 +40,7 @@ pub extern "C" fn inthuchot_open(archive: &[u8], tables: &mut [u32], out: &mut [
     put_reply(out, opened)
 }
 
-// Steps once from the state of twelve numbers, and puts the reply.
+// Steps once from the state of twenty numbers, and puts the reply.
 #[no_mangle]
 pub extern "C" fn inthuchot_step(
     archive: &[u8],
@@ -48,7 +48,7 @@ pub extern "C" fn inthuchot_step(
     numbers: &[u64],
     out: &mut [u64],
 ) -> u64
-    ensures { λ r. ⌜ r ≡ putCount (length (now (out .entry))) 32 ⌝ }
+    ensures { λ r. ⌜ r ≡ putCount (length (now (out .entry))) 40 ⌝ }
     ensures { λ _. ⌜ now (out .exit) ≡ putNumbers (now (out .entry)) (replyNumbers (stepReply smallFormat (now (archive .entry)) (now (tables .entry)) (givenState (now (numbers .entry))))) ⌝ }
     ensures { λ _. ⌜ now (tables .exit) ≡ stepTables smallFormat (now (archive .entry)) (now (tables .entry)) (givenState (now (numbers .entry))) ⌝ }
 {
@@ -57,7 +57,7 @@ pub extern "C" fn inthuchot_step(
     put_reply(out, stepped)
 }
 
-// Asks for an argument in the state of twelve numbers, and puts its twenty numbers.
+// Asks for an argument in the state of twenty numbers, and puts its twenty numbers.
 #[no_mangle]
 pub extern "C" fn inthuchot_argument(
     archive: &[u8],

@@ -1,7 +1,7 @@
 // Makes every call of the file probes.bin: steps and arguments with any state and any tables. Each is a header of 176
 // bytes, table entries, and an archive of at most 4,096 bytes. What a call shows is written at once. Reading or writing
-// that fails, a file that ends inside a call, and a call that wants what is not read yet (a names sheet, the full size, a
-// rate for each context, marks) are said on standard error and stop the program.
+// that fails, a file that ends inside a call, and a call that wants what is not read yet (a names sheet, the full size,
+// marks) are said on standard error and stop the program.
 ghost use mathlib.Core.Path.{_≡_};
 ghost use Prim.Native.Nat.{_<_};
 ghost use lib.ListN.{length};
@@ -31,7 +31,17 @@ fn high_half(word: u64) -> u32 {
 fn state_of(header: &[u8; 176]) -> State {
     State {
         place: word(header, 1) as usize,
-        rate: word(header, 2),
+        rates: [
+            word(header, 2),
+            word(header, 3),
+            word(header, 4),
+            word(header, 5),
+            word(header, 6),
+            word(header, 7),
+            word(header, 8),
+            word(header, 9),
+            word(header, 10),
+        ],
         ids: [
             low_half(word(header, 11)),
             high_half(word(header, 11)),
@@ -47,15 +57,12 @@ fn state_of(header: &[u8; 176]) -> State {
     }
 }
 
-// Whether a call has no sheet, the small size and no marks. The rates of the eight contexts are 0 where they are not used.
+// Whether a call has no sheet, the small size and no marks.
 fn is_read(header: &[u8; 176]) -> bool {
     if word(header, 20) != 0xffff_ffff {
         return false;
     }
-    if word(header, 21) != 0 {
-        return false;
-    }
-    word(header, 3) == 0
+    word(header, 21) == 0
 }
 
 // Says why the calls are not all made, and answers that they do not go on.
@@ -78,11 +85,22 @@ fn put_ids(out: &mut [u8], at: usize, ids: [u32; 8]) -> usize {
     last
 }
 
+fn put_rates(out: &mut [u8], at: usize, rates: [u64; 9]) -> usize {
+    let mut last = at;
+    let mut i = 0;
+    while i < 9 {
+        last = put_number(out, last, rates[i]);
+        i += 1;
+    }
+    last
+}
+
 fn put_state(out: &mut [u8], at: usize, state: State) -> usize {
+    let rates = state.rates;
     let ids = state.ids;
     let first = put_bytes(out, at, b"s");
     let second = put_number(out, first, state.place as u64);
-    let third = put_number(out, second, state.rate);
+    let third = put_rates(out, second, rates);
     let fourth = put_ids(out, third, ids);
     let fifth = put_number(out, fourth, state.count as u64);
     let last = put_number(out, fifth, state.current as u64);
@@ -272,7 +290,7 @@ fn next_probe(fd: i32, probe: u64, out: &mut [u8]) -> bool {
             if is_read(&header) {
                 return show_probe(fd, probe, &header, out);
             }
-            fail(b"probes: a call has a sheet, another size, more rates or marks\n")
+            fail(b"probes: a call has a sheet, another size or marks\n")
         }
         Outcome::End => false,
         Outcome::Failed => fail(b"probes: probes.bin could not be read to the end of a call\n"),

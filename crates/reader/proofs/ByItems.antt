@@ -1,4 +1,4 @@
--- Ids, their number, the current context and the rate depend on the items shown, and on nothing else of an archive. Assumes nothing.
+-- Ids, their number, the current context and the rates depend on the items shown, and on nothing else of an archive. Assumes nothing.
 use Prim.Native.Nat.{ℕ, _+_}
 use mathlib.Core.Path.{_≡_, refl, sym, ap, _∙_}
 use mathlib.Core.List.{[], List, _∷_}
@@ -19,7 +19,7 @@ use Rattle.reader.specs.Reads.{argumentItems, reportItem, itemOf}
 use Rattle.reader.proofs.Changes.{Plain, Names, on-decision, on-entering, on-report, registering}
 use Rattle.reader.proofs.Runs.{Run, still, passing, showing}
 
--- a state without its place: ids, their number, the current context and the rate
+-- a state without its place: ids, their number, the current context and the rates
 abbrev pub contextsOf : State → State
 contextsOf s = moved s 0
 
@@ -80,7 +80,7 @@ names-enter f archive tables s c id (InitializationShown rate) h = absurd h
 names-enter f archive tables s c id (ReportShown e) h = absurd h
 names-enter f archive tables s c id (SkippedShown type size) h = absurd h
 
--- ids, their number, the current context and the rate after a step are those that its item makes of them; a step that shows no item leaves them
+-- ids, their number, the current context and the rates after a step are those that its item makes of them; a step that shows no item leaves them
 pub contexts-by-items : (f : Format) (archive tables : List ℕ) (s : State)
     → contextsOf (stepReply f archive tables s .state)
     ≡ afterShown (contextsOf s)

@@ -119,10 +119,10 @@ next-whole : (f : Format) (archive tables : List ℕ) (s : State) → Sound f ar
 next-whole f archive tables s h =
     let r = record-whole f archive (s .place) in omega (arith, h .whole, r .whole, r .behind)
 
--- a sound state stays sound behind its record, whatever the rate, in any context that is open
-sound-next : (f : Format) (archive tables : List ℕ) (s : State) (rate current : ℕ) → Sound f archive s tables → current ≤ s .count
-    → Sound f archive (record { place = recordAt f archive (s .place) .next; rate = rate; ids = s .ids; count = s .count; current = current }) tables
-sound-next f archive tables s rate current h l =
+-- a sound state stays sound behind its record, whatever the rates, in any context that is open
+sound-next : (f : Format) (archive tables : List ℕ) (s : State) (rates : List ℕ) (current : ℕ) → Sound f archive s tables → current ≤ s .count
+    → Sound f archive (record { place = recordAt f archive (s .place) .next; rates = rates; ids = s .ids; count = s .count; current = current }) tables
+sound-next f archive tables s rates current h l =
     record {
       whole = next-whole f archive tables s h;
       before = r .before (h .before);
@@ -181,7 +181,7 @@ sound-new f archive tables s id h m z =
     }
   where
     n : Sound f archive (moved s (recordAt f archive (s .place) .next)) tables
-    n = sound-next f archive tables s (s .rate) (s .current) h (h .current)
+    n = sound-next f archive tables s (s .rates) (s .current) h (h .current)
 
     below : s .count + 1 ≤ 8
     below = cases (ltb (s .count) 8) (λ q. omega (arith, ltb-true (s .count) 8 q))
@@ -211,7 +211,7 @@ sound-registered f archive tables s table index h r =
     here = position f (s .current) table index
 
     n : Sound f archive (moved s (recordAt f archive (s .place) .next)) tables
-    n = sound-next f archive tables s (s .rate) (s .current) h (h .current)
+    n = sound-next f archive tables s (s .rates) (s .current) h (h .current)
 
     now : Held f archive (recordAt f archive (s .place) .next) table index (s .place)
     now = record { whole = h .whole; before = registers-some f archive (s .place) table index r; ends = omega arith; registers = r }
@@ -237,9 +237,9 @@ pub step-sound : (f : Format) (archive tables : List ℕ) (s : State) → Sound 
     → Sound f archive (stepReply f archive tables s .state) (stepTables f archive tables s)
 unfolding stopping registering changed
 step-sound f archive tables s h =
-    on-decision P f archive tables s (λ number place k. h) (λ answer k. moves) (λ rate. sound-next f archive tables s rate (s .current) h (h .current))
+    on-decision P f archive tables s (λ number place k. h) (λ answer k. moves) (λ rate. sound-next f archive tables s (set (s .rates) (s .current) rate) (s .current) h (h .current))
     (λ id answer k. on-entering P s id next answer h
-    (λ i e. sound-next f archive tables s (s .rate) (i + 1) h (omega (arith, found-lt (s .ids) (s .count) id i e)))
+    (λ i e. sound-next f archive tables s (s .rates) (i + 1) h (omega (arith, found-lt (s .ids) (s .count) id i e)))
     (λ e z. sound-new f archive tables s id h e z))
     (λ table index r. sound-registered f archive tables s table index h r)
     (λ e k. on-report P f archive tables s e next h (λ shown. moves))
@@ -251,7 +251,7 @@ step-sound f archive tables s h =
     P d = Sound f archive (d .state) (changed tables (d .change))
 
     moves : Sound f archive (moved s next) tables
-    moves = sound-next f archive tables s (s .rate) (s .current) h (h .current)
+    moves = sound-next f archive tables s (s .rates) (s .current) h (h .current)
 
 -- ---- a run
 
@@ -442,7 +442,7 @@ step-grows f archive tables s =
     same : Grown s s
     same = record { place = omega arith; count = omega arith; ids = λ i l. refl }
 
-    on : {rate current : ℕ} → Grown s (record { place = next; rate = rate; ids = s .ids; count = s .count; current = current })
+    on : {rates : List ℕ} {current : ℕ} → Grown s (record { place = next; rates = rates; ids = s .ids; count = s .count; current = current })
     on = record { place = behind; count = omega arith; ids = λ i l. refl }
 
 grown-on : (s s′ s″ : State) → Grown s s′ → Grown s′ s″ → Grown s s″

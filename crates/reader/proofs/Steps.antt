@@ -27,7 +27,7 @@ use Rattle.views.specs.Shown.{isBad, noneBad, shownReport}
 use Rattle.reader.specs.Step.{openingNumber, Decision, stopping, reportAnswer, plainAnswer, effectDecision, contentDecision, replyOf}
 use Rattle.views.proofs.Lookups.{ContentFits, content-fits, record-whole}
 use Rattle.contexts.specs.declared.State.{State}
-use Rattle.contexts.specs.Context.{providerOf}
+use Rattle.contexts.specs.Context.{providerOf, rateOf}
 use Rattle.effects.specs.declared.Change.the-variants.{Keep}
 use Rattle.effects.specs.Follow.{followed, changeOf}
 use Rattle.records.specs.declared.Effect.the-variants.{Pass}
@@ -118,7 +118,7 @@ three-found f archive tables context until a b c more = go (bad a) (bad b) (bad 
 abbrev Replies : Format → List ℕ → List ℕ → State → Content → ℕ → Type 0
 Replies f archive tables s c next =
     let d = contentDecision f archive tables s c next in
-    (replyOf d ≡ seenReply s (seenOf f archive tables (s .current) (s .place) (providerOf s) (s .rate) c next) next) × (d .change ≡ Keep)
+    (replyOf d ≡ seenReply s (seenOf f archive tables (s .current) (s .place) (providerOf s) (rateOf s) c next) next) × (d .change ≡ Keep)
 
 report-replies : (f : Format) (archive tables : List ℕ) (s : State) (r : Report) (next : ℕ) → Replies f archive tables s (ReportRead r) next
 unfolding contentDecision effectDecision reportAnswer shownReport followed changeOf effectOf seenFound seenReply stopping
@@ -149,7 +149,7 @@ refused-replies f archive tables s number next n = rw (ne-eqb number 0 (omega (a
 pub read-replies : (f : Format) (archive tables : List ℕ) (s : State) (source : List ℕ) (next : ℕ) → 8 ≤ length source
     → layoutOf (wordAt (f .order) source 0) .read ≡ true
     → let d = contentDecision f archive tables s (contentOf f source (s .place)) next in
-    (replyOf d ≡ seenReply s (seenOf f archive tables (s .current) (s .place) (providerOf s) (s .rate) (reportOf f source (s .place)) next) next)
+    (replyOf d ≡ seenReply s (seenOf f archive tables (s .current) (s .place) (providerOf s) (rateOf s) (reportOf f source (s .place)) next) next)
     × (d .change ≡ Keep)
 unfolding contentOf
 read-replies f archive tables s source next h k =

@@ -162,7 +162,7 @@ fn step_record(f: Format, archive: &[u8], tables: &mut [u32], s: State, source: 
             s.current,
             place,
             contexts::provider_of(s),
-            s.rate,
+            contexts::rate_of(s),
             source,
         );
         return show_seen(s, seen, next);

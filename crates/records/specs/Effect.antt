@@ -6,7 +6,7 @@ use Rattle.records.specs.declared.Effect.{Effect}
 use Rattle.records.specs.declared.Effect.the-variants.{Stop, Pass, Enter, SetRate, Register}
 
 -- "provider info or a section makes its id current"; "Provider event makes nothing current and opens nothing."; "A string or thread record sets
--- one entry of the current context's table"; an initialization record sets the rate. A thread's two words are 16 bytes.
+-- one entry of the current context's table"; an initialization record sets the current context's rate. A thread's two words are 16 bytes.
 unfoldable pub effectOf : Content → Effect
 effectOf (Refused number) = Stop number
 effectOf Magic = Pass

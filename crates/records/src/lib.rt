@@ -104,7 +104,7 @@ pub enum Content {
 }
 
 // What a record does to the state and the tables: it stops the reading by a number, changes nothing, makes an id current,
-// sets the rate, or registers a text (table 2) or a thread (table 3) by the place and length of its bytes.
+// sets the rate of the current context, or registers a text (table 2) or a thread (table 3) by the place and length of its bytes.
 pub enum Effect {
     Stop(u8),
     Pass,

@@ -1,4 +1,4 @@
--- Bench examples of document 01, those marked K and the nine words, and logs, computed of the definitions.
+-- Bench examples of document 01, those marked K, the nine words, logs and rates, computed of the definitions.
 -- Assumes nothing.
 use Prim.Native.Nat.{ℕ, _*_}
 use mathlib.Core.Path.{_≡_, refl}
@@ -23,10 +23,10 @@ use Rattle.arguments.specs.Loss.{valueBytes, reservedBits, valuePaddingZero, ar
 use Rattle.records.specs.declared.Own.the-variants.{Event as EventOwn, Log as LogOwn}
 use Rattle.records.specs.declared.Content.the-variants.{Refused, String, Skipped}
 use Rattle.records.specs.Layout.{hasExtra, extraWords, isEvent, eventLayout, logLayout, layoutOf, eventOf, logOf, ownOf, takeFields, lastWord, reportOf}
-use Rattle.records.specs.Record.{metadataOf, stringOf, threadOf, contentOf, recordOf, recordAt}
+use Rattle.records.specs.Record.{providerInfoOf, metadataOf, initializationOf, stringOf, threadOf, contentOf, recordOf, recordAt}
 use Rattle.records.specs.Loss.{wordsKeep, streamKeeps, reportKeeps, recordKeeps}
-use Rattle.records.specs.Item.{known, Thread, thread, scalar, textReferent, threadReferent, Item, magic, report, threadKey, keyWords}
-use Rattle.contexts.specs.Context.{opening, belongsTo, providerOf}
+use Rattle.records.specs.Item.{known, Thread, thread, scalar, textReferent, threadReferent, Item, magic, providerInfo, section, initialization, report, threadKey, keyWords}
+use Rattle.contexts.specs.Context.{opening, belongsTo, providerOf, findId, entering}
 use Rattle.tables.specs.Table.{tableWords, highestOf, position, registrationOf, entryAt, resolved}
 use Rattle.reader.specs.declared.Answer.the-variants.{End}
 use Rattle.views.specs.Shown.{isBad, shownText, shownThread, shownReferent, shownStream, shownReport, shownValue, noneBad}
@@ -147,6 +147,29 @@ logItem timestamp =
 abbrev logReserved : List ℕ
 logReserved = archiveOf (0x0016547846040010 ∷ 0x0000000080000049 ∷ 200 ∷ 7 ∷ 8 ∷ [])
 
+-- request W2: provider 1 sets its rate to 5 and logs, provider 2 logs without one of its own, and provider 1 logs again
+abbrev rates : List ℕ
+rates =
+    archiveOf (
+    0x0016547846040010 ∷ 0x110010 ∷ 0x21 ∷ 5 ∷ 0x49 ∷ 200 ∷ 7 ∷ 8
+    ∷ 0x210010 ∷ 0x49 ∷ 200 ∷ 7 ∷ 8
+    ∷ 0x120010 ∷ 0x49 ∷ 200 ∷ 7 ∷ 8 ∷ []
+    )
+
+abbrev quietLog : (provider rate : ℕ) → Item
+quietLog provider rate =
+    report (record {
+      provider = some provider;
+      rate = rate;
+      own = LogOwn (record { timestamp = 200 });
+      first = threadReferent (known (thread 7 8));
+      second = textReferent (known []);
+      third = textReferent (known []);
+      stream = [];
+      arguments = [];
+      last = 0;
+    })
+
 -- the magic from its last byte to its first
 abbrev reversed : List ℕ
 reversed = 0x00 ∷ 0x16 ∷ 0x54 ∷ 0x78 ∷ 0x46 ∷ 0x04 ∷ 0x00 ∷ 0x10 ∷ []
@@ -201,6 +224,9 @@ pub record Table : Type 0 where
   pub logs-again : itemsOf (runOf smallFormat logs) ≡ magic ∷ logItem 200 ∷ logItem 300 ∷ []
   -- a reserved bit is lost: 10 at the log
   pub log-reserved : refusalOf smallFormat (runOf smallFormat logReserved) ≡ some (refusal 10 8)
+  -- a rate is its provider's alone, and is kept until that provider is met again
+  pub rates-items : itemsOf (runOf smallFormat rates)
+      ≡ magic ∷ providerInfo 1 [] ∷ initialization 5 ∷ quietLog 1 5 ∷ providerInfo 2 [] ∷ quietLog 2 1000000000 ∷ section 1 ∷ quietLog 1 5 ∷ []
   -- K12: thread used once inline
   pub k12-once : (t : Thread) → registers (keyWords (threadKey t)) 1 ≡ false
   -- twice registered
@@ -225,7 +251,8 @@ pub table : Table
 unfolding little littleAt wordAt wordBytes bytesOf magicBytes startsWithMagic recordWords extentOf takeWords takeStream takeText takeThread takePart takeParts
     paddingZero headerScalar holdsWord argumentBody argumentOf argumentsOf numberedOf valueBytes reservedBits valuePaddingZero argumentKeeps
     argumentsKeep hasExtra extraWords isEvent eventLayout logLayout layoutOf eventOf logOf ownOf takeFields lastWord reportOf tableOf
-    metadataOf stringOf threadOf contentOf recordOf wordsKeep streamKeeps reportKeeps recordKeeps belongsTo providerOf highestOf position registrationOf entryAt resolved isBad shownText shownThread
+    providerInfoOf metadataOf initializationOf stringOf threadOf contentOf recordOf wordsKeep streamKeeps reportKeeps recordKeeps
+    belongsTo providerOf findId entering highestOf position registrationOf entryAt resolved isBad shownText shownThread
     shownReferent shownStream shownReport noneBad shownValue openingNumber archiveNumber stopping reportAnswer plainAnswer effectDecision
     contentDecision followed followedEntered changeOf effectOf argumentsRead
     placeDecision decisionOf changed shownArgument askedReport askedPlace argumentReply partOf argumentItems itemOf registers rule runFrom runOf
@@ -257,6 +284,7 @@ table =
       logs-repacked = refl;
       logs-again = refl;
       log-reserved = refl;
+      rates-items = refl;
       k12-once = λ t. refl;
       k12-twice = λ t. refl;
       k13 = refl;

@@ -30,7 +30,7 @@ use Rattle.contexts.specs.declared.State.{State}
 use Rattle.contexts.specs.declared.Found.{Found}
 use Rattle.contexts.specs.declared.Found.the-variants.{At as FoundAt, Nothing as NotFound}
 use Rattle.contexts.specs.declared.Entered.{Entered}
-use Rattle.contexts.specs.Context.{providerOf, findId, moved, inContext, withId, onFound, entering}
+use Rattle.contexts.specs.Context.{providerOf, rateOf, findId, moved, inContext, withId, onFound, entering}
 use Rattle.contexts.proofs.Contexts.{entered-belongs}
 use Rattle.tables.specs.Table.{resolved}
 use Rattle.reader.specs.declared.Answer.{Answer}
@@ -54,14 +54,14 @@ use Rattle.rule.proofs.Events.{asked-is, arguments-shown}
 
 -- ---- what can be shown
 
--- an item that can be shown with these contexts and this rate: no ninth id, and an event of the current provider at the rate in force
+-- an item that can be shown with these contexts and rates: no ninth id, and an event of the current provider at the rate in force
 abbrev pub ItemSuits : State → Item → Type 0
 ItemSuits c magic = Unit {0}
 ItemSuits c (providerInfo id name) = entering c id 0 .ninth ≡ false
 ItemSuits c (section id) = entering c id 0 .ninth ≡ false
 ItemSuits c (providerEvent id e) = Unit {0}
 ItemSuits c (initialization rate) = Unit {0}
-ItemSuits c (report e) = (providerItem (providerOf c) ≡ e .provider) × (c .rate ≡ e .rate)
+ItemSuits c (report e) = (providerItem (providerOf c) ≡ e .provider) × (rateOf c ≡ e .rate)
 ItemSuits c (skipped type size) = Unit {0}
 
 -- ---- what a step does at a record

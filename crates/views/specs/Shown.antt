@@ -13,7 +13,7 @@ use Rattle.records.specs.declared.Lookup.{Lookup}
 use Rattle.records.specs.declared.Report.{Report}
 use Rattle.contexts.specs.declared.Provider.{Provider}
 use Rattle.contexts.specs.declared.State.{State}
-use Rattle.contexts.specs.Context.{providerOf}
+use Rattle.contexts.specs.Context.{providerOf, rateOf}
 use Rattle.tables.specs.declared.Resolved.{Resolved}
 use Rattle.tables.specs.declared.Resolved.the-variants.{Bad, Known, Unresolved}
 use Rattle.tables.specs.Table.{resolved, lookedUp}
@@ -73,7 +73,7 @@ shownAt f archive place provider rate r a b c =
     }
 
 unfoldable pub shownReport : Format → List ℕ → State → Report → Resolved → Resolved → Resolved → ShownReport
-shownReport f archive s r a b c = shownAt f archive (s .place) (providerOf s) (s .rate) r a b c
+shownReport f archive s r a b c = shownAt f archive (s .place) (providerOf s) (rateOf s) r a b c
 
 -- whether no entry that a record is looked up in is bad
 unfoldable pub noneBad : Format → List ℕ → List ℕ → ℕ → ℕ → List Lookup → Bool

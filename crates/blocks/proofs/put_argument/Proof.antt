@@ -1,5 +1,6 @@
 -- `put_argument` meets its contract: five times four numbers are one writing (twenty), and they are the argument's (argument-numbers).
 use Prim.Native.Nat.{ℕ}
+use native.Mathlib.Omega.{arith}
 use mathlib.Core.Path.{_≡_, refl, ap, _∙_}
 use mathlib.Core.List.{List, [], _∷_, _++_}
 use Rattle.words.specs.Stream.{overwritten}
@@ -39,7 +40,7 @@ returns c =
     let out = start .args .out .now in
     let n = after-text-choice .text-choice in
     let name : List ℕ = 10 ∷ n .result .tag ∷ n .result .first ∷ n .result .second ∷ [] in
-    twenty out name (valueValues (a .value)) zeros zeros zeros refl (length-value (a .value)) refl refl
+    twenty out 0 name (valueValues (a .value)) zeros zeros zeros (omega arith) refl (length-value (a .value)) refl refl
     (after-put-four .put-four .ensures) (after-put-value .put-value .ensures) (after-put-four2 .put-four2 .ensures)
     (after-put-four3 .put-four3 .ensures) (after-put-four4 .put-four4 .ensures)
     ∙ ap (overwritten out 0) (argument-numbers (a .name) (a .value) _ _ _ (n .ensures))

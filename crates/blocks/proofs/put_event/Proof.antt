@@ -54,7 +54,7 @@ returns c =
     let three : List ℕ = a .result .first ∷ a .result .second ∷ b .result .tag ∷ b .result .first ∷ [] in
     let four : List ℕ = b .result .second ∷ g .result .tag ∷ g .result .first ∷ g .result .second ∷ [] in
     let five : List ℕ = r .count ∷ r .last ∷ 0 ∷ 0 ∷ [] in
-    twenty out one two three four five refl refl refl refl
+    twenty out 0 one two three four five (omega arith) refl refl refl refl
     (after-put-four .put-four .ensures) (after-put-four2 .put-four2 .ensures) (after-put-four3 .put-four3 .ensures)
     (after-put-four4 .put-four4 .ensures) (after-put-four5 .put-four5 .ensures)
     ∙ ap (overwritten out 0) (event-numbers e r _ _ _ _ _ _ _ _ _ _ _ (p .ensures) (a .ensures) (b .ensures) (g .ensures))

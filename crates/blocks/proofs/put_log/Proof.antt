@@ -1,6 +1,7 @@
 -- `put_log` meets its contract: five times four numbers are one writing (twenty), and they are the log's (log-numbers).
 use Prim.Native.Nat.{ℕ}
 use mathlib.Core.List.{List, [], _∷_}
+use native.Mathlib.Omega.{arith}
 use mathlib.Core.Path.{_≡_, refl, ap, _∙_}
 use Rattle.words.specs.Stream.{overwritten}
 use Rattle.records.specs.declared.Log.{Log}
@@ -39,7 +40,7 @@ returns c =
     let one : List ℕ = 12 ∷ r .place ∷ p .result .tag ∷ p .result .first ∷ [] in
     let two : List ℕ = l .timestamp ∷ r .rate ∷ a .result .tag ∷ a .result .first ∷ [] in
     let three : List ℕ = a .result .second ∷ r .stream .place ∷ r .stream .length ∷ 0 ∷ [] in
-    twenty out one two three zeros zeros refl refl refl refl
+    twenty out 0 one two three zeros zeros (omega arith) refl refl refl refl
     (after-put-four .put-four .ensures) (after-put-four2 .put-four2 .ensures) (after-put-four3 .put-four3 .ensures)
     (after-put-four4 .put-four4 .ensures) (after-put-four5 .put-four5 .ensures)
     ∙ ap (overwritten out 0) (log-numbers l r _ _ _ _ _ (p .ensures) (a .ensures))

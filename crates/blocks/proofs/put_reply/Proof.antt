@@ -14,9 +14,9 @@ use Rattle.blocks.proofs.put_reply.Tie as tie
 returns : tie.Need-returns
 returns c =
     let a = c .before .before .args in
-    let few : length (a .out .now) < 32 = omega (arith, c .if1 .taken) in
+    let few : length (a .out .now) < 40 = omega (arith, c .if1 .taken) in
     let numbers = answerNumbers (a .reply .answer) ++ stateNumbers (a .reply .state) in
-    (rw (lt-ltb _ _ few), put-none (a .out .now) numbers 32 (length-reply (a .reply .answer) (a .reply .state)) few)
+    (rw (lt-ltb _ _ few), put-none (a .out .now) numbers 40 (length-reply (a .reply .answer) (a .reply .state)) few)
 
 returns-2 : tie.Need-returns-2
 returns-2 c =
@@ -25,14 +25,14 @@ returns-2 c =
     let after-if1 = after-put-answer .before .before .before in
     let start = after-if1 .before .before in
     let a = start .args in
-    let enough : 32 ≤ length (a .out .now) = omega (arith, after-if1 .if1 .left) in
+    let enough : 40 ≤ length (a .out .now) = omega (arith, after-if1 .if1 .left) in
     let answer = answerNumbers (a .reply .answer) in
     let state = stateNumbers (a .reply .state) in
     let long = length-answer (a .reply .answer) in
     let whole =
     onward (a .out .now) 0 20 answer state (omega arith) (omega (arith, long))
     (after-put-answer .put-answer .ensures) (after-put-state .put-state .ensures) in
-    (rw (le-ltb _ _ enough), whole ∙ put-all (a .out .now) (answer ++ state) 32 (length-reply (a .reply .answer) (a .reply .state)) enough)
+    (rw (le-ltb _ _ enough), whole ∙ put-all (a .out .now) (answer ++ state) 40 (length-reply (a .reply .answer) (a .reply .state)) enough)
 
 pub put-reply-spec : {M : Type 1} → statement M
 put-reply-spec =

@@ -1,5 +1,6 @@
 -- `put_short` meets its contract: five times four numbers are one writing (twenty).
 use Prim.Native.Nat.{ℕ}
+use native.Mathlib.Omega.{arith}
 use mathlib.Core.Path.{refl}
 use mathlib.Core.List.{List, [], _∷_}
 use Rattle.blocks.proofs.Blocks.{twenty}
@@ -18,7 +19,7 @@ returns c =
     let a = start .args in
     let four : List ℕ = a .a ∷ a .b ∷ a .c ∷ a .d ∷ [] in
     let zeros : List ℕ = 0 ∷ 0 ∷ 0 ∷ 0 ∷ [] in
-    twenty (a .out .now) four zeros zeros zeros zeros refl refl refl refl
+    twenty (a .out .now) 0 four zeros zeros zeros zeros (omega arith) refl refl refl refl
     (after-put-four .put-four .ensures) (after-put-four2 .put-four2 .ensures) (after-put-four3 .put-four3 .ensures)
     (after-put-four4 .put-four4 .ensures) (after-put-four5 .put-four5 .ensures)
 

@@ -8,10 +8,11 @@ use borrow.Author.Needs.{needs}
 use Rattle.contexts.proofs.enter.Statement.{statement}
 use Rattle.contexts.proofs.enter.Tie as tie
 
-add-t11 : tie.Need-add-t11
-add-t11 c =
-    let given′ = c .before .before .before .before .before .args in
-    omega (arith, found-lt (given′ .s .ids) (given′ .s .count) (given′ .id) (c .before .found .given .0 .0) (sym (c .before .before .before .find-id .ensures) ∙ c .before .found .given .1))
+add-t12 : tie.Need-add-t12
+add-t12 c =
+    let a = c .before .before .before .before .before .before .args in
+    let is = sym (c .before .before .before .find-id .ensures) ∙ c .before .found .given .1 in
+    omega (arith, found-lt (a .s .ids) (a .s .count) (a .id) (c .before .found .given .0 .0) is)
 
 returns : tie.Need-returns
 unfolding entering
@@ -23,9 +24,11 @@ returns-2 c = simp (← c .before .before .before .find-id .ensures, c .before .
 
 returns-3 : tie.Need-returns-3
 unfolding entering
-returns-3 c = simp (← c .before .before .before .before .find-id .ensures, c .before .before .enum-told .given .1, ne-eqb _ _ (c .before .if1 .left), c .with-id .ensures)
+returns-3 c =
+    let branch = c .before .before in
+    simp (← branch .before .before .before .find-id .ensures, branch .before .enum-told .given .1, ne-eqb _ _ (branch .if1 .left), c .before .with-id .ensures, c .with-rate .ensures)
 
 pub enter-spec : {M : Type 1} → statement M
 enter-spec =
-    tie.close (tie.spec (λ c κs. search needs) (λ c. search needs) add-t11 (λ c. search needs) (λ c κs. search needs) (λ c. search needs) (λ c. search needs)
-    returns returns-2 returns-3)
+    tie.close (tie.spec (λ c κs. search needs) (λ c. search needs) add-t12 (λ c. search needs) (λ c κs. search needs) (λ c. search needs) (λ c κs. search needs)
+    (λ c. search needs) (λ c. search needs) returns returns-2 returns-3)

@@ -13,7 +13,7 @@ use Rattle.records.specs.declared.Content.the-variants.{Refused, Magic, Provide
 use Rattle.records.specs.Lookups.{argumentsTo, onReport}
 use Rattle.records.specs.Item.{Text, Argument, Referent, Report, Item, magic, providerInfo, section, providerEvent, initialization, report, skipped}
 use Rattle.contexts.specs.declared.State.{State}
-use Rattle.contexts.specs.Context.{providerOf}
+use Rattle.contexts.specs.Context.{providerOf, rateOf}
 use Rattle.tables.specs.Table.{resolved, lookedUp}
 use Rattle.views.specs.Shown.{shownText, shownReferent, shownStream, shownValue}
 use Rattle.reader.specs.Reads.{textItem, referentItem, streamItem, providerItem, valueItem}
@@ -41,7 +41,7 @@ argumentsAt f archive tables context until (a ∷ l) = argumentAt f archive tabl
 unfoldable pub reportAt : Format → List ℕ → List ℕ → State → ReadReport → ℕ → Report
 reportAt f archive tables s r next = record {
   provider = providerItem (providerOf s);
-  rate = s .rate;
+  rate = rateOf s;
   own = r .own;
   first = referentAt f archive tables (s .current) (s .place) (r .first);
   second = referentAt f archive tables (s .current) (s .place) (r .second);

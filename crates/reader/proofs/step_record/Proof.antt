@@ -18,10 +18,12 @@ use Rattle.reader.proofs.step_record.Tie as tie
 
 see-report-requires : tie.Need-see-report-requires
 see-report-requires c κs =
-    let word = c .before .before .before .before .word in
-    let given = c .before .before .before .before .before .before .before .before .args in
-    let pre = c .before .before .before .before .before .before .before .before .pre in
-    let k : layoutOf (wordAt (given .f .order) (given .source .now) 0) .read ≡ true = rw (← word .ensures, ← c .before .before .before .layout-of .ensures) (c .before .before .if1 .taken) in
+    let back = c .before in
+    let word = back .before .before .before .before .word in
+    let given = back .before .before .before .before .before .before .before .before .args in
+    let pre = back .before .before .before .before .before .before .before .before .pre in
+    let k : layoutOf (wordAt (given .f .order) (given .source .now) 0) .read ≡ true =
+    rw (← word .ensures, ← back .before .before .before .layout-of .ensures) (back .before .before .if1 .taken) in
     let stands = pre .5 in
     let whole = stands .3 in
     let read = report-content (given .f) (given .source .now) (given .s .place) k in
@@ -30,14 +32,15 @@ see-report-requires c κs =
 returns : tie.Need-returns
 unfolding changed
 returns c =
-    let if1 = c .before .before .before .before .if1 in
-    let layout-of = c .before .before .before .before .before .layout-of in
-    let word = c .before .before .before .before .before .before .word in
-    let given = c .before .before .before .before .before .before .before .before .before .before .args in
-    let pre = c .before .before .before .before .before .before .before .before .before .before .pre in
+    let back = c .before in
+    let if1 = back .before .before .before .before .if1 in
+    let layout-of = back .before .before .before .before .before .layout-of in
+    let word = back .before .before .before .before .before .before .word in
+    let given = back .before .before .before .before .before .before .before .before .before .before .args in
+    let pre = back .before .before .before .before .before .before .before .before .before .before .pre in
     let k : layoutOf (wordAt (given .f .order) (given .source .now) 0) .read ≡ true = rw (← word .ensures, ← layout-of .ensures) (if1 .taken) in
     let r = read-replies (given .f) (given .archive .now) (given .tables .now) (given .s) (given .source .now) (given .s .place + length (given .source .now)) (pre .5 .1) k in
-    rw (r .0, r .1, ← c .before .before .provider-of .ensures, ← c .before .see-report .ensures) (c .show-seen .ensures, refl)
+    rw (r .0, r .1, ← c .before .before .before .provider-of .ensures, ← c .before .before .rate-of .ensures, ← c .before .see-report .ensures) (c .show-seen .ensures, refl)
 
 step-plain-requires : tie.Need-step-plain-requires
 step-plain-requires c κs =
@@ -67,5 +70,5 @@ returns-2 c =
 
 pub step-record-spec : {M : Type 1} → statement M
 step-record-spec =
-    tie.close (tie.spec (λ c. search needs) (λ c κs. search needs) (λ c κs. search needs) (λ c κs. search needs) see-report-requires (λ c κs. search needs)
-    (λ c. search needs) returns (λ c κs. search needs) step-plain-requires (λ c. search needs) returns-2)
+    tie.close (tie.spec (λ c. search needs) (λ c κs. search needs) (λ c κs. search needs) (λ c κs. search needs) (λ c κs. search needs) see-report-requires
+    (λ c κs. search needs) (λ c. search needs) returns (λ c κs. search needs) step-plain-requires (λ c. search needs) returns-2)
