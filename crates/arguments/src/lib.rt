@@ -2,7 +2,7 @@
 ghost use mathlib.Core.Path.{_≡_};
 ghost use Prim.Native.Nat.{_+_, _-_, _*_, _^_, _<_, _≤_};
 ghost use lib.ListN.{length};
-ghost use Rattle.arguments.specs.Argument.{headerScalar, wordScalar, holdsWord, argumentOf, argumentsOf, walked};
+ghost use Rattle.arguments.specs.Argument.{headerScalar, wordScalar, holdsWord, argumentOf};
 ghost use Rattle.arguments.specs.Models.Reading.{takeValue, valueText, textsOf, soughtOf};
 use format::Format;
 use format::MALFORMED;
@@ -251,34 +251,6 @@ pub fn texts_of(f: Format, rest: &[u8], place: usize) -> Texts
             }
         }
     }
-}
-
-// Where so many arguments end. Each is taken from the part that starts at it.
-pub fn walk(f: Format, part: &[u8], place: usize, count: usize) -> Walked
-    requires { ⌜ place + length (now part) < 2 ^ 63 ⌝ }
-    ensures { λ r. ⌜ r ≡ walked (argumentsOf f count (now (part .entry)) place) ⌝ }
-{
-    let mut rest = part;
-    let mut at = place;
-    let mut left = count;
-    while 0 < left {
-        let texts = texts_of(f, rest, at);
-        match texts {
-            Texts::Refused(number) => {
-                return Walked::Refused(number);
-            }
-            Texts::Texts {
-                name: _,
-                value: _,
-                size,
-            } => {
-                rest = &rest[size..];
-                at += size;
-                left -= 1;
-            }
-        }
-    }
-    Walked::End(at)
 }
 
 // Where so many arguments end, and where the one of this number, from 0, starts. Each is taken from the part that starts at it.

@@ -1,14 +1,14 @@
 // One record apart from any table and context: how it is laid out, and what stands in it.
 ghost use mathlib.Core.Path.{_≡_};
+ghost use mathlib.Core.Bool.{false};
 ghost use Prim.Native.Nat.{_+_, _-_, _*_, _^_, _<_, _≤_};
 ghost use lib.ListN.{length};
 ghost use Rattle.words.specs.Word.{wordAt};
 ghost use Rattle.format.specs.Models.Bounds.{PartFits};
-ghost use Rattle.records.specs.Layout.{hasExtra, extraWords, isEvent, eventLayout, isLog, logLayout, layoutOf, eventOf, logOf, ownOf, takeFields, lastWord, lookupOf, reportRead, reportOf};
+ghost use Rattle.records.specs.Layout.{hasExtra, extraWords, isEvent, eventLayout, isLog, logLayout, layoutOf, eventOf, logOf, ownOf, takeFields, lastWord, lookupOf, reportRead};
 ghost use Rattle.records.specs.Models.Layouts.{LayoutFits, takePair};
 ghost use Rattle.records.specs.Record.{providerInfoOf, metadataOf, initializationOf, stringOf, threadOf, contentOf, recordAt};
 ghost use Rattle.records.specs.Item.{ownLayout};
-use arguments::Walked;
 use format::Format;
 use format::HIGH_INDEX;
 use format::MALFORMED;
@@ -428,52 +428,6 @@ pub fn report_read(
     }
 }
 
-// A record that refers to texts and threads.
-fn report_of(f: Format, source: &[u8], place: usize) -> Content
-    requires { ⌜ (8 ≤ length (now source)) × (place + length (now source) < 2 ^ 63) ⌝ }
-    ensures { λ r. ⌜ r ≡ reportOf f (now (source .entry)) place ⌝ }
-{
-    let order = f.order;
-    let layout = layout_of(words::word(order, source, 0));
-    let fields = take_fields(f, layout, source, place);
-    match fields {
-        Fields::Refused(number) => Content::Refused(number),
-        Fields::Fields {
-            first,
-            second,
-            third,
-            stream,
-            next,
-        } => {
-            let count = layout.count;
-            let from = next - place;
-            let walk = arguments::walk(f, &source[from..], next, count);
-            match walk {
-                Walked::Refused(number) => Content::Refused(number),
-                Walked::End(at) => {
-                    let more = last_word(f, source, place, at, layout.behind);
-                    match more {
-                        Last::Refused(number) => Content::Refused(number),
-                        Last::Word(last) => {
-                            Content::Report(report_read(
-                                f,
-                                layout,
-                                source,
-                                first,
-                                second,
-                                third,
-                                stream,
-                                next,
-                                last,
-                            ))
-                        }
-                    }
-                }
-            }
-        }
-    }
-}
-
 // Provider info.
 fn provider_info_of(f: Format, source: &[u8], place: usize) -> Content
     requires { ⌜ (8 ≤ length (now source)) × (place + length (now source) < 2 ^ 62) ⌝ }
@@ -598,18 +552,15 @@ fn thread_of(f: Format, source: &[u8], place: usize) -> Content
     }
 }
 
-// What stands in the record that is `source`, whole, at a place of the archive.
+// What stands in the record that is `source`, whole, at a place of the archive, and refers to neither texts nor threads. Those that do are read by
+// their callers: a step looks up what they refer to, a repack asks what it would lose, in the same walk over their arguments.
 pub fn content_of(f: Format, source: &[u8], place: usize) -> Content
-    requires { ⌜ (8 ≤ length (now source)) × (place + length (now source) < 2 ^ 62) ⌝ }
+    requires { ⌜ (8 ≤ length (now source)) × (place + length (now source) < 2 ^ 62) × (layoutOf (wordAt (f .order) (now source) 0) .read ≡ false) ⌝ }
     ensures { λ r. ⌜ r ≡ contentOf f (now (source .entry)) place ⌝ }
 {
     let order = f.order;
     let header = words::word(order, source, 0);
     let record_type = words::field(header, 0, 3);
-    let layout = layout_of(header);
-    if layout.read {
-        return report_of(f, source, place);
-    }
     if record_type == 2 {
         return string_of(f, source, place);
     }

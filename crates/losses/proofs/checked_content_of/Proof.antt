@@ -19,6 +19,11 @@ returns c = rw (
   c .before .if1 .taken,
 ) (c .checked-report-of .ensures)
 
+content-of-requires : tie.Need-content-of-requires
+content-of-requires c κs =
+    let pre = c .before .before .before .before .pre in
+    (pre .0, pre .1, rw (← c .before .before .word .ensures, ← c .before .layout-of .ensures) (c .if1 .left))
+
 plain-keeps-requires : tie.Need-plain-keeps-requires
 plain-keeps-requires c κs =
     let given = c .before .before .before .before .before .args in
@@ -39,4 +44,4 @@ returns-2 c =
 pub checked-content-of-spec : {M : Type 1} → statement M
 checked-content-of-spec =
     tie.close (tie.spec (λ c κs. search needs) (λ c κs. search needs) (λ c κs. search needs) returns
-    (λ c κs. search needs) plain-keeps-requires returns-2)
+    content-of-requires plain-keeps-requires returns-2)

@@ -22,6 +22,11 @@ returns c = simp (
   c .before .if1 .taken,
 )
 
+content-of-requires : tie.Need-content-of-requires
+content-of-requires c κs =
+    let pre = c .before .before .before .before .pre in
+    (pre .0, pre .1, rw (← c .before .before .word .ensures, ← c .before .layout-of .ensures) (c .if1 .left))
+
 pub kept-content-of-spec : {M : Type 1} → statement M
 kept-content-of-spec =
-    tie.close (tie.spec (λ c κs. search needs) (λ c κs. search needs) kept-report-of-requires returns (λ c κs. search needs) (λ c. search needs))
+    tie.close (tie.spec (λ c κs. search needs) (λ c κs. search needs) kept-report-of-requires returns content-of-requires (λ c. search needs))

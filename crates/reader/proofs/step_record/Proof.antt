@@ -42,6 +42,13 @@ returns c =
     let r = read-replies (given .f) (given .archive .now) (given .tables .now) (given .s) (given .source .now) (given .s .place + length (given .source .now)) (pre .5 .1) k in
     rw (r .0, r .1, ← c .before .before .before .provider-of .ensures, ← c .before .before .rate-of .ensures, ← c .before .see-report .ensures) (c .show-seen .ensures, refl)
 
+content-of-requires : tie.Need-content-of-requires
+content-of-requires c κs =
+    let pre = c .before .before .before .before .before .before .before .pre in
+    let stands = pre .5 in
+    let test = c .before in
+    (stands .1, omega (arith, pre .1, stands .2), rw (← test .before .before .word .ensures, ← test .before .layout-of .ensures) (test .if1 .left))
+
 step-plain-requires : tie.Need-step-plain-requires
 step-plain-requires c κs =
     let given = c .before .before .before .before .before .before .before .before .args in
@@ -71,4 +78,4 @@ returns-2 c =
 pub step-record-spec : {M : Type 1} → statement M
 step-record-spec =
     tie.close (tie.spec (λ c. search needs) (λ c κs. search needs) (λ c κs. search needs) (λ c κs. search needs) (λ c κs. search needs) see-report-requires
-    (λ c κs. search needs) (λ c. search needs) returns (λ c κs. search needs) step-plain-requires (λ c. search needs) returns-2)
+    (λ c κs. search needs) (λ c. search needs) returns content-of-requires step-plain-requires (λ c. search needs) returns-2)
