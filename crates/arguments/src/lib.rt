@@ -6,7 +6,7 @@ ghost use Rattle.arguments.specs.Models.Reading.{take_value, value_text, texts_o
 use format::{Format, MALFORMED, Reference, Taken};
 
 // A value that is no text. A double is its 64 bits.
-#[derive(Drop)]
+#[derive(Clone, Copy)]
 pub enum Scalar {
     Null,
     Signed32(i32),
@@ -20,40 +20,40 @@ pub enum Scalar {
     Unknown(u8),
 }
 
-#[derive(Drop)]
+#[derive(Clone, Copy)]
 pub enum Value {
     Scalar(Scalar),
     Text(Reference),
 }
 
-#[derive(Drop)]
+#[derive(Clone, Copy)]
 pub struct Argument {
     pub name: Reference,
     pub value: Value,
 }
 
-#[derive(Drop)]
+#[derive(Clone, Copy)]
 pub enum Valued {
     Refused(u8),
     Value(Value),
 }
 
 // An argument with its size in bytes.
-#[derive(Drop)]
+#[derive(Clone, Copy)]
 pub enum Argued {
     Refused(u8),
     Argument { argument: Argument, size: usize },
 }
 
 // The text of a value, or an inline reference of no bytes where it has none.
-#[derive(Drop)]
+#[derive(Clone, Copy)]
 pub enum ValueTaken {
     Refused(u8),
     Text(Reference),
 }
 
 // The texts of an argument, its name and that of its value, with its size in bytes.
-#[derive(Drop)]
+#[derive(Clone, Copy)]
 pub enum Texts {
     Refused(u8),
     Texts {
@@ -64,14 +64,14 @@ pub enum Texts {
 }
 
 // Where an event's arguments end.
-#[derive(Drop)]
+#[derive(Clone, Copy)]
 pub enum Walked {
     Refused(u8),
     End(usize),
 }
 
 // Where an event's arguments end, and where one of them starts.
-#[derive(Drop)]
+#[derive(Clone, Copy)]
 pub enum Sought {
     Refused(u8),
     End { at: usize, start: usize },

@@ -14,7 +14,7 @@ use records::{Event, Log, Own};
 use views::{ShownArgument, ShownReferent, ShownReport, ShownText, ShownThread, ShownValue};
 
 // A case by its number, and what it holds; the second is 0 where it holds one value.
-#[derive(Drop)]
+#[derive(Clone, Copy)]
 struct Choice {
     tag: u64,
     first: u64,

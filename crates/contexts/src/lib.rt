@@ -4,7 +4,7 @@ ghost use Rattle.contexts.specs.Context.{opening, belongs_to, find_id, moved, ra
 
 // Where a reading stands: its place, the tick rate of each context, the provider ids as opened, and the current context,
 // 0 for the one with no provider and n for that of the n-th id.
-#[derive(Drop)]
+#[derive(Clone, Copy)]
 pub struct State {
     pub place: usize,
     pub rates: [u64; 9],
@@ -13,20 +13,20 @@ pub struct State {
     pub current: usize,
 }
 
-#[derive(Drop)]
+#[derive(Clone, Copy)]
 pub enum Found {
     At(usize),
     Nothing,
 }
 
 // The state in the context of an id, unless that would be a ninth id.
-#[derive(Drop)]
+#[derive(Clone, Copy)]
 pub struct Entered {
     pub ninth: bool,
     pub state: State,
 }
 
-#[derive(Drop)]
+#[derive(Clone, Copy)]
 pub enum Provider {
     None,
     Id(u32),

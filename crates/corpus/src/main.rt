@@ -11,7 +11,7 @@ use packer::Packed;
 
 // The length of a case's archive, none at the file's end, that the case has a sheet or another size, or that its header could
 // not be read.
-#[derive(Drop)]
+#[derive(Clone, Copy)]
 enum Length {
     Bytes(usize),
     None,

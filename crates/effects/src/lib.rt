@@ -11,14 +11,14 @@ use format::Format;
 use records::{Content, Effect};
 
 // The state to go on from, or, where the number is not 0, document 01's number by which the record stops the reading.
-#[derive(Drop)]
+#[derive(Clone, Copy)]
 pub struct Followed {
     pub number: u8,
     pub state: State,
 }
 
 // What a record does to the tables.
-#[derive(Drop)]
+#[derive(Clone, Copy)]
 pub enum Change {
     Keep,
     Set { position: usize, entry: u32 },

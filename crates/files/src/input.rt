@@ -4,14 +4,14 @@ ghost use Rattle.std.specs.Prelude.{◌≡◌};
 ghost use Rattle.files.specs.Input.{Reads, ReadsBytes};
 
 // How many bytes came until the buffer was full or the input ended.
-#[derive(Drop)]
+#[derive(Clone, Copy)]
 pub enum Input {
     Bytes(usize),
     Failed,
 }
 
 // Of the bytes that were asked for all came, or the input ended before the first, or anything else.
-#[derive(Drop)]
+#[derive(Clone, Copy)]
 pub enum Outcome {
     All,
     End,

@@ -21,20 +21,20 @@ use records::{Content, Report};
 use tables::Resolved;
 
 // What a record adds to the findings: document 01's number 10, 11 or 12, or 0; and the words that its item takes without texts and threads.
-#[derive(Drop)]
+#[derive(Clone, Copy)]
 pub struct Counted {
     pub number: u8,
     pub words: usize,
 }
 
 // What was found so far: the lowest of these numbers and its first place, or the number 0.
-#[derive(Drop)]
+#[derive(Clone, Copy)]
 pub struct Finding {
     pub number: u8,
     pub place: usize,
 }
 
-#[derive(Drop)]
+#[derive(Clone, Copy)]
 pub enum Count {
     Refused { number: u8, place: usize },
     Words(usize),
@@ -161,7 +161,7 @@ fn count_texts(
 }
 
 // What counting adds: whether all uses were counted, and the words without them.
-#[derive(Drop)]
+#[derive(Clone, Copy)]
 struct Added {
     good: bool,
     words: usize,

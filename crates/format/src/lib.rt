@@ -9,7 +9,7 @@ use words::Order;
 
 // The limits of an archive, the longest text in bytes and the highest index of a string record, and the byte order of its
 // words. Its fields are small, so that a copy of it is one word.
-#[derive(Drop)]
+#[derive(Clone, Copy)]
 pub struct Format {
     pub longest: u16,
     pub highest: u16,
@@ -29,14 +29,14 @@ pub const HIGH_INDEX: u8 = 8;
 pub const LONGEST_ARCHIVE: usize = 16777216;
 
 // Bytes of the archive, or an entry of a table.
-#[derive(Drop)]
+#[derive(Clone, Copy)]
 pub enum Reference {
     Inline { place: usize, length: usize },
     Index(usize),
 }
 
 // A part of a body: so many words, a stream of so many bytes, what a string reference or a thread reference has inline.
-#[derive(Drop)]
+#[derive(Clone, Copy)]
 pub enum Part {
     Words(usize),
     Stream(usize),
@@ -45,14 +45,14 @@ pub enum Part {
 }
 
 // A part of a record with the place right behind it.
-#[derive(Drop)]
+#[derive(Clone, Copy)]
 pub enum Taken {
     Refused(u8),
     Part { reference: Reference, next: usize },
 }
 
 // How many bytes a record takes.
-#[derive(Drop)]
+#[derive(Clone, Copy)]
 pub enum Extent {
     Refused(u8),
     Bytes(usize),

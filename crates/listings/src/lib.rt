@@ -102,7 +102,7 @@ fn is_end(answer: Answer) -> bool
 }
 
 // Where a listing stands, in the archive and in the buffer, and whether it ended there.
-#[derive(Drop)]
+#[derive(Clone, Copy)]
 struct Listed {
     state: State,
     at: usize,

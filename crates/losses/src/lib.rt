@@ -19,28 +19,28 @@ use format::{Extent, Format, Reference};
 use records::{Content, Fields, Last, Layout, Record};
 
 // The size of an argument, and whether it loses nothing.
-#[derive(Drop)]
+#[derive(Clone, Copy)]
 pub enum CheckedArgument {
     Refused(u8),
     Argument { size: usize, keeps: bool },
 }
 
 // Where arguments end, and whether they lose nothing.
-#[derive(Drop)]
+#[derive(Clone, Copy)]
 pub enum CheckedEnd {
     Refused(u8),
     End { at: usize, keeps: bool },
 }
 
 // What stands in a record, and whether it loses nothing.
-#[derive(Drop)]
+#[derive(Clone, Copy)]
 pub struct CheckedContent {
     pub content: Content,
     pub keeps: bool,
 }
 
 // A record, and whether it loses nothing; one that is refused keeps nothing.
-#[derive(Drop)]
+#[derive(Clone, Copy)]
 pub struct Checked {
     pub record: Record,
     pub keeps: bool,

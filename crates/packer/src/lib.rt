@@ -15,7 +15,7 @@ use first_pass::Count;
 use format::Format;
 
 // The number and place that an archive is refused by, or how many bytes were written.
-#[derive(Drop)]
+#[derive(Clone, Copy)]
 pub enum Packed {
     Refused { number: u8, place: usize },
     Written { length: usize },

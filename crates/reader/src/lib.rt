@@ -22,7 +22,7 @@ use records::Content;
 use views::{Seen, ShownArgument, ShownReport, ShownValue};
 
 // What a call answers: document 01's number and place where it ends or is refused, nothing to show, or an item.
-#[derive(Drop)]
+#[derive(Clone, Copy)]
 pub enum Answer {
     End {
         number: u8,
@@ -53,13 +53,13 @@ pub enum Answer {
 }
 
 // An answer with the state to go on from.
-#[derive(Drop)]
+#[derive(Clone, Copy)]
 pub struct Reply {
     pub answer: Answer,
     pub state: State,
 }
 
-#[derive(Drop)]
+#[derive(Clone, Copy)]
 pub enum Asked {
     Refused { number: u8, place: usize },
     Argument(ShownArgument),

@@ -10,27 +10,27 @@ ghost use Rattle.records.specs.Item.{own_layout};
 use format::{Format, HIGH_INDEX, MALFORMED, Part, Reference, Taken};
 
 // What is particular to an event: its type and its timestamp.
-#[derive(Drop)]
+#[derive(Clone, Copy)]
 pub struct Event {
     pub variant: u8,
     pub timestamp: u64,
 }
 
 // What is particular to a log: its timestamp.
-#[derive(Drop)]
+#[derive(Clone, Copy)]
 pub struct Log {
     pub timestamp: u64,
 }
 
 // What is particular to the kind of a record that refers to texts and threads.
-#[derive(Drop)]
+#[derive(Clone, Copy)]
 pub enum Own {
     Event(Event),
     Log(Log),
 }
 
 // A reference with the table that it is looked up in, by the type of its records: 2 for texts, 3 for threads.
-#[derive(Drop)]
+#[derive(Clone, Copy)]
 pub struct Lookup {
     pub table: u64,
     pub reference: Reference,
@@ -39,7 +39,7 @@ pub struct Lookup {
 // A record that refers to texts and threads: what is particular to its kind, up to three references in order, a stream
 // that is no reference, where its arguments start, and its last word. An absent reference is the empty inline text, an
 // absent stream has no bytes, an absent last word is 0.
-#[derive(Drop)]
+#[derive(Clone, Copy)]
 pub struct Report {
     pub own: Own,
     pub first: Lookup,
@@ -53,7 +53,7 @@ pub struct Report {
 
 // Whether a record is read so, and how it is laid out: words, three references and a stream of so many bytes, arguments, and words behind them; its
 // reserved bits.
-#[derive(Drop)]
+#[derive(Clone, Copy)]
 pub struct Layout {
     pub read: bool,
     pub words: usize,
@@ -67,7 +67,7 @@ pub struct Layout {
 }
 
 // What stands in a record. A string or thread record of index 0 is ignored.
-#[derive(Drop)]
+#[derive(Clone, Copy)]
 pub enum Content {
     Refused(u8),
     Magic,
@@ -105,7 +105,7 @@ pub enum Content {
 
 // What a record does to the state and the tables: it stops the reading by a number, changes nothing, makes an id current,
 // sets the rate of the current context, or registers a text (table 2) or a thread (table 3) by the place and length of its bytes.
-#[derive(Drop)]
+#[derive(Clone, Copy)]
 pub enum Effect {
     Stop(u8),
     Pass,
@@ -124,14 +124,14 @@ pub enum Effect {
 }
 
 // A record with the place right behind it, or with its own place where it has no extent.
-#[derive(Drop)]
+#[derive(Clone, Copy)]
 pub struct Record {
     pub content: Content,
     pub next: usize,
 }
 
 // The references and the stream of a layout, and where its arguments start.
-#[derive(Drop)]
+#[derive(Clone, Copy)]
 pub enum Fields {
     Refused(u8),
     Fields {
@@ -144,7 +144,7 @@ pub enum Fields {
 }
 
 // Two parts that were taken, and the place behind them.
-#[derive(Drop)]
+#[derive(Clone, Copy)]
 pub enum Pair {
     Refused(u8),
     Pair {
@@ -155,7 +155,7 @@ pub enum Pair {
 }
 
 // A last word, 0 where there is none.
-#[derive(Drop)]
+#[derive(Clone, Copy)]
 pub enum Last {
     Refused(u8),
     Word(u64),

@@ -28,7 +28,7 @@ use records::{Content, Lookup, Report};
 use tables::Resolved;
 
 // A text or a thread as it is written: by its index, or inline, where that is 0, from its place and length in the archive.
-#[derive(Drop)]
+#[derive(Clone, Copy)]
 pub struct Spelled {
     pub index: usize,
     pub place: usize,

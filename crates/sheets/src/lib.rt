@@ -3,14 +3,14 @@ ghost use Rattle.std.specs.Prelude.{◌≡◌, ◌+◌, ◌≤◌, ◌<◌, leng
 ghost use Rattle.sheets.specs.Sheet.{number_at, starts_from, is_whole, is_good, first_bad, has_version, breach_of, find_of};
 
 // Where a sheet first breaks its rules.
-#[derive(Drop)]
+#[derive(Clone, Copy)]
 pub enum Breach {
     None,
     At { place: usize },
 }
 
 // Where the text of an index stands in a sheet.
-#[derive(Drop)]
+#[derive(Clone, Copy)]
 pub enum Found {
     Nothing,
     At { place: usize, length: usize },

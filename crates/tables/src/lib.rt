@@ -7,7 +7,7 @@ ghost use Rattle.tables.specs.Models.Entries.{FormatFits, header_entry};
 use format::{Format, Reference};
 
 // What a reference stands for; bad where its entry does not belong.
-#[derive(Drop)]
+#[derive(Clone, Copy)]
 pub enum Resolved {
     Bad,
     Known { place: usize, length: usize },

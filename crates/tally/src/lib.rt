@@ -9,7 +9,7 @@ ghost use Rattle.tally.specs.Models.Slots.{label_of, key_of, place_in, label_in,
 ghost use Rattle.tally.specs.Models.Tally.{Wide};
 
 // Where a key stands, where it would go, or that no slot is left.
-#[derive(Drop)]
+#[derive(Clone, Copy)]
 pub enum Slot {
     Here(usize),
     Free(usize),

@@ -19,28 +19,28 @@ use records::{Content, Fields, Last, Layout, Own, Report};
 use tables::Resolved;
 
 // A text by its place and length in the archive, or its index where nothing is set for it.
-#[derive(Drop)]
+#[derive(Clone, Copy)]
 pub enum ShownText {
     At { place: usize, length: usize },
     Unresolved { index: usize },
 }
 
 // A thread by its process and thread words, or its index where nothing is set for it.
-#[derive(Drop)]
+#[derive(Clone, Copy)]
 pub enum ShownThread {
     Words { process: u64, thread: u64 },
     Unresolved { index: usize },
 }
 
 // A stream that is no reference, by its place and length in the archive.
-#[derive(Drop)]
+#[derive(Clone, Copy)]
 pub struct ShownStream {
     pub place: usize,
     pub length: usize,
 }
 
 // What a record refers to, as it is shown.
-#[derive(Drop)]
+#[derive(Clone, Copy)]
 pub enum ShownReferent {
     Text(ShownText),
     Thread(ShownThread),
@@ -48,7 +48,7 @@ pub enum ShownReferent {
 
 // A record that refers to texts and threads, with the place by which its arguments are asked for. An event's references
 // are its thread, category and name, its last word is the extra word, 0 where its type has none; it has no stream.
-#[derive(Drop)]
+#[derive(Clone, Copy)]
 pub struct ShownReport {
     pub place: usize,
     pub provider: Provider,
@@ -62,27 +62,27 @@ pub struct ShownReport {
     pub last: u64,
 }
 
-#[derive(Drop)]
+#[derive(Clone, Copy)]
 pub enum ShownValue {
     Scalar(Scalar),
     Text(ShownText),
 }
 
-#[derive(Drop)]
+#[derive(Clone, Copy)]
 pub struct ShownArgument {
     pub name: ShownText,
     pub value: ShownValue,
 }
 
 // What a step sees at a record that refers to texts and threads: the number that it is refused by, or the record as it is shown.
-#[derive(Drop)]
+#[derive(Clone, Copy)]
 pub enum Seen {
     Refused(u8),
     Report(ShownReport),
 }
 
 // Where so many arguments end, and whether every entry that they are looked up in belongs.
-#[derive(Drop)]
+#[derive(Clone, Copy)]
 pub enum Searched {
     Refused(u8),
     End { at: usize, found: bool },

@@ -4,7 +4,7 @@ ghost use Rattle.words.specs.Word.{little_at, bytes_of, word_at, word_bytes, fie
 ghost use Rattle.words.specs.Stream.{stream_words, padded, overwritten, part_of, same_bytes, all_zero, starts_with_magic};
 
 // The byte order of an archive's words.
-#[derive(Drop)]
+#[derive(Clone, Copy)]
 pub enum Order {
     Little,
 }
