@@ -2,6 +2,8 @@
 // the archive's length, and an archive of at most 32,768 bytes. What a case shows is written at once. Reading or writing
 // that fails, a file that ends inside a case, and a case that wants what is not read yet (a names sheet, the full size) are
 // said on standard error and stop the program.
+#![tactic(auto)]
+
 ghost use Rattle.std.specs.Prelude.{◌≡◌, length};
 
 use files::input::Outcome;

@@ -1,5 +1,7 @@
 // Lists the trace on standard input, as document 01 says. Reading or writing that fails is said on standard error, and
 // then nothing else is written.
+#![tactic(auto)]
+
 ghost use Rattle.std.specs.Prelude.{◌≡◌, length};
 
 use files::input::Input;

@@ -1,6 +1,8 @@
 // Repacks the trace on standard input to standard output. Where it is refused nothing is written there, and standard
 // error has the refusal. An input of over 32,768 bytes is refused by its length alone. Reading or writing that fails is
 // said on standard error, and then nothing else is written.
+#![tactic(auto)]
+
 use files::input::Input;
 use libc::{STDERR_FILENO, STDIN_FILENO, STDOUT_FILENO};
 use packer::Packed;

@@ -2,6 +2,8 @@
 // bytes, table entries, and an archive of at most 4,096 bytes. What a call shows is written at once. Reading or writing
 // that fails, a file that ends inside a call, and a call that wants what is not read yet (a names sheet, the full size,
 // marks) are said on standard error and stop the program.
+#![tactic(auto)]
+
 ghost use Rattle.std.specs.Prelude.{◌≡◌, ◌<◌, length};
 
 use contexts::State;

@@ -2,6 +2,8 @@
 // Both are filled before each call, and a line says the reply and what stands in them after it. In the file each archive
 // stands behind its 32-bit length, at most 256. What an archive shows is written at once. Reading or writing that fails,
 // and a file that ends inside an archive, are said on standard error and stop the program.
+#![tactic(auto)]
+
 use files::input::Outcome;
 use libc::{STDERR_FILENO, STDOUT_FILENO};
 use lines::{put_bytes, put_number};
