@@ -1,0 +1,16 @@
+-- `put_one_word` meets its contract: eight bytes are written.
+use native.Mathlib.Omega.{arith}
+use mathlib.Core.List.{append-nil}
+use Rattle.words.specs.Word.{word_bytes}
+use Rattle.words.proofs.Words.{length-word_bytes}
+use borrow.Author.Rules.{rules}
+use Rattle.encoding.proofs.put_one_word.Goals as goal
+
+pub put_word-requires : goal.put_word-requires
+put_word-requires c = let t = c.args.word in
+    let e = append-nil (word_bytes c.args.f.order t) in
+    omega (arith, rw e at c.requires, length-word_bytes c.args.f.order t)
+
+pub returns : goal.returns
+returns c = let t = let whole = c.args.word in
+    rw (append-nil (word_bytes c.args.f.order t)) (c.put_word.ensures, omega (arith, length-word_bytes c.args.f.order t)) in record { out_after = whole.0; value = whole.1 }

@@ -1,0 +1,51 @@
+-- `put_referent` meets its contract: by the table a text, or a thread, which an index leaves out (indexed-thread) and two words are (inline_thread).
+use native.Mathlib.Omega.{arith}
+use mathlib.Core.Path.{sym, ◌∙◌, ap}
+use lib.ListN.{length}
+use Rattle.encoding.specs.Encoded.{part_bytes}
+use Rattle.records.specs.Item.{thread}
+use Rattle.words.specs.Word.{word_at}
+use Rattle.encoding.proofs.Parts.{text_bytes_lem, referent_thread, referent_text, indexed-thread, inline_thread, nothing_written}
+use borrow.Author.Rules.{rules}
+use Rattle.encoding.proofs.put_referent.Goals as goal
+
+pub put_text-requires : goal.put_text-requires
+put_text-requires c = let a = c.args in
+    omega (arith, ap length (text_bytes_lem a.f a.index a.bytes.now), ap (λ w. length (part_bytes a.f w)) (referent_text a.f a.table a.index a.bytes.now c.if-table-ne3.true))
+
+pub returns-then-table-ne3 : goal.returns-then-table-ne3
+returns-then-table-ne3 c = let a = let whole = c.args in
+    rw (referent_text a.f a.table a.index a.bytes.now c.if-table-ne3.true, text_bytes_lem a.f a.index a.bytes.now) c.put_text.ensures in record { out_after = whole.0; value = whole.1 }
+
+pub returns-then-index-ne0 : goal.returns-then-index-ne0
+returns-then-index-ne0 c = let a = let whole = c.args in
+    let t = thread (word_at a.f.order a.bytes.now 0) (word_at a.f.order a.bytes.now 8) in
+    rw (referent_thread a.f a.table a.index a.bytes.now c.if-table-ne3.false, indexed-thread a.f a.index t c.if-index-ne0.true)
+    (nothing_written a.out.now a.place, omega arith) in record { out_after = whole.0; value = whole.1 }
+
+pub word-requires : goal.word-requires
+word-requires c = omega (arith, c.requires.0 c.if-table-ne3.false c.if-index-ne0.false)
+
+pub word-requires-2 : goal.word-requires-2
+word-requires-2 c = omega (arith, c.requires.0 c.if-table-ne3.false c.if-index-ne0.false)
+
+pub put_thread-requires : goal.put_thread-requires
+put_thread-requires c = let a = c.args in
+    let t = thread (word_at a.f.order a.bytes.now 0) (word_at a.f.order a.bytes.now 8) in
+    rw (c.word.ensures, c.word-2.ensures)
+    (omega (
+      arith,
+      ap (λ w. length (part_bytes a.f w)) (referent_thread a.f a.table a.index a.bytes.now c.if-table-ne3.false),
+      ap length (inline_thread a.f a.index t c.if-index-ne0.false),
+    ))
+
+pub returns : goal.returns
+returns c = let a = let whole = c.args in
+    let t = thread (word_at a.f.order a.bytes.now 0) (word_at a.f.order a.bytes.now 8) in
+    rw (
+      referent_thread a.f a.table a.index a.bytes.now c.if-table-ne3.false,
+      inline_thread a.f a.index t c.if-index-ne0.false,
+      ← c.word.ensures,
+      ← c.word-2.ensures,
+    )
+    c.put_thread.ensures in record { out_after = whole.0; value = whole.1 }

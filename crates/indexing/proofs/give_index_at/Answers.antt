@@ -1,0 +1,12 @@
+-- `indexing::give_index_at` meets its contract: table and answer are what the definition gives under the test. Assumes nothing.
+use mathlib.Core.Path.{refl}
+use borrow.Author.Tests.{eq-eqb, ne_eqb}
+use borrow.Author.Rules.{rules}
+use Rattle.indexing.proofs.give_index_at.Goals as goal
+
+pub returns-then-uses_in-eq1 : goal.returns-then-uses_in-eq1
+returns-then-uses_in-eq1 c = let whole = 
+    simp (← c.uses_in.ensures.0, eq-eqb _ _ c.if-uses_in-eq1.true) c.put_index.ensures in record { value = whole.0; slots_after = whole.1 }
+
+pub returns : goal.returns
+returns c = let whole = simp (← c.uses_in.ensures.0, ne_eqb _ _ c.if-uses_in-eq1.false) (refl, refl) in record { value = whole.0; slots_after = whole.1 }

@@ -1,0 +1,10 @@
+-- `words_kept` is safe and ends: the measure is the words that are left.
+use Prim.Native.Nat.{◌-◌}
+use lib.ListN.{length}
+use Rattle.rooms.proofs.words_kept.Given as goal
+
+abbrev pub invariant-loop-i : goal.invariant-loop-i
+invariant-loop-i l = Unit {0}
+
+abbrev pub decreases-loop-i : goal.decreases-loop-i
+decreases-loop-i l = length l.words - l.i
