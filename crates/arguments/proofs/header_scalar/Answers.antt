@@ -15,7 +15,7 @@ returns-then-variant-eq0 c = simp (eq-eqb _ _ c.if-variant-eq0.true, ← c.field
 
 pub returns-then-variant-eq1 : goal.returns-then-variant-eq1
 unfolding header_scalar
-returns-then-variant-eq1 c = simp (← c.signed_half.ensures, eq-eqb _ _ c.if-variant-eq1.true, ne_eqb _ _ c.if-variant-eq0.false, ← c.field-variant.ensures) (ap Signed32 (to_z-of_z {w = w32} (sfits_of c.signed_half.type-inv)))
+returns-then-variant-eq1 c = simp (← c.signed_half.ensures, eq-eqb _ _ c.if-variant-eq1.true, ne_eqb _ _ c.if-variant-eq0.false, ← c.field-variant.ensures) (ap Signed32 (to_z-of_z {w = w32} (sfits_of c.signed_half.type_inv)))
 
 pub returns-then-variant-eq2 : goal.returns-then-variant-eq2
 unfolding header_scalar

@@ -1,7 +1,8 @@
 -- `arguments::seek` meets its contract: the loop keeps where the arguments end, and where the asked one starts, equal to that of what is left. Assumes nothing.
-use Prim.Native.Nat.{◌+◌, ◌-◌, ◌<◌}
+use Prim.Native.Nat.{ℕ, ◌+◌, ◌-◌, ◌<◌}
 use mathlib.Core.Path.{◌≡◌, refl, sym, ◌∙◌}
 use lib.ListN.{length, length-drop}
+use mathlib.Core.Logic.{◌⊎◌, inl, inr}
 use native.Mathlib.Omega.{arith}
 use borrow.Author.Tests.{lt-ltb, le-ltb}
 use Rattle.format.proofs.Headers.{part_from}
@@ -11,6 +12,7 @@ use Rattle.arguments.specs.declared.Walked.TheVariants.{Refused as WalkRefused}
 use Rattle.arguments.proofs.Arguments.{walk_turn, argument_read, texts_read, texts_refused, texts_inside, start_from, start_turn}
 use borrow.Author.Rules.{rules}
 use Rattle.arguments.proofs.seek.Goals as goal
+use Rattle.arguments.proofs.seek.Goals.{then-left-asked, else-left-asked}
 
 pub loop-left-init : goal.loop-left-init
 loop-left-init c =
@@ -44,12 +46,15 @@ pub loop-left-preserved : goal.loop-left-preserved
 loop-left-preserved c =
     let q = texts_read c.args.f c.loop-left.rest.now c.loop-left.at c.in-Texts.name c.in-Texts.value c.in-Texts.size (sym c.texts_of-texts.ensures
     ∙ c.in-Texts.is) in
+    let asked : ℕ = c.args.count - c.args.number in
     let s = argument_read c.args.f c.loop-left.rest.now c.loop-left.at q.0 c.in-Texts.size q.1 in (
       c.loop-left.invariant.0 ∙ walk_turn c.args.f c.loop-left.left c.loop-left.rest.now c.loop-left.at c.loop-left-test.true ∙ simp (q.1, part_from),
       simp part_from (omega (arith, s.inside, c.loop-left.invariant.1, length-drop c.in-Texts.size c.loop-left.rest.now)),
       c.loop-left.invariant.2
-          ∙ start_turn c.args.f c.loop-left.left _ c.loop-left.start _ c.loop-left.rest.now c.loop-left.at q.0 c.in-Texts.size c.loop-left-test.true
-          c.loop-left.invariant.3 q.1 (λ t. t.taken) (λ e. e.left) c.if-left-asked.branch
+          ∙ start_turn {A = c.loop-left.left ≡ asked} {B = c.loop-left.left ≡ asked → ⊥} c.args.f c.loop-left.left asked c.loop-left.start
+              c.if-left-asked.start c.loop-left.rest.now c.loop-left.at q.0 c.in-Texts.size c.loop-left-test.true c.loop-left.invariant.3 q.1 (λ t. t) (λ e. e)
+              (elim c.if-left-asked.branch [
+                  then-left-asked w ↦ inl (w.if-left-asked.true, w.start-is) | else-left-asked w ↦ inr (w.if-left-asked.false, w.start-is) ])
           ∙ simp part_from,
       c.loop-left.invariant.3,
     )

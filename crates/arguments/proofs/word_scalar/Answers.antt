@@ -11,7 +11,7 @@ use Rattle.arguments.proofs.word_scalar.Goals as goal
 
 pub returns-then-variant-eq3 : goal.returns-then-variant-eq3
 unfolding word_scalar
-returns-then-variant-eq3 c = simp (← c.signed_word.ensures, eq-eqb _ _ c.if-variant-eq3.true) (ap Signed64 (to_z-of_z {w = w64} (sfits_of c.signed_word.type-inv)))
+returns-then-variant-eq3 c = simp (← c.signed_word.ensures, eq-eqb _ _ c.if-variant-eq3.true) (ap Signed64 (to_z-of_z {w = w64} (sfits_of c.signed_word.type_inv)))
 
 pub returns-then-variant-eq4 : goal.returns-then-variant-eq4
 unfolding word_scalar

@@ -6,7 +6,7 @@ use Rattle.hashing.proofs.hash.Goals as goal
 
 pub returns-then-n-lt8 : goal.returns-then-n-lt8
 unfolding hash_of
-returns-then-n-lt8 c = rw (lt-ltb _ _ c.if-n-lt8.true, ← c.few.ensures) c.wrapping_add_u64.ensures
+returns-then-n-lt8 c = rw (lt-ltb _ _ c.if-n-lt8.true, ← c.few.ensures) c.wrapping_add_u64.ensures.value
 
 pub loop-i-init : goal.loop-i-init
 unfolding blocks_of

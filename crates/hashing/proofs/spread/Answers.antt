@@ -16,4 +16,4 @@ pub returns : goal.returns
 unfolding spread_of
 returns c =
     rw (← c.field.ensures, ← c.field-2.ensures, ← c.swapped.ensures)
-    c.wrapping_add_u64.ensures
+    c.wrapping_add_u64.ensures.value
