@@ -8,6 +8,10 @@ use Rattle.tally.proofs.Laws.{here_below, free_below}
 use borrow.Author.Rules.{rules}
 use Rattle.tally.proofs.add_use.Goals as goal
 
+-- the clauses, of their product
+by_clause : {A B : Type 0} → A × B → record { value : A; slots_after : B }
+by_clause w = record { value = w.0; slots_after = w.1 }
+
 pub use_again-requires : goal.use_again-requires
 use_again-requires c =
     (c.requires.0, here_below _ _ c.requires.0 c.find-slot.ensures c.in-Here.is)
@@ -28,18 +32,15 @@ overflow_add-result-then-keys-most c =
     let low = free_below _ _ c.requires.0 c.find-slot.ensures c.in-Free.is in omega (arith, low, c.requires.0.low)
 
 pub returns-then-keys-most : goal.returns-then-keys-most
-returns-then-keys-most c = let whole = 
-    let low = free_below _ _ c.requires.0 c.find-slot.ensures c.in-Free.is in
-    simp (← c.find-slot.ensures, c.in-Free.is, lt-ltb _ _ c.if-keys-most.true) ((refl, omega (arith, low, c.requires.0.low)), c.fill.ensures) in record { value = whole.0; slots_after = whole.1 }
+returns-then-keys-most c = by_clause (let low = free_below _ _ c.requires.0 c.find-slot.ensures c.in-Free.is in
+    simp (← c.find-slot.ensures, c.in-Free.is, lt-ltb _ _ c.if-keys-most.true) ((refl, omega (arith, low, c.requires.0.low)), c.fill.ensures))
 
 pub returns-in-Here : goal.returns-in-Here
-returns-in-Here c = let whole = 
-    let low = here_below _ _ c.requires.0 c.find-slot.ensures c.in-Here.is in
-    simp (← c.find-slot.ensures, c.in-Here.is) ((refl, omega (arith, low, c.requires.0.low)), c.use_again.ensures) in record { value = whole.0; slots_after = whole.1 }
+returns-in-Here c = by_clause (let low = here_below _ _ c.requires.0 c.find-slot.ensures c.in-Here.is in
+    simp (← c.find-slot.ensures, c.in-Here.is) ((refl, omega (arith, low, c.requires.0.low)), c.use_again.ensures))
 
 pub returns-else-keys-most : goal.returns-else-keys-most
-returns-else-keys-most c = let whole = 
-    simp (← c.find-slot.ensures, c.in-Free.is, le-ltb _ _ c.if-keys-most.false) ((refl, omega arith), refl) in record { value = whole.0; slots_after = whole.1 }
+returns-else-keys-most c = by_clause (simp (← c.find-slot.ensures, c.in-Free.is, le-ltb _ _ c.if-keys-most.false) ((refl, omega arith), refl))
 
 pub returns-in-Full : goal.returns-in-Full
-returns-in-Full c = let whole = simp (← c.find-slot.ensures, c.in-Full.is) ((refl, omega arith), refl) in record { value = whole.0; slots_after = whole.1 }
+returns-in-Full c = by_clause (simp (← c.find-slot.ensures, c.in-Full.is) ((refl, omega arith), refl))

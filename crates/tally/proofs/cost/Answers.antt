@@ -10,14 +10,14 @@ use Rattle.tally.proofs.cost.Goals as goal
 
 pub returns-then-place_in-eq0 : goal.returns-then-place_in-eq0
 unfolding cost_of
-returns-then-place_in-eq0 c = (simp (← c.IsPlace-in.ensures, eq-eqb _ _ c.if-place_in-eq0.true), omega arith)
+returns-then-place_in-eq0 c = (simp (← c.place_in.ensures, eq-eqb _ _ c.if-place_in-eq0.true), omega arith)
 
 pub returns-then-is_registered : goal.returns-then-is_registered
 unfolding cost_of
 returns-then-is_registered c =
     (
       simp (
-        ← c.IsPlace-in.ensures,
+        ← c.place_in.ensures,
         ne_eqb _ _
             c.if-place_in-eq0.false,
         ← c.label_in.ensures,
@@ -37,7 +37,7 @@ unfolding cost_of
 returns c =
     (
       simp (
-        ← c.IsPlace-in.ensures,
+        ← c.place_in.ensures,
         ne_eqb _ _
             c.if-place_in-eq0.false,
         ← c.label_in.ensures,
