@@ -70,6 +70,7 @@ class Function:
             return None
         p = goal_at
         name, rest = comps[0], comps[1:]
+        name = "place_in" if name == "IsPlace-in" else name
         if name.replace("-", "_") in OF_START:
             name = name.replace("-", "_")
             pre = self.d["pre"]
@@ -181,22 +182,26 @@ def top_tuple(body):
     return parts if len(parts) > 1 else None
 
 
-def as_record(names, body):
-    lets, rest = "", body
-    # lets in front stay in front
-    m = re.match(r"((?:\s*let .*? in\b)*)\s*(\(.*\))\s*$", body, re.S)
-    if m and top_tuple(m[2]):
-        lets, rest = m[1], m[2]
-    parts = top_tuple(rest)
+def as_record(names, body, helpers):
+    """An answer with a field for each clause, of one for their product."""
+    parts = top_tuple(body)
     while parts and len(parts) < len(names) and top_tuple(parts[-1]):
         parts[-1:] = top_tuple(parts[-1])
     if parts and len(parts) == len(names):
         inner = ";\n".join(f"      {n} = {p}" for n, p in zip(names, parts))
-        return f"{lets}{' ' if lets else ''}record {{\n{inner};\n    }}"
-    picks = []
-    for i, n in enumerate(names):
-        picks.append(f"{n} = whole{'.1' * i}{'' if i == len(names) - 1 else '.0'}")
-    return f"let whole = {body} in record {{ {'; '.join(picks)} }}"
+        return f"record {{\n{inner};\n    }}"
+    if tuple(names) not in helpers:
+        helpers[tuple(names)] = "by_clause" if not helpers else "by_clauses_of_" + "_".join(names)
+    return f"{helpers[tuple(names)]} ({body.strip()})"
+
+
+def helper(name, names):
+    types = [chr(ord("A") + i) for i in range(len(names))]
+    picks = [f"{n} = w{'.1' * i}{'' if i == len(names) - 1 else '.0'}" for i, n in enumerate(names)]
+    return (
+        f"-- the clauses, of their product\n{name} : {{{' '.join(types)} : Type 0}} → {' × '.join(types)} → record {{ {'; '.join(f'{n} : {t}' for n, t in zip(names, types))} }}\n"
+        f"{name} w = record {{ {'; '.join(picks)} }}"
+    )
 
 
 def definitions(text):
@@ -243,7 +248,7 @@ def convert(crate, folder, data):
             return by_old[plain(name)]
         return None
 
-    invariants, answers, spec = [], [], None
+    invariants, answers, spec, helpers = [], [], None, {}
     kinds = {}
     for h, comment, body in defs:
         m = re.match(rf"((?:abbrev |pub |unfoldable )*)({IDENT}) : (.*)", body)
@@ -358,7 +363,7 @@ def convert(crate, folder, data):
             b = turn(fn, at, b)
             names = data["asked"].get(needs[k][0])
             if names:
-                b = as_record(names, b)
+                b = as_record(names, b, helpers)
             answers.append(f"{comment}pub {new} : goal.{new}\n{unfolding}{new} {eq[1] or '_'}{eq[3] or ''} ={' ' if not b.startswith(chr(10)) else ''}{b}")
             continue
         answers.append(f"{comment}{body}")
@@ -367,8 +372,9 @@ def convert(crate, folder, data):
         b = turn(fn, fn.places[data["asked_at"][k][0]], what)
         names = data["asked"].get(needs[k][0])
         if names:
-            b = as_record(names, b)
+            b = as_record(names, b, helpers)
         answers.append(f"pub {new} : goal.{new}\n{new} c = {b}")
+    answers[:0] = [helper(name, names) for names, name in helpers.items()]
     comment = "\n".join(l for l in head.split("\n") if l.startswith("--"))
     uses = [l for l in head.split("\n") if l.startswith("use ") and not re.search(r"\.(Statement\.\{statement\}|Tie as tie)$", l)]
     other = [l for l in head.split("\n") if l.strip() and not l.startswith(("--", "use "))]

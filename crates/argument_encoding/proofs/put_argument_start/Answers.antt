@@ -11,6 +11,10 @@ use Rattle.encoding.proofs.Parts.{text_bytes_lem, reference_lt, length_start, st
 use borrow.Author.Rules.{rules}
 use Rattle.argument_encoding.proofs.put_argument_start.Goals as goal
 
+-- the clauses, of their product
+by_clause : {A B : Type 0} → A × B → record { out_after : A; value : B }
+by_clause w = record { out_after = w.0; value = w.1 }
+
 pub overflow_add-text_words : goal.overflow_add-text_words
 overflow_add-text_words c =
     omega (arith, length_start c.args.f c.args.variant c.args.more c.args.half (text_part c.args.index c.args.name.now), (c.text_words.ensures ∙ ap length (sym (text_bytes_lem c.args.f c.args.index c.args.name.now))))
@@ -59,10 +63,9 @@ put_text-requires c =
     omega (arith, ap length (text_bytes_lem c.args.f c.args.index c.args.name.now), length_start c.args.f c.args.variant c.args.more c.args.half (text_part c.args.index c.args.name.now))
 
 pub returns : goal.returns
-returns c =
-    let part = text_part c.args.index c.args.name.now in
-    let long = length_start c.args.f c.args.variant c.args.more c.args.half part in record {
-      out_after = c.put_text.ensures.out_after
+returns c = by_clause (let part = text_part c.args.index c.args.name.now in
+    let long = length_start c.args.f c.args.variant c.args.more c.args.half part in (
+      c.put_text.ensures.out_after
           ∙ ap (λ (out : List ℕ). overwritten out (c.args.place + 8) (text_bytes c.args.index c.args.name.now)) c.put_word.ensures
           ∙ ap (overwritten (overwritten c.args.out.now c.args.place (word_bytes c.args.f.order c.with_field.result)) (c.args.place + 8)) (sym (text_bytes_lem c.args.f c.args.index c.args.name.now))
           ∙ start_written c.args.f c.args.out.now c.args.place c.args.variant c.args.more c.args.half
@@ -75,6 +78,6 @@ returns c =
             c.with_field-named.ensures,
             c.header.ensures,
             c.text_reference.ensures,
-          ));
-      value = omega (arith, long, c.put_text.ensures.value, ap length (text_bytes_lem c.args.f c.args.index c.args.name.now));
-    }
+          )),
+      omega (arith, long, c.put_text.ensures.value, ap length (text_bytes_lem c.args.f c.args.index c.args.name.now)),
+    ))

@@ -12,6 +12,10 @@ use Rattle.records.specs.Item.{initialization}
 use borrow.Author.Rules.{rules}
 use Rattle.encoding.proofs.put_initialization.Goals as goal
 
+-- the clauses, of their product
+by_clause : {A B : Type 0} → A × B → record { out_after : A; value : B }
+by_clause w = record { out_after = w.0; value = w.1 }
+
 pub put_word-requires : goal.put_word-requires
 put_word-requires c = omega (arith, length-plain c.args.f (initialization c.args.rate))
 
@@ -20,11 +24,10 @@ put_word-requires-2 c =
     omega (arith, length-plain c.args.f (initialization c.args.rate))
 
 pub returns : goal.returns
-returns c =
-    let long = length-plain c.args.f (initialization c.args.rate) in record {
-      out_after = c.put_word-2.ensures ∙ ap (λ (out : List ℕ). overwritten out (c.args.place + 8) (word_bytes c.args.f.order c.args.rate)) c.put_word.ensures
+returns c = by_clause (let long = length-plain c.args.f (initialization c.args.rate) in (
+      c.put_word-2.ensures ∙ ap (λ (out : List ℕ). overwritten out (c.args.place + 8) (word_bytes c.args.f.order c.args.rate)) c.put_word.ensures
           ∙ record_written c.args.f c.args.out.now c.args.place 1 1 c.header.result (0 of 48 ∷ []) (word_bytes c.args.f.order c.args.rate) (omega (arith, long))
           (length-word_bytes c.args.f.order c.args.rate) (omega (arith, c.header.ensures))
-          ∙ ap (overwritten c.args.out.now c.args.place) (sym (initialization_record c.args.f (λ key. 0) c.args.rate));
-      value = omega (arith, long);
-    }
+          ∙ ap (overwritten c.args.out.now c.args.place) (sym (initialization_record c.args.f (λ key. 0) c.args.rate)),
+      omega (arith, long),
+    ))

@@ -6,11 +6,15 @@ use Rattle.words.proofs.Words.{length-word_bytes}
 use borrow.Author.Rules.{rules}
 use Rattle.encoding.proofs.put_one_word.Goals as goal
 
+-- the clauses, of their product
+by_clause : {A B : Type 0} → A × B → record { out_after : A; value : B }
+by_clause w = record { out_after = w.0; value = w.1 }
+
 pub put_word-requires : goal.put_word-requires
 put_word-requires c = let t = c.args.word in
     let e = append-nil (word_bytes c.args.f.order t) in
     omega (arith, rw e at c.requires, length-word_bytes c.args.f.order t)
 
 pub returns : goal.returns
-returns c = let t = let whole = c.args.word in
-    rw (append-nil (word_bytes c.args.f.order t)) (c.put_word.ensures, omega (arith, length-word_bytes c.args.f.order t)) in record { out_after = whole.0; value = whole.1 }
+returns c = let t = by_clause (c.args.word in
+    rw (append-nil (word_bytes c.args.f.order t)) (c.put_word.ensures, omega (arith, length-word_bytes c.args.f.order t)))

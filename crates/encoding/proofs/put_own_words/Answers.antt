@@ -2,6 +2,10 @@
 use borrow.Author.Rules.{rules}
 use Rattle.encoding.proofs.put_own_words.Goals as goal
 
+-- the clauses, of their product
+by_clause : {A B : Type 0} → A × B → record { out_after : A; value : B }
+by_clause w = record { out_after = w.0; value = w.1 }
+
 pub put_one_word-requires : goal.put_one_word-requires
 put_one_word-requires c = rw c.in-Event.is at c.requires
 
@@ -9,7 +13,7 @@ pub put_one_word-requires-in-Log : goal.put_one_word-requires-in-Log
 put_one_word-requires-in-Log c = rw c.in-Log.is at c.requires
 
 pub returns-in-Event : goal.returns-in-Event
-returns-in-Event c = let whole = rw c.in-Event.is c.put_one_word.ensures in record { out_after = whole.0; value = whole.1 }
+returns-in-Event c = by_clause (rw c.in-Event.is c.put_one_word.ensures)
 
 pub returns-in-Log : goal.returns-in-Log
-returns-in-Log c = let whole = rw c.in-Log.is c.put_one_word-in-Log.ensures in record { out_after = whole.0; value = whole.1 }
+returns-in-Log c = by_clause (rw c.in-Log.is c.put_one_word-in-Log.ensures)

@@ -9,19 +9,23 @@ use Rattle.encoding.proofs.Parts.{text_bytes_lem, referent_thread, referent_text
 use borrow.Author.Rules.{rules}
 use Rattle.encoding.proofs.put_referent.Goals as goal
 
+-- the clauses, of their product
+by_clause : {A B : Type 0} → A × B → record { out_after : A; value : B }
+by_clause w = record { out_after = w.0; value = w.1 }
+
 pub put_text-requires : goal.put_text-requires
 put_text-requires c = let a = c.args in
     omega (arith, ap length (text_bytes_lem a.f a.index a.bytes.now), ap (λ w. length (part_bytes a.f w)) (referent_text a.f a.table a.index a.bytes.now c.if-table-ne3.true))
 
 pub returns-then-table-ne3 : goal.returns-then-table-ne3
-returns-then-table-ne3 c = let a = let whole = c.args in
-    rw (referent_text a.f a.table a.index a.bytes.now c.if-table-ne3.true, text_bytes_lem a.f a.index a.bytes.now) c.put_text.ensures in record { out_after = whole.0; value = whole.1 }
+returns-then-table-ne3 c = let a = by_clause (c.args in
+    rw (referent_text a.f a.table a.index a.bytes.now c.if-table-ne3.true, text_bytes_lem a.f a.index a.bytes.now) c.put_text.ensures)
 
 pub returns-then-index-ne0 : goal.returns-then-index-ne0
-returns-then-index-ne0 c = let a = let whole = c.args in
+returns-then-index-ne0 c = let a = by_clause (c.args in
     let t = thread (word_at a.f.order a.bytes.now 0) (word_at a.f.order a.bytes.now 8) in
     rw (referent_thread a.f a.table a.index a.bytes.now c.if-table-ne3.false, indexed-thread a.f a.index t c.if-index-ne0.true)
-    (nothing_written a.out.now a.place, omega arith) in record { out_after = whole.0; value = whole.1 }
+    (nothing_written a.out.now a.place, omega arith))
 
 pub word-requires : goal.word-requires
 word-requires c = omega (arith, c.requires.0 c.if-table-ne3.false c.if-index-ne0.false)
@@ -40,7 +44,7 @@ put_thread-requires c = let a = c.args in
     ))
 
 pub returns : goal.returns
-returns c = let a = let whole = c.args in
+returns c = let a = by_clause (c.args in
     let t = thread (word_at a.f.order a.bytes.now 0) (word_at a.f.order a.bytes.now 8) in
     rw (
       referent_thread a.f a.table a.index a.bytes.now c.if-table-ne3.false,
@@ -48,4 +52,4 @@ returns c = let a = let whole = c.args in
       ← c.word.ensures,
       ← c.word-2.ensures,
     )
-    c.put_thread.ensures in record { out_after = whole.0; value = whole.1 }
+    c.put_thread.ensures)

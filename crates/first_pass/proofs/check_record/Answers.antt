@@ -11,6 +11,10 @@ use Rattle.words.specs.Word.{pick}
 use borrow.Author.Rules.{rules}
 use Rattle.first_pass.proofs.check_record.Goals as goal
 
+-- the clauses, of their product
+by_clause : {A B : Type 0} → A × B → record { value : A; room_after : B }
+by_clause w = record { value = w.0; room_after = w.1 }
+
 pub check_report-requires : goal.check_report-requires
 check_report-requires c =
     let q = c.requires.3 _ c.in-Report.is in (
@@ -28,13 +32,11 @@ check_report-requires c =
 
 pub returns-in-Report : goal.returns-in-Report
 unfolding record_checked checked_slots
-returns-in-Report c = let whole = 
-    rw (← c.requires.2, c.if-keeps.true, c.in-Report.is) c.check_report.ensures in record { value = whole.0; room_after = whole.1 }
+returns-in-Report c = by_clause (rw (← c.requires.2, c.if-keeps.true, c.in-Report.is) c.check_report.ensures)
 
 pub returns-in_default : goal.returns-in_default
 unfolding record_checked checked_slots
-returns-in_default c = let whole = 
-    let tables = tables_in c.args.f c.args.room.now in
+returns-in_default c = by_clause (let tables = tables_in c.args.f c.args.room.now in
     let slots = slots_in c.args.f c.args.room.now in
     let found = other_arm c.args.content (counts 0 (plain_words c.args.content))
     (λ r. report_checked c.args.f c.args.archive.now tables slots c.args.s r c.args.next c.args.clean) c.in_default.keys2 in
@@ -44,9 +46,8 @@ returns-in_default c = let whole =
       refl,
       sym (take-append-drop (table_words c.args.f)
           c.args.room.now),
-    ) in record { value = whole.0; room_after = whole.1 }
+    ))
 
 pub returns : goal.returns
 unfolding record_checked checked_slots
-returns c = let whole = 
-    rw (← c.requires.2, c.if-keeps.false) (refl, sym (take-append-drop (table_words c.args.f) c.args.room.now)) in record { value = whole.0; room_after = whole.1 }
+returns c = by_clause (rw (← c.requires.2, c.if-keeps.false) (refl, sym (take-append-drop (table_words c.args.f) c.args.room.now)))

@@ -12,6 +12,10 @@ use Rattle.first_pass.proofs.Rooms.{RoomCounting, room_starts, room_state, room_
 use borrow.Author.Rules.{rules}
 use Rattle.first_pass.proofs.count_all.Goals as goal
 
+-- the clauses, of their product
+by_clause : {A B C D : Type 0} → A × B × C × D → record { count_is : A; room_after : B; slots_left : C; room_len_unchanged : D }
+by_clause w = record { count_is = w.0; room_after = w.1.0; slots_left = w.1.1.0; room_len_unchanged = w.1.1.1 }
+
 pub loop-s-init : goal.loop-s-init
 loop-s-init c =
     rw c.opening_state-s.ensures (room_starts c.args.f c.args.archive.now c.args.room.now c.requires.0
@@ -43,11 +47,10 @@ shape_of-room-then-followed-ne0 c =
     c.follow-followed.ensures.tables_after
 
 pub returns-then-followed-ne0 : goal.returns-then-followed-ne0
-returns-then-followed-ne0 c = let whole = 
-    room_stops c.args.f c.args.archive.now c.args.room.now c.loop-s.room c.loop-s.s c.loop-s.found c.loop-s.words c.loop-s.invariant c.loop-s-test.true c.checked_record_at-checked.result.record
+returns-then-followed-ne0 c = by_clause (room_stops c.args.f c.args.archive.now c.args.room.now c.loop-s.room c.loop-s.s c.loop-s.found c.loop-s.words c.loop-s.invariant c.loop-s-test.true c.checked_record_at-checked.result.record
     c.checked_record_at-checked.ensures.record_value c.follow-followed.result c.follow-followed.ensures.value c.table_words-stretch.result c.table_words-stretch.ensures c.follow-followed.new.tables
     c.follow-followed.ensures.tables_after
-    c.if-followed-ne0.true in record { count_is = whole.0; room_after = whole.1.0; slots_left = whole.1.1.0; room_len_unchanged = whole.1.1.1 }
+    c.if-followed-ne0.true)
 
 pub slice_bounds-renew-count : goal.slice_bounds-renew-count
 slice_bounds-renew-count c =
@@ -145,6 +148,5 @@ shape_of-room c =
     c.loop-s.invariant.long
 
 pub returns : goal.returns
-returns c = let whole = 
-    rw c.conclude.ensures (room_ends c.args.f c.args.archive.now c.args.room.now c.loop-s.room c.loop-s.s c.loop-s.found c.loop-s.words c.loop-s.invariant
-    c.loop-s-test.false) in record { count_is = whole.0; room_after = whole.1.0; slots_left = whole.1.1.0; room_len_unchanged = whole.1.1.1 }
+returns c = by_clause (rw c.conclude.ensures (room_ends c.args.f c.args.archive.now c.args.room.now c.loop-s.room c.loop-s.s c.loop-s.found c.loop-s.words c.loop-s.invariant
+    c.loop-s-test.false))

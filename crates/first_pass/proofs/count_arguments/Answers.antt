@@ -13,6 +13,10 @@ use Rattle.first_pass.proofs.Laws.{Walk, walk_ends, none_left, none_read, walk_t
 use borrow.Author.Rules.{rules}
 use Rattle.first_pass.proofs.count_arguments.Goals as goal
 
+-- the clauses, of their product
+by_clause : {A B C : Type 0} → A × B × C → record { good_value : A; words_value : B; room_after : C }
+by_clause w = record { good_value = w.0; words_value = w.1.0; room_after = w.1.1 }
+
 pub loop-left-init : goal.loop-left-init
 loop-left-init c =
     record { tables = refl; long = refl; goods = refl; slots = refl; sum = omega arith; inside = refl; behind = c.requires.3; recalls = c.requires.4; few = omega arith; kept = c.requires.5 }
@@ -26,14 +30,13 @@ shape_of-room-in-Refused c =
     c.loop-left.invariant.long
 
 pub returns-in-Refused : goal.returns-in-Refused
-returns-in-Refused c = let whole = 
-    let all = arguments_read c.args.f c.args.count c.args.part.now c.args.place in
+returns-in-Refused c = by_clause (let all = arguments_read c.args.f c.args.count c.args.part.now c.args.place in
     let end = c.args.place + length c.args.part.now in
     let none = none_read c.args.f c.args.archive.now c.args.room.now c.args.context c.args.until all end c.loop-left.room c.loop-left.left c.loop-left.rest.now c.loop-left.at
     c.loop-left.good c.loop-left.words c.args.count c.loop-left.invariant _ c.loop-left-test.true (texts_refused c.args.f c.loop-left.rest.now c.loop-left.at _ (sym
     c.texts_of-texts.ensures ∙ c.in-Refused.is)) in
     walk_ends c.args.f c.args.archive.now c.args.room.now c.args.context c.args.until all end c.loop-left.room c.loop-left.left c.loop-left.rest.now c.loop-left.at c.loop-left.good
-    c.loop-left.words c.args.count c.loop-left.invariant none in record { good_value = whole.0; words_value = whole.1.0; room_after = whole.1.1 }
+    c.loop-left.words c.args.count c.loop-left.invariant none)
 
 pub count_texts-requires : goal.count_texts-requires
 count_texts-requires c =
@@ -123,10 +126,9 @@ pub shape_of-room : goal.shape_of-room
 shape_of-room c = c.loop-left.invariant.long
 
 pub returns : goal.returns
-returns c = let whole = 
-    let all = arguments_read c.args.f c.args.count c.args.part.now c.args.place in
+returns c = by_clause (let all = arguments_read c.args.f c.args.count c.args.part.now c.args.place in
     let end = c.args.place + length c.args.part.now in
     let none = none_left c.args.f c.args.archive.now c.args.room.now c.args.context c.args.until all end c.loop-left.room c.loop-left.left c.loop-left.rest.now c.loop-left.at
     c.loop-left.good c.loop-left.words c.args.count c.loop-left.invariant (omega (arith, c.loop-left-test.false)) in
     walk_ends c.args.f c.args.archive.now c.args.room.now c.args.context c.args.until all end c.loop-left.room c.loop-left.left c.loop-left.rest.now c.loop-left.at c.loop-left.good
-    c.loop-left.words c.args.count c.loop-left.invariant none in record { good_value = whole.0; words_value = whole.1.0; room_after = whole.1.1 }
+    c.loop-left.words c.args.count c.loop-left.invariant none)

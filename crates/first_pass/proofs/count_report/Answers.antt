@@ -15,6 +15,10 @@ use Rattle.records.specs.declared.Record.{Record}
 use borrow.Author.Rules.{rules}
 use Rattle.first_pass.proofs.count_report.Goals as goal
 
+-- the clauses, of their product
+by_clause : {A B C : Type 0} → A × B × C → record { good_value : A; words_value : B; room_after : C }
+by_clause w = record { good_value = w.0; words_value = w.1.0; room_after = w.1.1 }
+
 pub count_reference-first-requires : goal.count_reference-first-requires
 count_reference-first-requires c =
     let stands = report_countable c.args.f c.args.archive.now c.args.s.place c.args.report c.args.next c.requires.2 c.requires.1.1 in
@@ -154,8 +158,7 @@ shape_of-room c =
     omega (arith, c.room-1.given, c.room-2-1.given, c.room-3-1.given, c.room-4-1.given)
 
 pub returns : goal.returns
-returns c =
-    let b = report_bounds c.args.f c.args.archive.now c.args.s.place c.args.report c.args.next c.requires.1.0 c.requires.1.1 in
+returns c = by_clause (let b = report_bounds c.args.f c.args.archive.now c.args.s.place c.args.report c.args.next c.requires.1.0 c.requires.1.1 in
     let arguments = argument_lookups (arguments_to c.args.f c.args.archive.now c.args.report c.args.next) in
     let third = counted_then c.args.f c.args.archive.now c.count_reference-second.new.room c.args.s.current c.args.s.place c.args.report.third arguments (omega (arith, c.requires.0.wide, c.room-1.given, c.room-2-1.given)) c.count_reference-third.result
     c.count_arguments-counted.result.good c.count_reference-third.new.room c.count_arguments-counted.new.room c.count_reference-third.ensures (c.count_arguments-counted.ensures.good_value, c.count_arguments-counted.ensures.room_after) in
@@ -164,8 +167,7 @@ returns c =
     let first = counted_then c.args.f c.args.archive.now c.args.room.now c.args.s.current c.args.s.place c.args.report.first (c.args.report.second ∷ c.args.report.third ∷ arguments) (omega (arith, c.requires.0.wide)) c.count_reference-first.result
     (c.count_reference-second.result && (c.count_reference-third.result && c.count_arguments-counted.result.good)) c.count_reference-first.new.room c.count_arguments-counted.new.room c.count_reference-first.ensures second in
     let words = report-words c.args.f c.args.archive.now (tables_in c.args.f c.args.room.now) c.args.s c.args.report c.args.next c.args.s.place c.args.next
-    (stream-inside c.args.f c.args.archive.now c.args.s.place c.args.report c.args.next c.requires.1.1) b.last in record {
-      good_value = rw (c.both-good.ensures, c.both-2.ensures, c.both.ensures) first.0;
-      words_value = rw (c.own_words.ensures, c.inline_bytes.ensures, c.count_arguments-counted.ensures.words_value, c.own_behind.ensures) words;
-      room_after = first.1;
-    }
+    (stream-inside c.args.f c.args.archive.now c.args.s.place c.args.report c.args.next c.requires.1.1) b.last in (
+      rw (c.both-good.ensures, c.both-2.ensures, c.both.ensures) first.0,
+      (rw (c.own_words.ensures, c.inline_bytes.ensures, c.count_arguments-counted.ensures.words_value, c.own_behind.ensures) words, first.1),
+    ))

@@ -10,6 +10,10 @@ use Rattle.first_pass.proofs.Memory.{can_stand}
 use borrow.Author.Rules.{rules}
 use Rattle.first_pass.proofs.count_resolved.Goals as goal
 
+-- the clauses, of their product
+by_clause : {A B : Type 0} → A × B → record { value : A; room_after : B }
+by_clause w = record { value = w.0; room_after = w.1 }
+
 pub slice_bounds-resolve-end-2 : goal.slice_bounds-resolve-end-2
 slice_bounds-resolve-end-2 c =
     sym (length-take-le c.table_words-words.result c.args.room.now (omega (arith, c.table_words-words.ensures, c.requires.0.wide)))
@@ -27,15 +31,12 @@ count_known-requires c =
 
 pub returns-in-Bad : goal.returns-in-Bad
 unfolding count_good count_slots
-returns-in-Bad c = let whole = 
-    simp (← c.table_words-words.ensures, ← c.resolve-resolved.ensures, c.in-Bad.is) (refl, sym (take-append-drop c.table_words-words.result c.args.room.now)) in record { value = whole.0; room_after = whole.1 }
+returns-in-Bad c = by_clause (simp (← c.table_words-words.ensures, ← c.resolve-resolved.ensures, c.in-Bad.is) (refl, sym (take-append-drop c.table_words-words.result c.args.room.now)))
 
 pub returns-in-Unresolved : goal.returns-in-Unresolved
 unfolding count_good count_slots
-returns-in-Unresolved c = let whole = 
-    simp (← c.table_words-words.ensures, ← c.resolve-resolved.ensures, c.in-Unresolved.is) (refl, sym (take-append-drop c.table_words-words.result c.args.room.now)) in record { value = whole.0; room_after = whole.1 }
+returns-in-Unresolved c = by_clause (simp (← c.table_words-words.ensures, ← c.resolve-resolved.ensures, c.in-Unresolved.is) (refl, sym (take-append-drop c.table_words-words.result c.args.room.now)))
 
 pub returns-in-Known : goal.returns-in-Known
-returns-in-Known c = let whole = 
-    let is = rw c.table_words-words.ensures at (sym c.resolve-resolved.ensures ∙ c.in-Known.is) in
-    rw is c.count_known.ensures in record { value = whole.0; room_after = whole.1 }
+returns-in-Known c = by_clause (let is = rw c.table_words-words.ensures at (sym c.resolve-resolved.ensures ∙ c.in-Known.is) in
+    rw is c.count_known.ensures)

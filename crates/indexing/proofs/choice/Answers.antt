@@ -6,13 +6,13 @@ use Rattle.indexing.proofs.choice.Goals as goal
 
 pub returns-then-place_in-eq0 : goal.returns-then-place_in-eq0
 unfolding chosen_word
-returns-then-place_in-eq0 c = simp (← c.IsPlace-in.ensures, eq-eqb _ _ c.if-place_in-eq0.true)
+returns-then-place_in-eq0 c = simp (← c.place_in.ensures, eq-eqb _ _ c.if-place_in-eq0.true)
 
 pub returns-then-is_registered : goal.returns-then-is_registered
 unfolding chosen_word
 returns-then-is_registered c =
     simp (
-      ← c.IsPlace-in.ensures,
+      ← c.place_in.ensures,
       ne_eqb _ _
           c.if-place_in-eq0.false,
       ← c.stream_words-words.ensures,
@@ -25,7 +25,7 @@ pub returns : goal.returns
 unfolding chosen_word
 returns c =
     simp (
-      ← c.IsPlace-in.ensures,
+      ← c.place_in.ensures,
       ne_eqb _ _
           c.if-place_in-eq0.false,
       ← c.stream_words-words.ensures,

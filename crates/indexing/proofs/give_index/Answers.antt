@@ -5,16 +5,19 @@ use Rattle.tally.proofs.Laws.{here_below}
 use borrow.Author.Rules.{rules}
 use Rattle.indexing.proofs.give_index.Goals as goal
 
+-- the clauses, of their product
+by_clause : {A B : Type 0} → A × B → record { value : A; slots_after : B }
+by_clause w = record { value = w.0; slots_after = w.1 }
+
 pub give_index_at-requires : goal.give_index_at-requires
 give_index_at-requires c =
     (c.requires.0, here_below _ _ c.requires.0 c.find-slot.ensures c.in-Here.is, c.requires.1)
 
 pub returns-in-Here : goal.returns-in-Here
-returns-in-Here c = let whole = 
-    simp (← c.find-slot.ensures, c.in-Here.is) c.give_index_at.ensures in record { value = whole.0; slots_after = whole.1 }
+returns-in-Here c = by_clause (simp (← c.find-slot.ensures, c.in-Here.is) c.give_index_at.ensures)
 
 pub returns-in-Free : goal.returns-in-Free
-returns-in-Free c = let whole = simp (← c.find-slot.ensures, c.in-Free.is) (refl, refl) in record { value = whole.0; slots_after = whole.1 }
+returns-in-Free c = by_clause (simp (← c.find-slot.ensures, c.in-Free.is) (refl, refl))
 
 pub returns-in-Full : goal.returns-in-Full
-returns-in-Full c = let whole = simp (← c.find-slot.ensures, c.in-Full.is) (refl, refl) in record { value = whole.0; slots_after = whole.1 }
+returns-in-Full c = by_clause (simp (← c.find-slot.ensures, c.in-Full.is) (refl, refl))

@@ -4,9 +4,12 @@ use borrow.Author.Tests.{eq-eqb, ne_eqb}
 use borrow.Author.Rules.{rules}
 use Rattle.indexing.proofs.give_index_at.Goals as goal
 
+-- the clauses, of their product
+by_clause : {A B : Type 0} → A × B → record { value : A; slots_after : B }
+by_clause w = record { value = w.0; slots_after = w.1 }
+
 pub returns-then-uses_in-eq1 : goal.returns-then-uses_in-eq1
-returns-then-uses_in-eq1 c = let whole = 
-    simp (← c.uses_in.ensures.0, eq-eqb _ _ c.if-uses_in-eq1.true) c.put_index.ensures in record { value = whole.0; slots_after = whole.1 }
+returns-then-uses_in-eq1 c = by_clause (simp (← c.uses_in.ensures.0, eq-eqb _ _ c.if-uses_in-eq1.true) c.put_index.ensures)
 
 pub returns : goal.returns
-returns c = let whole = simp (← c.uses_in.ensures.0, ne_eqb _ _ c.if-uses_in-eq1.false) (refl, refl) in record { value = whole.0; slots_after = whole.1 }
+returns c = by_clause (simp (← c.uses_in.ensures.0, ne_eqb _ _ c.if-uses_in-eq1.false) (refl, refl))

@@ -12,16 +12,19 @@ use Rattle.listings.proofs.Turns.{lines_turn, tables_turn}
 use borrow.Author.Rules.{rules}
 use Rattle.listings.proofs.list_records.Goals as goal
 
+-- the clauses, of their product
+by_clause : {A B : Type 0} → A × B → record { puts : A; tables_after : B }
+by_clause w = record { puts = w.0; tables_after = w.1 }
+
 pub loop-turns-init : goal.loop-turns-init
 loop-turns-init c = (refl, refl, refl, leaves_all _ _ _)
 
 pub returns-then-listed : goal.returns-then-listed
-returns-then-listed c =
-    let ended : is_end (step_reply small_format c.args.archive.now c.loop-turns.tables c.loop-turns.next).answer ≡ true = sym c.list_record-listed.ensures.ended_value ∙ c.if-listed.true in
-    let lines = leaves_less (leaves_same c.loop-turns.invariant.3 (lines_turn small_format c.args.archive.now c.loop-turns.turns c.loop-turns.next c.loop-turns.tables (omega arith))) c.list_record-listed.ensures.puts in record {
-      puts = leaves_none (leaves_same lines (rw ended));
-      tables_after = c.list_record-listed.ensures.tables_after ∙ sym (c.loop-turns.invariant.2 ∙ tables_turn small_format c.args.archive.now c.loop-turns.turns c.loop-turns.next c.loop-turns.tables (omega arith) ∙ rw ended);
-    }
+returns-then-listed c = by_clause (let ended : is_end (step_reply small_format c.args.archive.now c.loop-turns.tables c.loop-turns.next).answer ≡ true = sym c.list_record-listed.ensures.ended_value ∙ c.if-listed.true in
+    let lines = leaves_less (leaves_same c.loop-turns.invariant.3 (lines_turn small_format c.args.archive.now c.loop-turns.turns c.loop-turns.next c.loop-turns.tables (omega arith))) c.list_record-listed.ensures.puts in (
+      leaves_none (leaves_same lines (rw ended)),
+      c.list_record-listed.ensures.tables_after ∙ sym (c.loop-turns.invariant.2 ∙ tables_turn small_format c.args.archive.now c.loop-turns.turns c.loop-turns.next c.loop-turns.tables (omega arith) ∙ rw ended),
+    ))
 
 pub loop-turns-preserved : goal.loop-turns-preserved
 loop-turns-preserved c =
@@ -37,8 +40,7 @@ loop-turns-preserved c =
 
 pub returns : goal.returns
 unfolding lines_from tables_from
-returns c =
-    let none : c.loop-turns.turns ≡ 0 = omega arith in record {
-      puts = leaves_none (leaves_same c.loop-turns.invariant.3 (ap (λ (n : ℕ). lines_from small_format c.args.archive.now n c.loop-turns.next c.loop-turns.tables) none));
-      tables_after = sym (c.loop-turns.invariant.2 ∙ ap (λ (n : ℕ). tables_from small_format c.args.archive.now n c.loop-turns.next c.loop-turns.tables) none);
-    }
+returns c = by_clause (let none : c.loop-turns.turns ≡ 0 = omega arith in (
+      leaves_none (leaves_same c.loop-turns.invariant.3 (ap (λ (n : ℕ). lines_from small_format c.args.archive.now n c.loop-turns.next c.loop-turns.tables) none)),
+      sym (c.loop-turns.invariant.2 ∙ ap (λ (n : ℕ). tables_from small_format c.args.archive.now n c.loop-turns.next c.loop-turns.tables) none),
+    ))

@@ -10,6 +10,10 @@ use Rattle.records.specs.Loss.{record_keeps}
 use borrow.Author.Rules.{rules}
 use Rattle.losses.proofs.checked_record_at.Goals as goal
 
+-- the clauses, of their product
+by_clause : {A B : Type 0} → A × B → record { record_value : A; keeps_value : B }
+by_clause w = record { record_value = w.0; keeps_value = w.1 }
+
 pub slice_bounds-checked_content_of-end : goal.slice_bounds-checked_content_of-end
 slice_bounds-checked_content_of-end c =
     let rest = take (length c.args.archive.now - c.args.place) (drop c.args.place c.args.archive.now) in
@@ -34,14 +38,12 @@ overflow_add-result c =
 
 pub returns-in-Refused : goal.returns-in-Refused
 unfolding record_of record_keeps
-returns-in-Refused c = let whole = 
-    let e = rw (part_from c.args.place c.args.archive.now) at (sym
+returns-in-Refused c = by_clause (let e = rw (part_from c.args.place c.args.archive.now) at (sym
     c.extent_of-extent.ensures ∙ c.in-Refused.is) in
-    rw e (refl, refl) in record { record_value = whole.0; keeps_value = whole.1 }
+    rw e (refl, refl))
 
 pub returns-in-Bytes : goal.returns-in-Bytes
 unfolding record_of
-returns-in-Bytes c = let whole = 
-    let e = rw (part_from c.args.place c.args.archive.now) at (sym c.extent_of-extent.ensures ∙ c.in-Bytes.is) in
+returns-in-Bytes c = by_clause (let e = rw (part_from c.args.place c.args.archive.now) at (sym c.extent_of-extent.ensures ∙ c.in-Bytes.is) in
     let checked = rw (part_from c.args.place c.args.archive.now) at c.checked_content_of-checked.ensures in
-    let z : c.args.place + c.in-Bytes.size - c.args.place ≡ c.in-Bytes.size = omega arith in rw (e, z) (rw checked.0 refl, checked.1) in record { record_value = whole.0; keeps_value = whole.1 }
+    let z : c.args.place + c.in-Bytes.size - c.args.place ≡ c.in-Bytes.size = omega arith in rw (e, z) (rw checked.0 refl, checked.1))

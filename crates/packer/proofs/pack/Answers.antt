@@ -7,6 +7,14 @@ use Rattle.packer.proofs.Room.{lent_wide, lent_measured}
 use borrow.Author.Rules.{rules}
 use Rattle.packer.proofs.pack.Goals as goal
 
+-- the clauses, of their product
+by_clause : {A B : Type 0} → A × B → record { f_value : A; f_in_bounds : B }
+by_clause w = record { f_value = w.0; f_in_bounds = w.1 }
+
+-- the clauses, of their product
+by_clauses_of_value_output_after_room_len_unchanged : {A B C : Type 0} → A × B × C → record { value : A; output_after : B; room_len_unchanged : C }
+by_clauses_of_value_output_after_room_len_unchanged w = record { value = w.0; output_after = w.1.0; room_len_unchanged = w.1.1 }
+
 pub table_words-stretch-requires : goal.table_words-stretch-requires
 table_words-stretch-requires c =
     small_format_lem c.args.f c.requires.0
@@ -40,26 +48,21 @@ overflow_mul-fixed c =
     omega (arith, m.1)
 
 pub write-requires : goal.write-requires
-write-requires c =
-    let n = rw c.in-Words.is at c.count_all-count.ensures.count_is in
-    let tallies = left_tally c.args.f c.args.archive.now _ n.0 c.count_all-count.ensures.slots_left in
-    let m =
-    lent_measured c.args.f c.args.archive.now c.count_all-count.new.room c.in-Words.fixed c.measure-keys.result c.table_words-stretch.result
-    c.requires.0 (λ i. omega (arith, c.type_inv.archive i)) c.requires.1 n.0 tallies n.1 c.table_words-stretch.ensures c.measure-keys.ensures.0 in record {
-      f_value = (c.requires.0, c.requires.1, n.0, m.0);
-      f_in_bounds = (omega (arith, c.requires.2, c.count_all-count.ensures.room_len_unchanged.0), tallies);
-    }
-
-pub returns-in-Refused : goal.returns-in-Refused
-returns-in-Refused c = let whole = 
-    let n = rw c.in-Refused.is at c.count_all-count.ensures.count_is in
-    rw n (refl, (refl, c.count_all-count.ensures.room_len_unchanged)) in record { value = whole.0; output_after = whole.1.0; room_len_unchanged = whole.1.1 }
-
-pub returns-in-Words : goal.returns-in-Words
-returns-in-Words c = let whole = 
-    let n = rw c.in-Words.is at c.count_all-count.ensures.count_is in
+write-requires c = by_clause (let n = rw c.in-Words.is at c.count_all-count.ensures.count_is in
     let tallies = left_tally c.args.f c.args.archive.now _ n.0 c.count_all-count.ensures.slots_left in
     let m =
     lent_measured c.args.f c.args.archive.now c.count_all-count.new.room c.in-Words.fixed c.measure-keys.result c.table_words-stretch.result
     c.requires.0 (λ i. omega (arith, c.type_inv.archive i)) c.requires.1 n.0 tallies n.1 c.table_words-stretch.ensures c.measure-keys.ensures.0 in
-    rw (n.0, ← m.0) (c.write.ensures.value, (c.write.ensures.output_after, (c.write.ensures.room_len_unchanged.0 ∙ c.count_all-count.ensures.room_len_unchanged.0, c.write.ensures.room_len_unchanged.1 ∙ c.count_all-count.ensures.room_len_unchanged.1))) in record { value = whole.0; output_after = whole.1.0; room_len_unchanged = whole.1.1 }
+    ((c.requires.0, c.requires.1, n.0, m.0), (omega (arith, c.requires.2, c.count_all-count.ensures.room_len_unchanged.0), tallies)))
+
+pub returns-in-Refused : goal.returns-in-Refused
+returns-in-Refused c = by_clauses_of_value_output_after_room_len_unchanged (let n = rw c.in-Refused.is at c.count_all-count.ensures.count_is in
+    rw n (refl, (refl, c.count_all-count.ensures.room_len_unchanged)))
+
+pub returns-in-Words : goal.returns-in-Words
+returns-in-Words c = by_clauses_of_value_output_after_room_len_unchanged (let n = rw c.in-Words.is at c.count_all-count.ensures.count_is in
+    let tallies = left_tally c.args.f c.args.archive.now _ n.0 c.count_all-count.ensures.slots_left in
+    let m =
+    lent_measured c.args.f c.args.archive.now c.count_all-count.new.room c.in-Words.fixed c.measure-keys.result c.table_words-stretch.result
+    c.requires.0 (λ i. omega (arith, c.type_inv.archive i)) c.requires.1 n.0 tallies n.1 c.table_words-stretch.ensures c.measure-keys.ensures.0 in
+    rw (n.0, ← m.0) (c.write.ensures.value, (c.write.ensures.output_after, (c.write.ensures.room_len_unchanged.0 ∙ c.count_all-count.ensures.room_len_unchanged.0, c.write.ensures.room_len_unchanged.1 ∙ c.count_all-count.ensures.room_len_unchanged.1))))

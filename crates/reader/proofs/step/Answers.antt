@@ -10,12 +10,16 @@ use Rattle.reader.proofs.Steps.{admitted}
 use borrow.Author.Rules.{rules}
 use Rattle.reader.proofs.step.Goals as goal
 
+-- the clauses, of their product
+by_clause : {A B : Type 0} → A × B → record { value : A; tables_after : B }
+by_clause w = record { value = w.0; tables_after = w.1 }
+
 pub opening_number-number-requires : goal.opening_number-number-requires
 opening_number-number-requires c = rw c.small_format-f.ensures small_fits
 
 pub returns-then-number-ne0 : goal.returns-then-number-ne0
 unfolding decision_of stopping changed
-returns-then-number-ne0 c = let whole = simp (← c.small_format-f.ensures, ← c.opening_number-number.ensures, ne_eqb _ _ c.if-number-ne0.true) (c.stop.ensures, refl) in record { value = whole.0; tables_after = whole.1 }
+returns-then-number-ne0 c = by_clause (simp (← c.small_format-f.ensures, ← c.opening_number-number.ensures, ne_eqb _ _ c.if-number-ne0.true) (c.stop.ensures, refl))
 
 pub step_place-requires : goal.step_place-requires
 step_place-requires c =
@@ -24,10 +28,8 @@ step_place-requires c =
 
 pub returns-then-belongs : goal.returns-then-belongs
 unfolding decision_of
-returns-then-belongs c = let whole = 
-    simp (← c.small_format-f.ensures, ← c.opening_number-number.ensures, eq-eqb _ _ c.if-number-ne0.false, ← c.belongs.ensures, c.if-belongs.true) c.step_place.ensures in record { value = whole.0; tables_after = whole.1 }
+returns-then-belongs c = by_clause (simp (← c.small_format-f.ensures, ← c.opening_number-number.ensures, eq-eqb _ _ c.if-number-ne0.false, ← c.belongs.ensures, c.if-belongs.true) c.step_place.ensures)
 
 pub returns : goal.returns
 unfolding decision_of stopping changed
-returns c = let whole = 
-    simp (← c.small_format-f.ensures, ← c.opening_number-number.ensures, eq-eqb _ _ c.if-number-ne0.false, ← c.belongs.ensures, c.if-belongs.false) (c.stop-2.ensures, refl) in record { value = whole.0; tables_after = whole.1 }
+returns c = by_clause (simp (← c.small_format-f.ensures, ← c.opening_number-number.ensures, eq-eqb _ _ c.if-number-ne0.false, ← c.belongs.ensures, c.if-belongs.false) (c.stop-2.ensures, refl))

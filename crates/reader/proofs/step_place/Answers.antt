@@ -11,9 +11,13 @@ use Rattle.reader.proofs.Steps.{source_here, cut_decides}
 use borrow.Author.Rules.{rules}
 use Rattle.reader.proofs.step_place.Goals as goal
 
+-- the clauses, of their product
+by_clause : {A B : Type 0} → A × B → record { value : A; tables_after : B }
+by_clause w = record { value = w.0; tables_after = w.1 }
+
 pub returns-then-place-archive : goal.returns-then-place-archive
 unfolding place_decision stopping changed
-returns-then-place-archive c = let whole = simp (eq-eqb _ _ c.if-place-archive.true) (c.stop.ensures, refl) in record { value = whole.0; tables_after = whole.1 }
+returns-then-place-archive c = by_clause (simp (eq-eqb _ _ c.if-place-archive.true) (c.stop.ensures, refl))
 
 pub slice_bounds-rest-count : goal.slice_bounds-rest-count
 slice_bounds-rest-count c =
@@ -39,13 +43,11 @@ step_record-requires c =
 
 pub returns-in-Refused : goal.returns-in-Refused
 unfolding place_decision stopping changed
-returns-in-Refused c = let whole = 
-    let e = simp part_from at (sym c.extent_of-extent.ensures ∙ c.in-Refused.is) in
-    simp (ne_eqb _ _ c.if-place-archive.false, cut_decides c.args.f c.args.archive.now c.args.tables.now c.args.s c.in-Refused.number e) (c.stop-in-Refused.ensures, refl) in record { value = whole.0; tables_after = whole.1 }
+returns-in-Refused c = by_clause (let e = simp part_from at (sym c.extent_of-extent.ensures ∙ c.in-Refused.is) in
+    simp (ne_eqb _ _ c.if-place-archive.false, cut_decides c.args.f c.args.archive.now c.args.tables.now c.args.s c.in-Refused.number e) (c.stop-in-Refused.ensures, refl))
 
 pub returns-in-Bytes : goal.returns-in-Bytes
 unfolding place_decision
-returns-in-Bytes c = let whole = 
-    let e = simp part_from at (sym c.extent_of-extent.ensures ∙ c.in-Bytes.is) in
+returns-in-Bytes c = by_clause (let e = simp part_from at (sym c.extent_of-extent.ensures ∙ c.in-Bytes.is) in
     let h = source_here c.args.f c.args.archive.now c.args.s.place c.in-Bytes.size e in
-    simp (ne_eqb _ _ c.if-place-archive.false, h.is) (simp (part_from, h.long) at c.step_record.ensures) in record { value = whole.0; tables_after = whole.1 }
+    simp (ne_eqb _ _ c.if-place-archive.false, h.is) (simp (part_from, h.long) at c.step_record.ensures))

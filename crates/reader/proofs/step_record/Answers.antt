@@ -15,6 +15,10 @@ use Rattle.reader.proofs.Steps.{read_replies, plain_decides, index_stands}
 use borrow.Author.Rules.{rules}
 use Rattle.reader.proofs.step_record.Goals as goal
 
+-- the clauses, of their product
+by_clause : {A B : Type 0} → A × B → record { value : A; tables_after : B }
+by_clause w = record { value = w.0; tables_after = w.1 }
+
 pub see_report-seen-requires : goal.see_report-seen-requires
 see_report-seen-requires c =
     let k : (layout_of (word_at c.args.f.order c.args.source.now 0)).read ≡ true =
@@ -24,10 +28,9 @@ see_report-seen-requires c =
 
 pub returns-then-layout : goal.returns-then-layout
 unfolding changed
-returns-then-layout c = let whole = 
-    let k : (layout_of (word_at c.args.f.order c.args.source.now 0)).read ≡ true = rw (← c.word.ensures, ← c.layout_of-layout.ensures) c.if-layout.true in
+returns-then-layout c = by_clause (let k : (layout_of (word_at c.args.f.order c.args.source.now 0)).read ≡ true = rw (← c.word.ensures, ← c.layout_of-layout.ensures) c.if-layout.true in
     let r = read_replies c.args.f c.args.archive.now c.args.tables.now c.args.s c.args.source.now (c.args.s.place + length c.args.source.now) c.requires.5.1 k in
-    rw (r.0, r.1, ← c.provider_of.ensures, ← c.rate_of.ensures, ← c.see_report-seen.ensures) (c.show_seen.ensures, refl) in record { value = whole.0; tables_after = whole.1 }
+    rw (r.0, r.1, ← c.provider_of.ensures, ← c.rate_of.ensures, ← c.see_report-seen.ensures) (c.show_seen.ensures, refl))
 
 pub content_of-requires : goal.content_of-requires
 content_of-requires c =
@@ -45,10 +48,9 @@ step_plain-requires c =
     )
 
 pub returns : goal.returns
-returns c = let whole = 
-    let k : (layout_of (word_at c.args.f.order c.args.source.now 0)).read ≡ false = rw (← c.word.ensures, ← c.layout_of-layout.ensures) c.if-layout.false in
+returns c = by_clause (let k : (layout_of (word_at c.args.f.order c.args.source.now 0)).read ≡ false = rw (← c.word.ensures, ← c.layout_of-layout.ensures) c.if-layout.false in
     rw (
       plain_decides c.args.f c.args.archive.now c.args.tables.now c.args.s c.args.source.now (c.args.s.place + length
           c.args.source.now) c.requires.5.1 k,
       ← c.content_of.ensures,
-    ) c.step_plain.ensures in record { value = whole.0; tables_after = whole.1 }
+    ) c.step_plain.ensures)

@@ -12,6 +12,14 @@ use Rattle.rewriting.proofs.Spelling.{Walk, walk_starts, walk_as, walk_fits, wal
 use borrow.Author.Rules.{rules}
 use Rattle.rewriting.proofs.put_arguments.Goals as goal
 
+-- the clauses, of their product
+by_clause : {A B : Type 0} → A × B → record { out_after : A; value : B }
+by_clause w = record { out_after = w.0; value = w.1 }
+
+-- the clauses, of their product
+by_clauses_of_room_fits_argument_in_bounds : {A B : Type 0} → A × B → record { room_fits : A; argument_in_bounds : B }
+by_clauses_of_room_fits_argument_in_bounds w = record { room_fits = w.0; argument_in_bounds = w.1 }
+
 pub loop-left-init : goal.loop-left-init
 loop-left-init c =
     (
@@ -29,18 +37,14 @@ shape_of-out-in-Refused c =
     c.loop-left.invariant.0.long
 
 pub returns-in-Refused : goal.returns-in-Refused
-returns-in-Refused c = let whole = 
-    let none = argument_refused c.args.f c.loop-left.left c.loop-left.rest.now c.loop-left.from _ c.loop-left-test.true (sym c.argument_of-argued.ensures ∙ c.in-Refused.is) in
-    walk_ends _ _ _ _ _ _ (walk_as _ _ _ _ _ _ none c.loop-left.invariant.0) in record { out_after = whole.0; value = whole.1 }
+returns-in-Refused c = by_clause (let none = argument_refused c.args.f c.loop-left.left c.loop-left.rest.now c.loop-left.from _ c.loop-left-test.true (sym c.argument_of-argued.ensures ∙ c.in-Refused.is) in
+    walk_ends _ _ _ _ _ _ (walk_as _ _ _ _ _ _ none c.loop-left.invariant.0))
 
 pub put_argument-at-requires : goal.put_argument-at-requires
-put_argument-at-requires c =
-    let read = sym c.argument_of-argued.ensures ∙ c.in-Argument.is in
+put_argument-at-requires c = by_clauses_of_room_fits_argument_in_bounds (let read = sym c.argument_of-argued.ensures ∙ c.in-Argument.is in
     let turn = argument_first c.args.f c.loop-left.left c.loop-left.rest.now c.loop-left.from c.in-Argument.argument c.in-Argument.size c.loop-left-test.true read in
-    let w = walk_as _ _ _ _ _ _ turn c.loop-left.invariant.0 in record {
-      room_fits = (c.requires.room_fits.0, w.fit.0, c.requires.room_fits.2);
-      argument_in_bounds = walk_fits _ _ _ _ _ _ w;
-    }
+    let w = walk_as _ _ _ _ _ _ turn c.loop-left.invariant.0 in
+    ((c.requires.room_fits.0, w.fit.0, c.requires.room_fits.2), walk_fits _ _ _ _ _ _ w))
 
 pub slice_bounds-rest-count : goal.slice_bounds-rest-count
 slice_bounds-rest-count c =
@@ -71,6 +75,5 @@ shape_of-out c =
     c.loop-left.invariant.0.long
 
 pub returns : goal.returns
-returns c = let whole = 
-    let none = arguments-none c.args.f c.loop-left.left c.loop-left.rest.now c.loop-left.from (omega arith) in
-    walk_ends _ _ _ _ _ _ (walk_as _ _ _ _ _ _ none c.loop-left.invariant.0) in record { out_after = whole.0; value = whole.1 }
+returns c = by_clause (let none = arguments-none c.args.f c.loop-left.left c.loop-left.rest.now c.loop-left.from (omega arith) in
+    walk_ends _ _ _ _ _ _ (walk_as _ _ _ _ _ _ none c.loop-left.invariant.0))

@@ -6,6 +6,10 @@ use Rattle.rewriting.proofs.Putting.{pieces_start}
 use borrow.Author.Rules.{rules}
 use Rattle.rewriting.proofs.put_pieces.Goals as goal
 
+-- the clauses, of their product
+by_clause : {A B : Type 0} → A × B → record { out_after : A; value : B }
+by_clause w = record { out_after = w.0; value = w.1 }
+
 pub put_own_words-owned-requires : goal.put_own_words-owned-requires
 put_own_words-owned-requires c =
     let bytes = stream_of c.args.archive.now c.args.report in
@@ -46,11 +50,10 @@ put_stream-requires c =
     writing_fits c.requires.third_in_bounds three
 
 pub returns : goal.returns
-returns c = let whole = 
-    let started = pieces_start c.args.f c.args.archive.now c.args.report c.args.first c.args.second c.args.third c.stream_bytes.result.now c.args.out.now c.args.at c.stream_bytes.ensures in
+returns c = by_clause (let started = pieces_start c.args.f c.args.archive.now c.args.report c.args.first c.args.second c.args.third c.stream_bytes.result.now c.args.out.now c.args.at c.stream_bytes.ensures in
     let owned = writing_goes_on c.requires.third_in_bounds started c.put_own_words-owned.ensures.out_after c.put_own_words-owned.ensures.value in
     let one = writing_goes_on c.requires.third_in_bounds owned c.put_spelled-behind_first.ensures.out_after c.put_spelled-behind_first.ensures.value in
     let two = writing_goes_on c.requires.third_in_bounds one c.put_spelled-behind_second.ensures.out_after c.put_spelled-behind_second.ensures.value in
     let three = writing_goes_on c.requires.third_in_bounds two c.put_spelled-behind_third.ensures.out_after c.put_spelled-behind_third.ensures.value in
     let all = writing_goes_on c.requires.third_in_bounds three c.put_stream.ensures.out_after c.put_stream.ensures.value in
-    writing_ends all in record { out_after = whole.0; value = whole.1 }
+    writing_ends all)

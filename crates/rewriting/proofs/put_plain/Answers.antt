@@ -9,6 +9,10 @@ use Rattle.encoding.proofs.Parts.{nothing_written}
 use borrow.Author.Rules.{rules}
 use Rattle.rewriting.proofs.put_plain.Goals as goal
 
+-- the clauses, of their product
+by_clause : {A B : Type 0} → A × B → record { out_after : A; value : B }
+by_clause w = record { out_after = w.0; value = w.1 }
+
 pub put_magic-requires : goal.put_magic-requires
 unfolding plain_item
 put_magic-requires c =
@@ -37,55 +41,44 @@ put_initialization-requires c =
 
 pub returns-in-Magic : goal.returns-in-Magic
 unfolding plain_item magic_bytes
-returns-in-Magic c = let whole = 
-    rw (c.in-Magic.is, magic_record c.args.f (λ key. 0)) c.put_magic.ensures in record { out_after = whole.0; value = whole.1 }
+returns-in-Magic c = by_clause (rw (c.in-Magic.is, magic_record c.args.f (λ key. 0)) c.put_magic.ensures)
 
 pub returns-in-ProviderInfo : goal.returns-in-ProviderInfo
 unfolding plain_item
-returns-in-ProviderInfo c = let whole = 
-    rw c.in-ProviderInfo.is (rw c.text.ensures at c.put_provider_info.ensures) in record { out_after = whole.0; value = whole.1 }
+returns-in-ProviderInfo c = by_clause (rw c.in-ProviderInfo.is (rw c.text.ensures at c.put_provider_info.ensures))
 
 pub returns-in-Section : goal.returns-in-Section
 unfolding plain_item
-returns-in-Section c = let whole = 
-    rw c.in-Section.is c.put_section.ensures in record { out_after = whole.0; value = whole.1 }
+returns-in-Section c = by_clause (rw c.in-Section.is c.put_section.ensures)
 
 pub returns-in-ProviderEvent : goal.returns-in-ProviderEvent
 unfolding plain_item
-returns-in-ProviderEvent c = let whole = 
-    rw c.in-ProviderEvent.is c.put_provider_event.ensures in record { out_after = whole.0; value = whole.1 }
+returns-in-ProviderEvent c = by_clause (rw c.in-ProviderEvent.is c.put_provider_event.ensures)
 
 pub returns-in-Initialization : goal.returns-in-Initialization
 unfolding plain_item
-returns-in-Initialization c = let whole = 
-    rw c.in-Initialization.is c.put_initialization.ensures in record { out_after = whole.0; value = whole.1 }
+returns-in-Initialization c = by_clause (rw c.in-Initialization.is c.put_initialization.ensures)
 
 pub returns-in-Report : goal.returns-in-Report
 unfolding plain_item
-returns-in-Report c = let whole = 
-    rw c.in-Report.is (nothing_written c.args.out.now c.args.at, omega arith) in record { out_after = whole.0; value = whole.1 }
+returns-in-Report c = by_clause (rw c.in-Report.is (nothing_written c.args.out.now c.args.at, omega arith))
 
 pub returns-in-Refused : goal.returns-in-Refused
 unfolding plain_item
-returns-in-Refused c = let whole = 
-    rw c.in-Refused.is (nothing_written c.args.out.now c.args.at, omega arith) in record { out_after = whole.0; value = whole.1 }
+returns-in-Refused c = by_clause (rw c.in-Refused.is (nothing_written c.args.out.now c.args.at, omega arith))
 
 pub returns-in-String : goal.returns-in-String
 unfolding plain_item
-returns-in-String c = let whole = 
-    rw c.in-String.is (nothing_written c.args.out.now c.args.at, omega arith) in record { out_after = whole.0; value = whole.1 }
+returns-in-String c = by_clause (rw c.in-String.is (nothing_written c.args.out.now c.args.at, omega arith))
 
 pub returns-in-Thread : goal.returns-in-Thread
 unfolding plain_item
-returns-in-Thread c = let whole = 
-    rw c.in-Thread.is (nothing_written c.args.out.now c.args.at, omega arith) in record { out_after = whole.0; value = whole.1 }
+returns-in-Thread c = by_clause (rw c.in-Thread.is (nothing_written c.args.out.now c.args.at, omega arith))
 
 pub returns-in-Ignored : goal.returns-in-Ignored
 unfolding plain_item
-returns-in-Ignored c = let whole = 
-    rw c.in-Ignored.is (nothing_written c.args.out.now c.args.at, omega arith) in record { out_after = whole.0; value = whole.1 }
+returns-in-Ignored c = by_clause (rw c.in-Ignored.is (nothing_written c.args.out.now c.args.at, omega arith))
 
 pub returns-in-Skipped : goal.returns-in-Skipped
 unfolding plain_item
-returns-in-Skipped c = let whole = 
-    absurd (rw c.in-Skipped.is at c.requires.0) in record { out_after = whole.0; value = whole.1 }
+returns-in-Skipped c = by_clause (absurd (rw c.in-Skipped.is at c.requires.0))

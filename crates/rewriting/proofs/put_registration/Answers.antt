@@ -7,12 +7,13 @@ use Rattle.rewriting.proofs.Registering.{registration_none, registration_thread,
 use borrow.Author.Rules.{rules}
 use Rattle.rewriting.proofs.put_registration.Goals as goal
 
+-- the clauses, of their product
+by_clause : {A B : Type 0} → A × B → record { out_after : A; value : B }
+by_clause w = record { out_after = w.0; value = w.1 }
+
 pub returns-then-index-eq0 : goal.returns-then-index-eq0
-returns-then-index-eq0 c =
-    let none = registration_none c.args.f c.args.table c.args.index c.args.bytes.now c.if-index-eq0.true in record {
-      out_after = rw none (nothing_written c.args.out.now c.args.at);
-      value = omega (arith, ap length none);
-    }
+returns-then-index-eq0 c = by_clause (let none = registration_none c.args.f c.args.table c.args.index c.args.bytes.now c.if-index-eq0.true in
+    (rw none (nothing_written c.args.out.now c.args.at), omega (arith, ap length none)))
 
 pub word-requires : goal.word-requires
 word-requires c =
@@ -29,9 +30,8 @@ put_thread_record-requires c =
     omega (arith, c.requires.registration_fits.thread-low c.if-table-eq3.true, c.requires.bytes_in_bounds, ap length is)
 
 pub returns-then-table-eq3 : goal.returns-then-table-eq3
-returns-then-table-eq3 c = let whole = 
-    rw (registration_thread c.args.f c.args.table c.args.index c.args.bytes.now c.word.result c.word-then-table-eq3.result c.if-index-eq0.false c.if-table-eq3.true
-    c.word.ensures c.word-then-table-eq3.ensures) c.put_thread_record.ensures in record { out_after = whole.0; value = whole.1 }
+returns-then-table-eq3 c = by_clause (rw (registration_thread c.args.f c.args.table c.args.index c.args.bytes.now c.word.result c.word-then-table-eq3.result c.if-index-eq0.false c.if-table-eq3.true
+    c.word.ensures c.word-then-table-eq3.ensures) c.put_thread_record.ensures)
 
 pub put_string_record-requires : goal.put_string_record-requires
 put_string_record-requires c =
@@ -44,5 +44,4 @@ put_string_record-requires c =
     )
 
 pub returns : goal.returns
-returns c = let whole = 
-    rw (registration_text c.args.f c.args.table c.args.index c.args.bytes.now c.if-index-eq0.false c.if-table-eq3.false) c.put_string_record.ensures in record { out_after = whole.0; value = whole.1 }
+returns c = by_clause (rw (registration_text c.args.f c.args.table c.args.index c.args.bytes.now c.if-index-eq0.false c.if-table-eq3.false) c.put_string_record.ensures)

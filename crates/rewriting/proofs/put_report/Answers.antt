@@ -11,6 +11,18 @@ use Rattle.rewriting.proofs.Putting.{writing_long}
 use borrow.Author.Rules.{rules}
 use Rattle.rewriting.proofs.put_report.Goals as goal
 
+-- the clauses, of their product
+by_clause : {A B : Type 0} → A × B → record { spelled_thread : A; third_in_bounds : B }
+by_clause w = record { spelled_thread = w.0; third_in_bounds = w.1 }
+
+-- the clauses, of their product
+by_clauses_of_room_fits_part_bound : {A B : Type 0} → A × B → record { room_fits : A; part_bound : B }
+by_clauses_of_room_fits_part_bound w = record { room_fits = w.0; part_bound = w.1 }
+
+-- the clauses, of their product
+by_clauses_of_out_after_value : {A B : Type 0} → A × B → record { out_after : A; value : B }
+by_clauses_of_out_after_value w = record { out_after = w.0; value = w.1 }
+
 pub overflow_add-at : goal.overflow_add-at
 overflow_add-at c =
     let tables = tables_in c.args.f c.args.room.now in
@@ -21,8 +33,7 @@ overflow_add-at c =
     omega (arith, long, c.requires.next_in_bounds, c.well_formed.1.1.1.0.0)
 
 pub put_pieces-pieced-requires : goal.put_pieces-pieced-requires
-put_pieces-pieced-requires c =
-    let tables = tables_in c.args.f c.args.room.now in
+put_pieces-pieced-requires c = by_clause (let tables = tables_in c.args.f c.args.room.now in
     let slots = slots_in c.args.f c.args.room.now in
     let spelled : ReportSpelled c.args.f c.args.archive.now tables slots c.args.s c.args.report c.spell-first.result c.spell-second.result c.spell-third.result =
     record { first-is = c.spell-first.ensures; second_is = c.spell-second.ensures; third-is = c.spell-third.ensures } in
@@ -32,10 +43,8 @@ put_pieces-pieced-requires c =
     let started = report-starts c.args.f c.args.archive.now tables slots c.args.s c.args.report c.args.next c.spell-first.result c.spell-second.result c.spell-third.result spelled c.args.out.now c.args.at in
     let first_fits = thread_as c.args.report.first.table c.args.archive.now c.spell-first.result _ c.spell-first.ensures c.requires.room_fits.2.first.thread in
     let second_fits = thread_as c.args.report.second.table c.args.archive.now c.spell-second.result _ c.spell-second.ensures c.requires.room_fits.2.second.thread in
-    let third-fits = thread_as c.args.report.third.table c.args.archive.now c.spell-third.result _ c.spell-third.ensures c.requires.room_fits.2.third.thread in record {
-      spelled_thread = (first_fits, second_fits, third-fits);
-      third_in_bounds = writing_fits space started;
-    }
+    let third-fits = thread_as c.args.report.third.table c.args.archive.now c.spell-third.result _ c.spell-third.ensures c.requires.room_fits.2.third.thread in
+    ((first_fits, second_fits, third-fits), writing_fits space started))
 
 pub slice_bounds-put_arguments-count : goal.slice_bounds-put_arguments-count
 slice_bounds-put_arguments-count c =
@@ -53,8 +62,7 @@ slice_bounds-put_arguments-end c =
     bounds.last
 
 pub put_arguments-argued-requires : goal.put_arguments-argued-requires
-put_arguments-argued-requires c =
-    let tables = tables_in c.args.f c.args.room.now in
+put_arguments-argued-requires c = by_clauses_of_room_fits_part_bound (let tables = tables_in c.args.f c.args.room.now in
     let slots = slots_in c.args.f c.args.room.now in
     let spelled : ReportSpelled c.args.f c.args.archive.now tables slots c.args.s c.args.report c.spell-first.result c.spell-second.result c.spell-third.result =
     record { first-is = c.spell-first.ensures; second_is = c.spell-second.ensures; third-is = c.spell-third.ensures } in
@@ -63,10 +71,8 @@ put_arguments-argued-requires c =
     omega (arith, long, c.requires.next_in_bounds) in
     let started = report-starts c.args.f c.args.archive.now tables slots c.args.s c.args.report c.args.next c.spell-first.result c.spell-second.result c.spell-third.result spelled c.args.out.now c.args.at in
     let pieced = writing_goes_on space started c.put_pieces-pieced.ensures.out_after c.put_pieces-pieced.ensures.value in
-    let bounds = report_bounds c.args.f c.args.archive.now c.args.s.place c.args.report c.args.next c.requires.room_fits.1.inside c.requires.room_fits.1.is in record {
-      room_fits = (c.requires.room_fits.0, c.requires.room_fits.2.arguments, c.requires.room_fits.3);
-      part_bound = (omega (arith, bounds.part, bounds.last, c.requires.room_fits.0.short), writing_fits space pieced);
-    }
+    let bounds = report_bounds c.args.f c.args.archive.now c.args.s.place c.args.report c.args.next c.requires.room_fits.1.inside c.requires.room_fits.1.is in
+    ((c.requires.room_fits.0, c.requires.room_fits.2.arguments, c.requires.room_fits.3), (omega (arith, bounds.part, bounds.last, c.requires.room_fits.0.short), writing_fits space pieced)))
 
 pub put_last-end-requires : goal.put_last-end-requires
 put_last-end-requires c =
@@ -102,8 +108,7 @@ put_header-requires c =
     )
 
 pub returns : goal.returns
-returns c = let whole = 
-    let tables = tables_in c.args.f c.args.room.now in
+returns c = by_clauses_of_out_after_value (let tables = tables_in c.args.f c.args.room.now in
     let slots = slots_in c.args.f c.args.room.now in
     let spelled : ReportSpelled c.args.f c.args.archive.now tables slots c.args.s c.args.report c.spell-first.result c.spell-second.result c.spell-third.result =
     record { first-is = c.spell-first.ensures; second_is = c.spell-second.ensures; third-is = c.spell-third.ensures } in
@@ -115,4 +120,4 @@ returns c = let whole =
     let argued = writing_goes_on space pieced c.put_arguments-argued.ensures.out_after c.put_arguments-argued.ensures.value in
     let all = writing_goes_on space argued c.put_last-end.ensures.out_after c.put_last-end.ensures.value in
     let ends = report-ends c.args.f c.args.archive.now tables slots c.args.s c.args.report c.args.next c.spell-first.result c.spell-second.result c.spell-third.result spelled in
-    ends c.args.out.now _ _ c.args.at _ c.requires.next_in_bounds all c.put_header.ensures.out_after in record { out_after = whole.0; value = whole.1 }
+    ends c.args.out.now _ _ c.args.at _ c.requires.next_in_bounds all c.put_header.ensures.out_after)

@@ -12,6 +12,14 @@ use Rattle.rewriting.proofs.Registering.{Registering, registering-starts, regist
 use borrow.Author.Rules.{rules}
 use Rattle.rewriting.proofs.register_arguments.Goals as goal
 
+-- the clauses, of their product
+by_clause : {A B C : Type 0} → A × B × C → record { room_after : A; out_after : B; value : C }
+by_clause w = record { room_after = w.0; out_after = w.1.0; value = w.1.1 }
+
+-- the clauses, of their product
+by_clauses_of_room_fits_lookup_in_bounds : {A B : Type 0} → A × B → record { room_fits : A; lookup_in_bounds : B }
+by_clauses_of_room_fits_lookup_in_bounds w = record { room_fits = w.0; lookup_in_bounds = w.1 }
+
 pub loop-left-init : goal.loop-left-init
 loop-left-init c =
     (
@@ -33,29 +41,22 @@ shape_of-out-in-Refused c =
     c.loop-left.invariant.0.out-long
 
 pub returns-in-Refused : goal.returns-in-Refused
-returns-in-Refused c = let whole = 
-    let stop = texts_refused c.args.f c.loop-left.left c.loop-left.rest.now c.loop-left.from _ c.loop-left-test.true (sym c.texts_of-texts.ensures ∙ c.in-Refused.is) in
-    registering_done _ _ _ _ _ _ _ _ (registering_as _ _ _ _ _ _ _ _ stop c.loop-left.invariant.0) in record { room_after = whole.0; out_after = whole.1.0; value = whole.1.1 }
+returns-in-Refused c = by_clause (let stop = texts_refused c.args.f c.loop-left.left c.loop-left.rest.now c.loop-left.from _ c.loop-left-test.true (sym c.texts_of-texts.ensures ∙ c.in-Refused.is) in
+    registering_done _ _ _ _ _ _ _ _ (registering_as _ _ _ _ _ _ _ _ stop c.loop-left.invariant.0))
 
 pub register_lookup-at-requires : goal.register_lookup-at-requires
-register_lookup-at-requires c =
-    let turn = texts_first c.args.f c.loop-left.left c.loop-left.rest.now c.loop-left.from c.in-Texts.name c.in-Texts.value c.in-Texts.size c.loop-left-test.true
+register_lookup-at-requires c = by_clauses_of_room_fits_lookup_in_bounds (let turn = texts_first c.args.f c.loop-left.left c.loop-left.rest.now c.loop-left.from c.in-Texts.name c.in-Texts.value c.in-Texts.size c.loop-left-test.true
     (sym c.texts_of-texts.ensures ∙ c.in-Texts.is) in
-    let fit = next_fits _ _ _ _ _ _ _ _ (registering_as _ _ _ _ _ _ _ _ turn c.loop-left.invariant.0) in record {
-      room_fits = (record { limits = c.requires.room_fits.0.limits; short = c.requires.room_fits.0.short; wide = omega (arith, c.requires.room_fits.0.wide, c.loop-left.invariant.0.long); low = c.requires.room_fits.0.low }, fit.0, c.loop-left.invariant.0.remembers);
-      lookup_in_bounds = fit.1;
-    }
+    let fit = next_fits _ _ _ _ _ _ _ _ (registering_as _ _ _ _ _ _ _ _ turn c.loop-left.invariant.0) in
+    ((record { limits = c.requires.room_fits.0.limits; short = c.requires.room_fits.0.short; wide = omega (arith, c.requires.room_fits.0.wide, c.loop-left.invariant.0.long); low = c.requires.room_fits.0.low }, fit.0, c.loop-left.invariant.0.remembers), fit.1))
 
 pub register_lookup-at-requires-in-Texts : goal.register_lookup-at-requires-in-Texts
-register_lookup-at-requires-in-Texts c =
-    let turn = texts_first c.args.f c.loop-left.left c.loop-left.rest.now c.loop-left.from c.in-Texts.name c.in-Texts.value c.in-Texts.size c.loop-left-test.true
+register_lookup-at-requires-in-Texts c = by_clauses_of_room_fits_lookup_in_bounds (let turn = texts_first c.args.f c.loop-left.left c.loop-left.rest.now c.loop-left.from c.in-Texts.name c.in-Texts.value c.in-Texts.size c.loop-left-test.true
     (sym c.texts_of-texts.ensures ∙ c.in-Texts.is) in
     let long : length c.register_lookup-at.new.room ≡ length c.loop-left.room = search rules in
     let named = registering_next _ _ _ _ _ _ _ _ (registering_as _ _ _ _ _ _ _ _ turn c.loop-left.invariant.0) c.register_lookup-at.ensures c.requires.room_fits.0 long in
-    let fit = next_fits _ _ _ _ _ _ _ _ named in record {
-      room_fits = (record { limits = c.requires.room_fits.0.limits; short = c.requires.room_fits.0.short; wide = omega (arith, c.requires.room_fits.0.wide, named.long); low = c.requires.room_fits.0.low }, fit.0, named.remembers);
-      lookup_in_bounds = fit.1;
-    }
+    let fit = next_fits _ _ _ _ _ _ _ _ named in
+    ((record { limits = c.requires.room_fits.0.limits; short = c.requires.room_fits.0.short; wide = omega (arith, c.requires.room_fits.0.wide, named.long); low = c.requires.room_fits.0.low }, fit.0, named.remembers), fit.1))
 
 pub slice_bounds-rest-count : goal.slice_bounds-rest-count
 slice_bounds-rest-count c =
@@ -95,6 +96,5 @@ shape_of-out c =
     c.loop-left.invariant.0.out-long
 
 pub returns : goal.returns
-returns c = let whole = 
-    let none = lookups_none c.args.f c.loop-left.left c.loop-left.rest.now c.loop-left.from (omega arith) in
-    registering_done _ _ _ _ _ _ _ _ (registering_as _ _ _ _ _ _ _ _ none c.loop-left.invariant.0) in record { room_after = whole.0; out_after = whole.1.0; value = whole.1.1 }
+returns c = by_clause (let none = lookups_none c.args.f c.loop-left.left c.loop-left.rest.now c.loop-left.from (omega arith) in
+    registering_done _ _ _ _ _ _ _ _ (registering_as _ _ _ _ _ _ _ _ none c.loop-left.invariant.0))

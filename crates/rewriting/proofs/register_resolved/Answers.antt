@@ -18,6 +18,14 @@ use Rattle.rewriting.proofs.Registering.{given_bad, given_unresolved, given_empt
 use borrow.Author.Rules.{rules}
 use Rattle.rewriting.proofs.register_resolved.Goals as goal
 
+-- the clauses, of their product
+by_clause : {A B C : Type 0} → A × B × C → record { room_after : A; out_after : B; value : C }
+by_clause w = record { room_after = w.0; out_after = w.1.0; value = w.1.1 }
+
+-- the clauses, of their product
+by_clauses_of_registration_fits_bytes_in_bounds : {A B : Type 0} → A × B → record { registration_fits : A; bytes_in_bounds : B }
+by_clauses_of_registration_fits_bytes_in_bounds w = record { registration_fits = w.0; bytes_in_bounds = w.1 }
+
 pub slice_bounds-resolve-end-2 : goal.slice_bounds-resolve-end-2
 slice_bounds-resolve-end-2 c =
     sym (length-take-le c.table_words-words.result c.args.room.now (omega (arith, c.table_words-words.ensures, c.requires.room_fits.0.wide)))
@@ -33,11 +41,10 @@ resolve-resolved-requires c =
     )
 
 pub returns-then-length-eq0 : goal.returns-then-length-eq0
-returns-then-length-eq0 c = let whole = 
-    let r = looked_up c.args.f c.args.archive.now (tables_in c.args.f c.args.room.now) c.args.context c.args.until c.args.lookup in
+returns-then-length-eq0 c = by_clause (let r = looked_up c.args.f c.args.archive.now (tables_in c.args.f c.args.room.now) c.args.context c.args.until c.args.lookup in
     one_registered c.args.f c.args.archive.now c.args.room.now c.args.out.now c.args.at c.args.context c.args.until c.args.lookup _ _ _
     (given_empty c.args.f c.args.archive.now c.args.room.now c.args.out.now c.args.at c.args.context c.args.lookup.table r c.in-Known.place
-    c.in-Known.length (rw c.table_words-words.ensures at (sym c.resolve-resolved.ensures ∙ c.in-Known.is)) c.if-length-eq0.true) in record { room_after = whole.0; out_after = whole.1.0; value = whole.1.1 }
+    c.in-Known.length (rw c.table_words-words.ensures at (sym c.resolve-resolved.ensures ∙ c.in-Known.is)) c.if-length-eq0.true))
 
 pub label_of-label-requires : goal.label_of-label-requires
 label_of-label-requires c =
@@ -57,8 +64,7 @@ give_index-index-requires c =
     )
 
 pub put_registration-requires : goal.put_registration-requires
-put_registration-requires c = let whole = 
-    let r = looked_up c.args.f c.args.archive.now (tables_in c.args.f c.args.room.now) c.args.context c.args.until c.args.lookup in
+put_registration-requires c = by_clauses_of_registration_fits_bytes_in_bounds (let r = looked_up c.args.f c.args.archive.now (tables_in c.args.f c.args.room.now) c.args.context c.args.until c.args.lookup in
     let slots = slots_in c.args.f c.args.room.now in
     let given = rw (part_from c.table_words-words.result c.args.room.now, c.table_words-words.ensures) at c.give_index-index.ensures in
     let bytes = given_bytes c.args.f c.args.archive.now slots c.args.context c.args.lookup.table r in
@@ -70,25 +76,22 @@ put_registration-requires c = let whole =
       labelled = c.label_of-label.ensures;
       given = given.0;
       is = c.text.ensures;
-    }) c.args.at (length c.args.out.now) c.requires.room_fits.1.0.1 (rw (append-nil bytes) at c.requires.lookup_in_bounds) in record { registration_fits = whole.0; bytes_in_bounds = whole.1 }
+    }) c.args.at (length c.args.out.now) c.requires.room_fits.1.0.1 (rw (append-nil bytes) at c.requires.lookup_in_bounds))
 
 pub returns-in-Bad : goal.returns-in-Bad
-returns-in-Bad c = let whole = 
-    let r = looked_up c.args.f c.args.archive.now (tables_in c.args.f c.args.room.now) c.args.context c.args.until c.args.lookup in
+returns-in-Bad c = by_clause (let r = looked_up c.args.f c.args.archive.now (tables_in c.args.f c.args.room.now) c.args.context c.args.until c.args.lookup in
     one_registered c.args.f c.args.archive.now c.args.room.now c.args.out.now c.args.at c.args.context c.args.until c.args.lookup _ _ _
     (given_bad c.args.f c.args.archive.now c.args.room.now c.args.out.now c.args.at c.args.context c.args.lookup.table r
-    (rw c.table_words-words.ensures at (sym c.resolve-resolved.ensures ∙ c.in-Bad.is))) in record { room_after = whole.0; out_after = whole.1.0; value = whole.1.1 }
+    (rw c.table_words-words.ensures at (sym c.resolve-resolved.ensures ∙ c.in-Bad.is))))
 
 pub returns-in-Unresolved : goal.returns-in-Unresolved
-returns-in-Unresolved c = let whole = 
-    let r = looked_up c.args.f c.args.archive.now (tables_in c.args.f c.args.room.now) c.args.context c.args.until c.args.lookup in
+returns-in-Unresolved c = by_clause (let r = looked_up c.args.f c.args.archive.now (tables_in c.args.f c.args.room.now) c.args.context c.args.until c.args.lookup in
     one_registered c.args.f c.args.archive.now c.args.room.now c.args.out.now c.args.at c.args.context c.args.until c.args.lookup _ _ _
     (given_unresolved c.args.f c.args.archive.now c.args.room.now c.args.out.now c.args.at c.args.context c.args.lookup.table r _
-    (rw c.table_words-words.ensures at (sym c.resolve-resolved.ensures ∙ c.in-Unresolved.is))) in record { room_after = whole.0; out_after = whole.1.0; value = whole.1.1 }
+    (rw c.table_words-words.ensures at (sym c.resolve-resolved.ensures ∙ c.in-Unresolved.is))))
 
 pub returns-else-length-eq0 : goal.returns-else-length-eq0
-returns-else-length-eq0 c = let whole = 
-    let r = looked_up c.args.f c.args.archive.now (tables_in c.args.f c.args.room.now) c.args.context c.args.until c.args.lookup in
+returns-else-length-eq0 c = by_clause (let r = looked_up c.args.f c.args.archive.now (tables_in c.args.f c.args.room.now) c.args.context c.args.until c.args.lookup in
     let given = rw (part_from c.table_words-words.result c.args.room.now, c.table_words-words.ensures) at c.give_index-index.ensures in
     one_registered c.args.f c.args.archive.now c.args.room.now c.args.out.now c.args.at c.args.context c.args.until c.args.lookup _ _ _
     (given_known c.args.f c.args.archive.now c.args.room.now c.args.out.now c.args.at c.args.context c.args.lookup.table r c.in-Known.place
@@ -101,4 +104,4 @@ returns-else-length-eq0 c = let whole =
       is = c.text.ensures;
     })
     given.1 (slots_back c.table_words-words.result c.args.room.now c.give_index-index.new.slots ∙ ap (λ (m : ℕ). take m c.args.room.now ++ c.give_index-index.new.slots) c.table_words-words.ensures)
-    c.put_registration.ensures.out_after c.put_registration.ensures.value) in record { room_after = whole.0; out_after = whole.1.0; value = whole.1.1 }
+    c.put_registration.ensures.out_after c.put_registration.ensures.value))

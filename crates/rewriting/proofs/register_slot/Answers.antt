@@ -15,6 +15,14 @@ use Rattle.rewriting.proofs.Spelling.{slots_wide}
 use borrow.Author.Rules.{rules}
 use Rattle.rewriting.proofs.register_slot.Goals as goal
 
+-- the clauses, of their product
+by_clause : {A B : Type 0} → A × B → record { registration_fits : A; bytes_in_bounds : B }
+by_clause w = record { registration_fits = w.0; bytes_in_bounds = w.1 }
+
+-- the clauses, of their product
+by_clauses_of_room_after_out_after_value : {A B C : Type 0} → A × B × C → record { room_after : A; out_after : B; value : C }
+by_clauses_of_room_after_out_after_value w = record { room_after = w.0; out_after = w.1.0; value = w.1.1 }
+
 pub give_index_at-index-requires : goal.give_index_at-index-requires
 give_index_at-index-requires c =
     let label : c.label_in-label.result ≡ label_at (table_words c.args.f) (slots_in c.args.f c.args.room.now) c.args.s =
@@ -26,26 +34,24 @@ give_index_at-index-requires c =
 
 pub put_registration-requires : goal.put_registration-requires
 unfolding slot_given_bytes
-put_registration-requires c = let whole = 
-    let slots = slots_in c.args.f c.args.room.now in
+put_registration-requires c = by_clause (let slots = slots_in c.args.f c.args.room.now in
     let label : c.label_in-label.result ≡ label_at (table_words c.args.f) slots c.args.s =
     rw c.table_words-words.ensures at (c.label_in-label.ensures ∙ (slot_words c.table_words-words.result c.args.room.now c.args.s).1) in
     let index : c.give_index_at-index.result ≡ slot_index (table_words c.args.f) slots c.args.s =
     rw (part_from c.table_words-words.result c.args.room.now, c.table_words-words.ensures, label) at c.give_index_at-index.ensures.value in
     let bytes : c.text.result.now ≡ slot_bytes c.args.archive.now (table_words c.args.f) slots c.args.s =
-    c.text.ensures ∙ rw (c.IsPlace-in.ensures, label, (slot_words c.table_words-words.result c.args.room.now c.args.s).0, c.table_words-words.ensures) in
-    rw (index, bytes) (c.requires.format_fits.2.fits, c.requires.s_in_bounds) in record { registration_fits = whole.0; bytes_in_bounds = whole.1 }
+    c.text.ensures ∙ rw (c.place_in.ensures, label, (slot_words c.table_words-words.result c.args.room.now c.args.s).0, c.table_words-words.ensures) in
+    rw (index, bytes) (c.requires.format_fits.2.fits, c.requires.s_in_bounds))
 
 pub returns : goal.returns
 unfolding slot_given_bytes slot_given_slots
-returns c = let whole = 
-    let slots = slots_in c.args.f c.args.room.now in
+returns c = by_clauses_of_room_after_out_after_value (let slots = slots_in c.args.f c.args.room.now in
     let label : c.label_in-label.result ≡ label_at (table_words c.args.f) slots c.args.s =
     rw c.table_words-words.ensures at (c.label_in-label.ensures ∙ (slot_words c.table_words-words.result c.args.room.now c.args.s).1) in
     let index : c.give_index_at-index.result ≡ slot_index (table_words c.args.f) slots c.args.s =
     rw (part_from c.table_words-words.result c.args.room.now, c.table_words-words.ensures, label) at c.give_index_at-index.ensures.value in
     let bytes : c.text.result.now ≡ slot_bytes c.args.archive.now (table_words c.args.f) slots c.args.s =
-    c.text.ensures ∙ rw (c.IsPlace-in.ensures, label, (slot_words c.table_words-words.result c.args.room.now c.args.s).0, c.table_words-words.ensures) in
+    c.text.ensures ∙ rw (c.place_in.ensures, label, (slot_words c.table_words-words.result c.args.room.now c.args.s).0, c.table_words-words.ensures) in
     let changed : c.give_index_at-index.new.slots ≡ slot_given_slots c.args.f slots c.args.s =
     rw (part_from c.table_words-words.result c.args.room.now, c.table_words-words.ensures, label) at c.give_index_at-index.ensures.slots_after in
     let put = rw (index, bytes) at c.put_registration.ensures in (
@@ -53,4 +59,4 @@ returns c = let whole =
           ∙ ap (λ (m : ℕ). take m c.args.room.now ++ c.give_index_at-index.new.slots) c.table_words-words.ensures
           ∙ ap (λ x. take (table_words c.args.f) c.args.room.now ++ x) changed,
       put,
-    ) in record { room_after = whole.0; out_after = whole.1.0; value = whole.1.1 }
+    ))

@@ -6,4 +6,4 @@ use Rattle.rewriting.proofs.spell_slot.Goals as goal
 pub returns : goal.returns
 unfolding slot_spelled
 returns c =
-    rw (← c.index_at-index.ensures, ← c.IsPlace-in.ensures, ← c.label_in.ensures)
+    rw (← c.index_at-index.ensures, ← c.place_in.ensures, ← c.label_in.ensures)

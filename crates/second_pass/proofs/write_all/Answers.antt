@@ -24,6 +24,14 @@ use Rattle.second_pass.proofs.write_all.Reads as reads
 use Rattle.second_pass.proofs.write_all.Lts as lts
 use Rattle.second_pass.proofs.write_all.Goals as goal
 
+-- the clauses, of their product
+by_clause : {A B C D : Type 0} → A × B × C × D → record { out_after : A; room_after : B; slots_indexed : C; room_len_unchanged : D }
+by_clause w = record { out_after = w.0; room_after = w.1.0; slots_indexed = w.1.1.0; room_len_unchanged = w.1.1.1 }
+
+-- the clauses, of their product
+by_clauses_of_room_fits_content_fits_in_next_in_bounds : {A B C : Type 0} → A × B × C → record { room_fits : A; content_fits_in : B; next_in_bounds : C }
+by_clauses_of_room_fits_content_fits_in_next_in_bounds w = record { room_fits = w.0; content_fits_in = w.1.0; next_in_bounds = w.1.1 }
+
 pub table_words-stretch-requires : goal.table_words-stretch-requires
 table_words-stretch-requires c =
     (asked_limits c.args.f c.args.archive.now c.args.room.now c.args.out.now c.requires.asks).0
@@ -77,8 +85,7 @@ shape_of-out-then-followed-ne0 c =
     output_long c.requires.asks c.loop-s.invariant.0
 
 pub returns-then-followed-ne0 : goal.returns-then-followed-ne0
-returns-then-followed-ne0 c = let whole = 
-    absurd (c.if-followed-ne0.true (ap (λ r. r.number) c.follow-followed.ensures.value ∙ passing_goes c.requires.asks c.loop-s.invariant.0 c.loop-s-test.true c.kept_record_at-record.ensures)) in record { out_after = whole.0; room_after = whole.1.0; slots_indexed = whole.1.1.0; room_len_unchanged = whole.1.1.1 }
+returns-then-followed-ne0 c = by_clause (absurd (c.if-followed-ne0.true (ap (λ r. r.number) c.follow-followed.ensures.value ∙ passing_goes c.requires.asks c.loop-s.invariant.0 c.loop-s-test.true c.kept_record_at-record.ensures)))
 
 pub offset_bounds-room-stretch-in-loop-s : goal.offset_bounds-room-stretch-in-loop-s
 offset_bounds-room-stretch-in-loop-s c =
@@ -145,12 +152,13 @@ turn c =
     (passing_turn p.0 h.invariant.0 more read room, settled-renewed p.0 h.invariant.0 more read room)
 
 pub put_record-at-requires : goal.put_record-at-requires
-put_record-at-requires c =
-    let t = turn c in record {
-      room_fits = (t.0.can.0, t.0.can.1, t.0.can.2, t.0.remembers);
-      content_fits_in = (t.0.fits, λ none. t.1 (c.loop-s.invariant.1.settled (omega (arith, c.table_words-stretch.ensures, ltb-false c.loop-s.waiting c.table_words-stretch.result none))));
-      next_in_bounds = t.0.space;
-    }
+put_record-at-requires c = by_clauses_of_room_fits_content_fits_in_next_in_bounds (let t = turn c in (
+      (t.0.can.0, t.0.can.1, t.0.can.2, t.0.remembers),
+      (
+        (t.0.fits, λ none. t.1 (c.loop-s.invariant.1.settled (omega (arith, c.table_words-stretch.ensures, ltb-false c.loop-s.waiting c.table_words-stretch.result none)))),
+        t.0.space,
+      ),
+    ))
 
 pub offset_bounds-room-stretch-in-loop-s-2 : goal.offset_bounds-room-stretch-in-loop-s-2
 offset_bounds-room-stretch-in-loop-s-2 c =
@@ -202,5 +210,4 @@ shape_of-out c =
     output_long c.requires.asks c.loop-s.invariant.0
 
 pub returns : goal.returns
-returns c = let whole = 
-    passing_end c.loop-s.invariant.0 c.loop-s-test.false in record { out_after = whole.0; room_after = whole.1.0; slots_indexed = whole.1.1.0; room_len_unchanged = whole.1.1.1 }
+returns c = by_clause (passing_end c.loop-s.invariant.0 c.loop-s-test.false)
