@@ -352,7 +352,7 @@ def convert(crate, folder, data):
             un = re.match(r"unfolding [^\n]*\n", rest)
             unfolding = un[0] if un else ""
             rest = rest[len(unfolding) :]
-            eq = re.match(rf"{re.escape(name)}(?: (c|_))?(?: (κs|_))?((?: {IDENT})*) =[ ]?", rest)
+            eq = re.match(rf"{re.escape(name)}(?: (c|_))?(?: (κs|_))?((?: (?!=){IDENT})*) =[ ]?", rest)
             if not eq:
                 notes.append(f"{name}: equation not read")
                 answers.append(f"{comment}{body}")

@@ -11,10 +11,8 @@ by_clause : {A B : Type 0} → A × B → record { out_after : A; value : B }
 by_clause w = record { out_after = w.0; value = w.1 }
 
 pub put_word-requires : goal.put_word-requires
-put_word-requires c = let t = c.args.word in
-    let e = append-nil (word_bytes c.args.f.order t) in
-    omega (arith, rw e at c.requires, length-word_bytes c.args.f.order t)
+put_word-requires c = let e = append-nil (word_bytes c.args.f.order c.args.word) in
+    omega (arith, rw e at c.requires, length-word_bytes c.args.f.order c.args.word)
 
 pub returns : goal.returns
-returns c = let t = by_clause (c.args.word in
-    rw (append-nil (word_bytes c.args.f.order t)) (c.put_word.ensures, omega (arith, length-word_bytes c.args.f.order t)))
+returns c = by_clause (rw (append-nil (word_bytes c.args.f.order c.args.word)) (c.put_word.ensures, omega (arith, length-word_bytes c.args.f.order c.args.word)))
