@@ -3,4 +3,4 @@ use borrow.Author.Rules.{rules}
 use Rattle.records.proofs.report_read.Goals as goal
 
 pub returns : goal.returns
-returns c = rw (c.own_of_lem.ensures, c.lookup_of.ensures, c.lookup_of-2.ensures, c.lookup_of-3.ensures)
+returns c = rw (c.own_of.ensures, c.lookup_of.ensures, c.lookup_of-2.ensures, c.lookup_of-3.ensures)
