@@ -78,6 +78,8 @@ class Function:
                 i, more = nested(rest, len(pre["fields"]))
                 if i is not None:
                     rest = [pre["fields"][i], *more]
+            elif name == "requires" and pre:
+                return "(" + ", ".join(f"c.requires.{f}" for f in pre["fields"]) + ")"
             return ".".join(["c", name, *rest])
         q = self.step(p, name)
         if q is None:
@@ -95,6 +97,9 @@ class Function:
         for var, old in self.d["typed"][goal_at]:
             if plain(old) == plain(name) and rest[:1] == ["given"]:
                 return ".".join(["c", "type_inv", var, *rest[1:]])
+        clauses = self.d["clauses"][q]
+        if rest == ["ensures"] and clauses:
+            return "(" + ", ".join(f"c.{place[2][1]}.ensures.{f}" for f in clauses["fields"]) + ")"
         rest = self.fields(q, rest)
         return ".".join(["c", place[2][1], *rest])
 

@@ -62,31 +62,31 @@ pub put_short_argument-requires-in-Unknown : goal.put_short_argument-requires-in
 put_short_argument-requires-in-Unknown c = by_clause (let name = text_part c.args.index c.args.name.now in omega (arith, ap (λ (s : Scalar). length (scalar_argument c.args.f name s)) c.in-Unknown.is, ap scalar_type c.in-Unknown.is))
 
 pub returns-in-Null : goal.returns-in-Null
-returns-in-Null c = by_clauses_of_out_after_value (rw c.in-Null.is c.put_short_argument.ensures)
+returns-in-Null c = by_clauses_of_out_after_value (rw c.in-Null.is (c.put_short_argument.ensures.out_after, c.put_short_argument.ensures.value))
 
 pub returns-in-Signed32 : goal.returns-in-Signed32
-returns-in-Signed32 c = by_clauses_of_out_after_value (let half = handed_on w32 32 c.in-Signed32.n c.unsigned_half.result (record { sfits = omega arith }) c.unsigned_half.ensures.0 in rw (c.in-Signed32.is, ← half) c.put_short_argument-in-Signed32.ensures)
+returns-in-Signed32 c = by_clauses_of_out_after_value (let half = handed_on w32 32 c.in-Signed32.n c.unsigned_half.result (record { sfits = omega arith }) c.unsigned_half.ensures.0 in rw (c.in-Signed32.is, ← half) (c.put_short_argument-in-Signed32.ensures.out_after, c.put_short_argument-in-Signed32.ensures.value))
 
 pub returns-in-Unsigned32 : goal.returns-in-Unsigned32
-returns-in-Unsigned32 c = by_clauses_of_out_after_value (rw c.in-Unsigned32.is c.put_short_argument-in-Unsigned32.ensures)
+returns-in-Unsigned32 c = by_clauses_of_out_after_value (rw c.in-Unsigned32.is (c.put_short_argument-in-Unsigned32.ensures.out_after, c.put_short_argument-in-Unsigned32.ensures.value))
 
 pub returns-in-Signed64 : goal.returns-in-Signed64
-returns-in-Signed64 c = by_clauses_of_out_after_value (let half = handed_on w64 64 c.in-Signed64.n c.unsigned_word.result (record { sfits = omega arith }) c.unsigned_word.ensures in rw (c.in-Signed64.is, ← half) c.put_word_argument.ensures)
+returns-in-Signed64 c = by_clauses_of_out_after_value (let half = handed_on w64 64 c.in-Signed64.n c.unsigned_word.result (record { sfits = omega arith }) c.unsigned_word.ensures in rw (c.in-Signed64.is, ← half) (c.put_word_argument.ensures.out_after, c.put_word_argument.ensures.value))
 
 pub returns-in-Unsigned64 : goal.returns-in-Unsigned64
-returns-in-Unsigned64 c = by_clauses_of_out_after_value (rw c.in-Unsigned64.is c.put_word_argument-in-Unsigned64.ensures)
+returns-in-Unsigned64 c = by_clauses_of_out_after_value (rw c.in-Unsigned64.is (c.put_word_argument-in-Unsigned64.ensures.out_after, c.put_word_argument-in-Unsigned64.ensures.value))
 
 pub returns-in-Double : goal.returns-in-Double
-returns-in-Double c = by_clauses_of_out_after_value (rw c.in-Double.is c.put_word_argument-in-Double.ensures)
+returns-in-Double c = by_clauses_of_out_after_value (rw c.in-Double.is (c.put_word_argument-in-Double.ensures.out_after, c.put_word_argument-in-Double.ensures.value))
 
 pub returns-in-Pointer : goal.returns-in-Pointer
-returns-in-Pointer c = by_clauses_of_out_after_value (rw c.in-Pointer.is c.put_word_argument-in-Pointer.ensures)
+returns-in-Pointer c = by_clauses_of_out_after_value (rw c.in-Pointer.is (c.put_word_argument-in-Pointer.ensures.out_after, c.put_word_argument-in-Pointer.ensures.value))
 
 pub returns-in-KernelObject : goal.returns-in-KernelObject
-returns-in-KernelObject c = by_clauses_of_out_after_value (rw c.in-KernelObject.is c.put_word_argument-in-KernelObject.ensures)
+returns-in-KernelObject c = by_clauses_of_out_after_value (rw c.in-KernelObject.is (c.put_word_argument-in-KernelObject.ensures.out_after, c.put_word_argument-in-KernelObject.ensures.value))
 
 pub returns-in-Boolean : goal.returns-in-Boolean
-returns-in-Boolean c = by_clauses_of_out_after_value (rw (c.in-Boolean.is, ← c.boolean_half.ensures.0) c.put_short_argument-in-Boolean.ensures)
+returns-in-Boolean c = by_clauses_of_out_after_value (rw (c.in-Boolean.is, ← c.boolean_half.ensures.0) (c.put_short_argument-in-Boolean.ensures.out_after, c.put_short_argument-in-Boolean.ensures.value))
 
 pub returns-in-Unknown : goal.returns-in-Unknown
-returns-in-Unknown c = by_clauses_of_out_after_value (rw c.in-Unknown.is c.put_short_argument-in-Unknown.ensures)
+returns-in-Unknown c = by_clauses_of_out_after_value (rw c.in-Unknown.is (c.put_short_argument-in-Unknown.ensures.out_after, c.put_short_argument-in-Unknown.ensures.value))

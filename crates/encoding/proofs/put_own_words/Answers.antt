@@ -13,7 +13,7 @@ pub put_one_word-requires-in-Log : goal.put_one_word-requires-in-Log
 put_one_word-requires-in-Log c = rw c.in-Log.is at c.requires
 
 pub returns-in-Event : goal.returns-in-Event
-returns-in-Event c = by_clause (rw c.in-Event.is c.put_one_word.ensures)
+returns-in-Event c = by_clause (rw c.in-Event.is (c.put_one_word.ensures.out_after, c.put_one_word.ensures.value))
 
 pub returns-in-Log : goal.returns-in-Log
-returns-in-Log c = by_clause (rw c.in-Log.is c.put_one_word-in-Log.ensures)
+returns-in-Log c = by_clause (rw c.in-Log.is (c.put_one_word-in-Log.ensures.out_after, c.put_one_word-in-Log.ensures.value))

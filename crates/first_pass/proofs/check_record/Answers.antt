@@ -32,7 +32,7 @@ check_report-requires c =
 
 pub returns-in-Report : goal.returns-in-Report
 unfolding record_checked checked_slots
-returns-in-Report c = by_clause (rw (← c.requires.2, c.if-keeps.true, c.in-Report.is) c.check_report.ensures)
+returns-in-Report c = by_clause (rw (← c.requires.2, c.if-keeps.true, c.in-Report.is) (c.check_report.ensures.value, c.check_report.ensures.room_after))
 
 pub returns-in_default : goal.returns-in_default
 unfolding record_checked checked_slots

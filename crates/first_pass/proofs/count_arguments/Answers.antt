@@ -119,7 +119,7 @@ loop-left-preserved c =
     rw (part_from, c.both-good.ensures, c.inline_bytes.ensures, c.inline_bytes-in-Texts.ensures)
     (walk_turns_texts c.args.f c.args.archive.now c.args.room.now c.args.context c.args.until all end c.loop-left.room c.loop-left.left c.loop-left.rest.now c.loop-left.at c.loop-left.good
     c.loop-left.words c.args.count c.loop-left.invariant c.in-Texts.name c.in-Texts.value c.in-Texts.size c.count_texts.result c.count_texts.new.room c.loop-left-test.true read (omega
-    (arith, c.loop-left.invariant.long, c.requires.0.wide)) long c.count_texts.ensures (recalls_after c.args.f c.args.archive.now c.loop-left.room c.args.context c.args.until can c.count_texts.new.room long
+    (arith, c.loop-left.invariant.long, c.requires.0.wide)) long (c.count_texts.ensures.value, c.count_texts.ensures.room_after) (recalls_after c.args.f c.args.archive.now c.loop-left.room c.args.context c.args.until can c.count_texts.new.room long
     (text_lookup c.in-Texts.name ∷ text_lookup c.in-Texts.value ∷ []) k c.loop-left.invariant.recalls c.count_texts.ensures.room_after))
 
 pub shape_of-room : goal.shape_of-room

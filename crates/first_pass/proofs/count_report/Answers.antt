@@ -161,11 +161,11 @@ pub returns : goal.returns
 returns c = by_clause (let b = report_bounds c.args.f c.args.archive.now c.args.s.place c.args.report c.args.next c.requires.1.0 c.requires.1.1 in
     let arguments = argument_lookups (arguments_to c.args.f c.args.archive.now c.args.report c.args.next) in
     let third = counted_then c.args.f c.args.archive.now c.count_reference-second.new.room c.args.s.current c.args.s.place c.args.report.third arguments (omega (arith, c.requires.0.wide, c.room-1.given, c.room-2-1.given)) c.count_reference-third.result
-    c.count_arguments-counted.result.good c.count_reference-third.new.room c.count_arguments-counted.new.room c.count_reference-third.ensures (c.count_arguments-counted.ensures.good_value, c.count_arguments-counted.ensures.room_after) in
+    c.count_arguments-counted.result.good c.count_reference-third.new.room c.count_arguments-counted.new.room (c.count_reference-third.ensures.value, c.count_reference-third.ensures.room_after) (c.count_arguments-counted.ensures.good_value, c.count_arguments-counted.ensures.room_after) in
     let second = counted_then c.args.f c.args.archive.now c.count_reference-first.new.room c.args.s.current c.args.s.place c.args.report.second (c.args.report.third ∷ arguments) (omega (arith, c.requires.0.wide, c.room-1.given)) c.count_reference-second.result
-    (c.count_reference-third.result && c.count_arguments-counted.result.good) c.count_reference-second.new.room c.count_arguments-counted.new.room c.count_reference-second.ensures third in
+    (c.count_reference-third.result && c.count_arguments-counted.result.good) c.count_reference-second.new.room c.count_arguments-counted.new.room (c.count_reference-second.ensures.value, c.count_reference-second.ensures.room_after) third in
     let first = counted_then c.args.f c.args.archive.now c.args.room.now c.args.s.current c.args.s.place c.args.report.first (c.args.report.second ∷ c.args.report.third ∷ arguments) (omega (arith, c.requires.0.wide)) c.count_reference-first.result
-    (c.count_reference-second.result && (c.count_reference-third.result && c.count_arguments-counted.result.good)) c.count_reference-first.new.room c.count_arguments-counted.new.room c.count_reference-first.ensures second in
+    (c.count_reference-second.result && (c.count_reference-third.result && c.count_arguments-counted.result.good)) c.count_reference-first.new.room c.count_arguments-counted.new.room (c.count_reference-first.ensures.value, c.count_reference-first.ensures.room_after) second in
     let words = report-words c.args.f c.args.archive.now (tables_in c.args.f c.args.room.now) c.args.s c.args.report c.args.next c.args.s.place c.args.next
     (stream-inside c.args.f c.args.archive.now c.args.s.place c.args.report c.args.next c.requires.1.1) b.last in (
       rw (c.both-good.ensures, c.both-2.ensures, c.both.ensures) first.0,

@@ -39,4 +39,4 @@ returns-in-Unresolved c = by_clause (simp (← c.table_words-words.ensures, ← 
 
 pub returns-in-Known : goal.returns-in-Known
 returns-in-Known c = by_clause (let is = rw c.table_words-words.ensures at (sym c.resolve-resolved.ensures ∙ c.in-Known.is) in
-    rw is c.count_known.ensures)
+    rw is (c.count_known.ensures.value, c.count_known.ensures.room_after))

@@ -14,7 +14,7 @@ give_index_at-requires c =
     (c.requires.0, here_below _ _ c.requires.0 c.find-slot.ensures c.in-Here.is, c.requires.1)
 
 pub returns-in-Here : goal.returns-in-Here
-returns-in-Here c = by_clause (simp (← c.find-slot.ensures, c.in-Here.is) c.give_index_at.ensures)
+returns-in-Here c = by_clause (simp (← c.find-slot.ensures, c.in-Here.is) (c.give_index_at.ensures.value, c.give_index_at.ensures.slots_after))
 
 pub returns-in-Free : goal.returns-in-Free
 returns-in-Free c = by_clause (simp (← c.find-slot.ensures, c.in-Free.is) (refl, refl))

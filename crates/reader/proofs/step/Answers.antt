@@ -28,7 +28,7 @@ step_place-requires c =
 
 pub returns-then-belongs : goal.returns-then-belongs
 unfolding decision_of
-returns-then-belongs c = by_clause (simp (← c.small_format-f.ensures, ← c.opening_number-number.ensures, eq-eqb _ _ c.if-number-ne0.false, ← c.belongs.ensures, c.if-belongs.true) c.step_place.ensures)
+returns-then-belongs c = by_clause (simp (← c.small_format-f.ensures, ← c.opening_number-number.ensures, eq-eqb _ _ c.if-number-ne0.false, ← c.belongs.ensures, c.if-belongs.true) (c.step_place.ensures.value, c.step_place.ensures.tables_after))
 
 pub returns : goal.returns
 unfolding decision_of stopping changed

@@ -53,4 +53,4 @@ returns c = by_clause (let k : (layout_of (word_at c.args.f.order c.args.source.
       plain_decides c.args.f c.args.archive.now c.args.tables.now c.args.s c.args.source.now (c.args.s.place + length
           c.args.source.now) c.requires.5.1 k,
       ← c.content_of.ensures,
-    ) c.step_plain.ensures)
+    ) (c.step_plain.ensures.value, c.step_plain.ensures.tables_after))

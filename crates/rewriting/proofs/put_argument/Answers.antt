@@ -51,7 +51,7 @@ returns-in-Scalar c = by_clauses_of_out_after_value (let tables = tables_in c.ar
     let slots = slots_in c.args.f c.args.room.now in
     rw (scalar_argument_lem c.args.f c.args.archive.now tables slots c.args.context c.args.until c.args.argument c.spell_text-named.result
     c.text-bytes.result.now c.in-Scalar.scalar c.spell_text-named.ensures c.text-bytes.ensures c.in-Scalar.is)
-    c.put_scalar_argument.ensures)
+    (c.put_scalar_argument.ensures.out_after, c.put_scalar_argument.ensures.value))
 
 pub returns-in-Text : goal.returns-in-Text
 returns-in-Text c = by_clauses_of_out_after_value (let tables = tables_in c.args.f c.args.room.now in
@@ -59,4 +59,4 @@ returns-in-Text c = by_clauses_of_out_after_value (let tables = tables_in c.args
     rw (text_argument_lem c.args.f c.args.archive.now tables slots c.args.context c.args.until c.args.argument c.spell_text-named.result c.spell_text-held.result
     c.text-bytes.result.now c.text-content.result.now c.in-Text.inside c.spell_text-named.ensures c.text-bytes.ensures c.spell_text-held.ensures c.text-content.ensures
     c.in-Text.is)
-    c.put_text_argument.ensures)
+    (c.put_text_argument.ensures.out_after, c.put_text_argument.ensures.value))

@@ -41,23 +41,23 @@ put_initialization-requires c =
 
 pub returns-in-Magic : goal.returns-in-Magic
 unfolding plain_item magic_bytes
-returns-in-Magic c = by_clause (rw (c.in-Magic.is, magic_record c.args.f (λ key. 0)) c.put_magic.ensures)
+returns-in-Magic c = by_clause (rw (c.in-Magic.is, magic_record c.args.f (λ key. 0)) (c.put_magic.ensures.out_after, c.put_magic.ensures.value))
 
 pub returns-in-ProviderInfo : goal.returns-in-ProviderInfo
 unfolding plain_item
-returns-in-ProviderInfo c = by_clause (rw c.in-ProviderInfo.is (rw c.text.ensures at c.put_provider_info.ensures))
+returns-in-ProviderInfo c = by_clause (rw c.in-ProviderInfo.is (rw c.text.ensures at (c.put_provider_info.ensures.out_after, c.put_provider_info.ensures.value)))
 
 pub returns-in-Section : goal.returns-in-Section
 unfolding plain_item
-returns-in-Section c = by_clause (rw c.in-Section.is c.put_section.ensures)
+returns-in-Section c = by_clause (rw c.in-Section.is (c.put_section.ensures.out_after, c.put_section.ensures.value))
 
 pub returns-in-ProviderEvent : goal.returns-in-ProviderEvent
 unfolding plain_item
-returns-in-ProviderEvent c = by_clause (rw c.in-ProviderEvent.is c.put_provider_event.ensures)
+returns-in-ProviderEvent c = by_clause (rw c.in-ProviderEvent.is (c.put_provider_event.ensures.out_after, c.put_provider_event.ensures.value))
 
 pub returns-in-Initialization : goal.returns-in-Initialization
 unfolding plain_item
-returns-in-Initialization c = by_clause (rw c.in-Initialization.is c.put_initialization.ensures)
+returns-in-Initialization c = by_clause (rw c.in-Initialization.is (c.put_initialization.ensures.out_after, c.put_initialization.ensures.value))
 
 pub returns-in-Report : goal.returns-in-Report
 unfolding plain_item

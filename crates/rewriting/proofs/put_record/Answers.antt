@@ -44,10 +44,10 @@ put_report-requires c = by_clauses_of_room_fits_next_in_bounds (let room-long : 
     let fit = (c.requires.content_fits_in.0.report c.in-Report.report c.in-Report.is).1 in
     let behind =
     record_fits c.args.f c.args.archive.now c.args.room.now c.args.out.now c.args.at c.args.s c.in-Report.report c.args.next c.register_waiting-registered.new.room c.register_waiting-registered.new.out c.register_waiting-registered.result
-    (omega (arith, c.requires.room_fits.0.wide)) (rw c.in-Report.is at c.requires.next_in_bounds) c.register_waiting-registered.ensures out_long fit in
+    (omega (arith, c.requires.room_fits.0.wide)) (rw c.in-Report.is at c.requires.next_in_bounds) (c.register_waiting-registered.ensures.room_after, c.register_waiting-registered.ensures.out_after, c.register_waiting-registered.ensures.value) out_long fit in
     let remembers =
     record_remembers c.args.f c.args.archive.now c.args.room.now c.args.out.now c.args.at c.args.s c.in-Report.report c.args.next c.register_waiting-registered.new.room c.register_waiting-registered.new.out c.register_waiting-registered.result
-    (omega (arith, c.requires.room_fits.0.wide)) (rw c.in-Report.is at c.requires.next_in_bounds) c.register_waiting-registered.ensures c.requires.room_fits.0 (c.requires.content_fits_in.0.report c.in-Report.report c.in-Report.is).0 (c.requires.room_fits.3 c.in-Report.report c.in-Report.is) in (
+    (omega (arith, c.requires.room_fits.0.wide)) (rw c.in-Report.is at c.requires.next_in_bounds) (c.register_waiting-registered.ensures.room_after, c.register_waiting-registered.ensures.out_after, c.register_waiting-registered.ensures.value) c.requires.room_fits.0 (c.requires.content_fits_in.0.report c.in-Report.report c.in-Report.is).0 (c.requires.room_fits.3 c.in-Report.report c.in-Report.is) in (
       (
         record { limits = c.requires.room_fits.0.limits; short = c.requires.room_fits.0.short; wide = omega (arith, c.requires.room_fits.0.wide, room-long); low = c.requires.room_fits.0.low },
         record { inside = c.requires.room_fits.1; c.in-Report.is = c.requires.room_fits.2 ∙ ap (λ (x : Content). record { content = x; next = c.args.next }) c.in-Report.is },
@@ -67,7 +67,7 @@ put_plain-requires c =
 pub returns-in-Report : goal.returns-in-Report
 returns-in-Report c = by_clauses_of_room_after_out_after_value (rw c.in-Report.is
     (record_written c.args.f c.args.archive.now c.args.room.now c.args.out.now c.args.at c.args.s c.in-Report.report c.args.next c.register_waiting-registered.new.room
-    c.register_waiting-registered.new.out c.register_waiting-registered.result (omega (arith, c.requires.room_fits.0.wide)) (rw c.in-Report.is at c.requires.next_in_bounds) c.register_waiting-registered.ensures
+    c.register_waiting-registered.new.out c.register_waiting-registered.result (omega (arith, c.requires.room_fits.0.wide)) (rw c.in-Report.is at c.requires.next_in_bounds) (c.register_waiting-registered.ensures.room_after, c.register_waiting-registered.ensures.out_after, c.register_waiting-registered.ensures.value)
     _ _ c.put_report.ensures.out_after c.put_report.ensures.value))
 
 pub returns-in_default : goal.returns-in_default

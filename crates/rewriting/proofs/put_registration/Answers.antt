@@ -31,7 +31,7 @@ put_thread_record-requires c =
 
 pub returns-then-table-eq3 : goal.returns-then-table-eq3
 returns-then-table-eq3 c = by_clause (rw (registration_thread c.args.f c.args.table c.args.index c.args.bytes.now c.word.result c.word-then-table-eq3.result c.if-index-eq0.false c.if-table-eq3.true
-    c.word.ensures c.word-then-table-eq3.ensures) c.put_thread_record.ensures)
+    c.word.ensures c.word-then-table-eq3.ensures) (c.put_thread_record.ensures.out_after, c.put_thread_record.ensures.value))
 
 pub put_string_record-requires : goal.put_string_record-requires
 put_string_record-requires c =
@@ -44,4 +44,4 @@ put_string_record-requires c =
     )
 
 pub returns : goal.returns
-returns c = by_clause (rw (registration_text c.args.f c.args.table c.args.index c.args.bytes.now c.if-index-eq0.false c.if-table-eq3.false) c.put_string_record.ensures)
+returns c = by_clause (rw (registration_text c.args.f c.args.table c.args.index c.args.bytes.now c.if-index-eq0.false c.if-table-eq3.false) (c.put_string_record.ensures.out_after, c.put_string_record.ensures.value))

@@ -11,4 +11,4 @@ put_referent-requires c =
     rw c.text-bytes.ensures c.requires
 
 pub returns : goal.returns
-returns c = by_clause (rw (← c.text-bytes.ensures) c.put_referent.ensures)
+returns c = by_clause (rw (← c.text-bytes.ensures) (c.put_referent.ensures.out_after, c.put_referent.ensures.value))
