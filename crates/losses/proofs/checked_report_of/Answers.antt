@@ -106,5 +106,5 @@ returns-in-End c =
     c.in-Fields.third c.in-Fields.stream c.in-Fields.next c.in-End.at c.in-End.keeps
     c.requires.0 (sym (c.layout_of-layout.ensures ∙ ap layout_of c.word.ensures)) (sym c.take_fields-fields.ensures ∙ c.in-Fields.is) (simp part_from at (sym
     c.check_arguments-end.ensures ∙ c.in-End.is)) in
-    rw (c.both.ensures, c.report_with.ensures, c.Fields-keep.ensures, c.last_word-last.ensures)
+    rw (c.both.ensures, c.report_with.ensures, c.fields_keep-kept.ensures, c.last_word-last.ensures)
     (sym is.0, sym is.1)
