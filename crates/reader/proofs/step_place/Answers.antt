@@ -50,4 +50,5 @@ pub returns-in-Bytes : goal.returns-in-Bytes
 unfolding place_decision
 returns-in-Bytes c = by_clause (let e = simp part_from at (sym c.extent_of-extent.ensures ∙ c.in-Bytes.is) in
     let h = source_here c.args.f c.args.archive.now c.args.s.place c.in-Bytes.size e in
-    simp (ne_eqb _ _ c.if-place-archive.false, h.is) (simp (part_from, h.long) at (c.step_record.ensures.value, c.step_record.ensures.tables_after)))
+    simp (ne_eqb _ _ c.if-place-archive.false, h.is) 
+    (simp (part_from, h.long) at c.step_record.ensures.value, simp (part_from, h.long) at c.step_record.ensures.tables_after))
