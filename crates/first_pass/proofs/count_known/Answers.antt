@@ -16,6 +16,10 @@ use Rattle.first_pass.proofs.Memory.{slot_none, slot_some}
 use borrow.Author.Rules.{rules}
 use Rattle.first_pass.proofs.count_known.Goals as goal
 
+-- two facts as one
+both : {A B : Type 0} → A → B → A × B
+both a b = (a, b)
+
 -- the clauses, of their product
 by_clause : {A B : Type 0} → A × B → record { value : A; room_after : B }
 by_clause w = record { value = w.0; room_after = w.1 }
@@ -39,7 +43,7 @@ add_use-slot-requires c =
 
 pub returns-then-slot-eq0 : goal.returns-then-slot-eq0
 unfolding count_good count_slots
-returns-then-slot-eq0 c = by_clause (let used = rw (part_from c.table_words-words.result c.args.room.now) at (c.add_use-slot.ensures.value, c.add_use-slot.ensures.slots_after) in
+returns-then-slot-eq0 c = by_clause (let used = rw (part_from c.table_words-words.result c.args.room.now) at both c.add_use-slot.ensures.value c.add_use-slot.ensures.slots_after in
     let twice = lent_twice c.table_words-words.result c.args.room.now c.add_use-slot.new.slots c.note.new.slots (omega (arith, c.table_words-words.ensures, c.requires.0.wide)) in
     let slot = find_of c.args.archive.now c.table_words-words.result (drop c.table_words-words.result c.args.room.now) (key_of c.args.archive.now c.args.place c.label_of-label.result) in
     let noted = rw (part_from, twice.0) at c.note.ensures in
@@ -50,7 +54,7 @@ returns-then-slot-eq0 c = by_clause (let used = rw (part_from c.table_words-word
 
 pub returns : goal.returns
 unfolding count_good count_slots
-returns c = by_clause (let used = rw (part_from c.table_words-words.result c.args.room.now) at (c.add_use-slot.ensures.value, c.add_use-slot.ensures.slots_after) in
+returns c = by_clause (let used = rw (part_from c.table_words-words.result c.args.room.now) at both c.add_use-slot.ensures.value c.add_use-slot.ensures.slots_after in
     let twice = lent_twice c.table_words-words.result c.args.room.now c.add_use-slot.new.slots c.note.new.slots (omega (arith, c.table_words-words.ensures, c.requires.0.wide)) in
     let slot = find_of c.args.archive.now c.table_words-words.result (drop c.table_words-words.result c.args.room.now) (key_of c.args.archive.now c.args.place c.label_of-label.result) in
     let noted = rw (part_from, twice.0) at c.note.ensures in
