@@ -6,7 +6,7 @@ use borrow.Author.Rules.{rules}
 use Rattle.exports.proofs.inthuchot_open.Goals as goal
 
 -- the clauses, of their product
-by_clause : {A B C : Type 0} → A × B × C → record { value : A; out_after : B; tables_after : C }
+by_clause : {A B C : Type 0} → A × (B × C) → record { value : A; out_after : B; tables_after : C }
 by_clause w = record { value = w.0; out_after = w.1.0; tables_after = w.1.1 }
 
 pub returns : goal.returns

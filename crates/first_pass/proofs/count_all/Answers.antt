@@ -13,7 +13,7 @@ use borrow.Author.Rules.{rules}
 use Rattle.first_pass.proofs.count_all.Goals as goal
 
 -- the clauses, of their product
-by_clause : {A B C D : Type 0} → A × B × C × D → record { count_is : A; room_after : B; slots_left : C; room_len_unchanged : D }
+by_clause : {A B C D : Type 0} → A × (B × (C × D)) → record { count_is : A; room_after : B; slots_left : C; room_len_unchanged : D }
 by_clause w = record { count_is = w.0; room_after = w.1.0; slots_left = w.1.1.0; room_len_unchanged = w.1.1.1 }
 
 pub loop-s-init : goal.loop-s-init

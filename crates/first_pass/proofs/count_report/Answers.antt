@@ -16,7 +16,7 @@ use borrow.Author.Rules.{rules}
 use Rattle.first_pass.proofs.count_report.Goals as goal
 
 -- the clauses, of their product
-by_clause : {A B C : Type 0} → A × B × C → record { good_value : A; words_value : B; room_after : C }
+by_clause : {A B C : Type 0} → A × (B × C) → record { good_value : A; words_value : B; room_after : C }
 by_clause w = record { good_value = w.0; words_value = w.1.0; room_after = w.1.1 }
 
 pub count_reference-first-requires : goal.count_reference-first-requires

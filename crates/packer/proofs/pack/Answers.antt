@@ -12,7 +12,7 @@ by_clause : {A B : Type 0} → A × B → record { f_value : A; f_in_bounds : B 
 by_clause w = record { f_value = w.0; f_in_bounds = w.1 }
 
 -- the clauses, of their product
-by_clauses_of_value_output_after_room_len_unchanged : {A B C : Type 0} → A × B × C → record { value : A; output_after : B; room_len_unchanged : C }
+by_clauses_of_value_output_after_room_len_unchanged : {A B C : Type 0} → A × (B × C) → record { value : A; output_after : B; room_len_unchanged : C }
 by_clauses_of_value_output_after_room_len_unchanged w = record { value = w.0; output_after = w.1.0; room_len_unchanged = w.1.1 }
 
 pub table_words-stretch-requires : goal.table_words-stretch-requires

@@ -9,7 +9,7 @@ use borrow.Author.Rules.{rules}
 use Rattle.packer.proofs.repack.Goals as goal
 
 -- the clauses, of their product
-by_clause : {A B C D : Type 0} → A × B × C × D → record { value : A; room_after : B; output_after : C; shortest : D }
+by_clause : {A B C D : Type 0} → A × (B × (C × D)) → record { value : A; room_after : B; output_after : C; shortest : D }
 by_clause w = record { value = w.0; room_after = w.1.0; output_after = w.1.1.0; shortest = w.1.1.1 }
 
 pub packing_number-number-requires : goal.packing_number-number-requires

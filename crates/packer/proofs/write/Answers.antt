@@ -9,7 +9,7 @@ use borrow.Author.Rules.{rules}
 use Rattle.packer.proofs.write.Goals as goal
 
 -- the clauses, of their product
-by_clause : {A B C : Type 0} → A × B × C → record { value : A; output_after : B; room_len_unchanged : C }
+by_clause : {A B C : Type 0} → A × (B × C) → record { value : A; output_after : B; room_len_unchanged : C }
 by_clause w = record { value = w.0; output_after = w.1.0; room_len_unchanged = w.1.1 }
 
 -- the clauses, of their product

@@ -16,7 +16,7 @@ use borrow.Author.Rules.{rules}
 use Rattle.rewriting.proofs.put_record.Goals as goal
 
 -- the clauses, of their product
-by_clause : {A B C D : Type 0} → A × B × C × D → record { room_fits : A; lookups_fit_in : B; next_in_bounds : C; settled : D }
+by_clause : {A B C D : Type 0} → A × (B × (C × D)) → record { room_fits : A; lookups_fit_in : B; next_in_bounds : C; settled : D }
 by_clause w = record { room_fits = w.0; lookups_fit_in = w.1.0; next_in_bounds = w.1.1.0; settled = w.1.1.1 }
 
 -- the clauses, of their product
@@ -24,7 +24,7 @@ by_clauses_of_room_fits_next_in_bounds : {A B : Type 0} → A × B → record { 
 by_clauses_of_room_fits_next_in_bounds w = record { room_fits = w.0; next_in_bounds = w.1 }
 
 -- the clauses, of their product
-by_clauses_of_room_after_out_after_value : {A B C : Type 0} → A × B × C → record { room_after : A; out_after : B; value : C }
+by_clauses_of_room_after_out_after_value : {A B C : Type 0} → A × (B × C) → record { room_after : A; out_after : B; value : C }
 by_clauses_of_room_after_out_after_value w = record { room_after = w.0; out_after = w.1.0; value = w.1.1 }
 
 pub register_waiting-registered-requires : goal.register_waiting-registered-requires
@@ -34,7 +34,7 @@ register_waiting-registered-requires c = by_clause (let tables = tables_in c.arg
     let behind = report_given_slots c.args.f c.args.archive.now tables slots c.args.s c.in-Report.report c.args.next in
     let body = report_bytes c.args.f c.args.archive.now tables behind c.args.s c.in-Report.report c.args.next in
     let space : c.args.at + length (given ++ body) ≤ length c.args.out.now = rw c.in-Report.is at c.requires.next_in_bounds in (
-      (c.requires.room_fits.0, record { inside = c.requires.room_fits.1; c.in-Report.is = c.requires.room_fits.2 ∙ ap (λ (x : Content). record { content = x; next = c.args.next }) c.in-Report.is }, c.requires.room_fits.3 c.in-Report.report c.in-Report.is),
+      (c.requires.room_fits.0, record { inside = c.requires.room_fits.1; is = c.requires.room_fits.2 ∙ ap (λ (x : Content). record { content = x; next = c.args.next }) c.in-Report.is }, c.requires.room_fits.3 c.in-Report.report c.in-Report.is),
       ((c.requires.content_fits_in.0.report c.in-Report.report c.in-Report.is).0, (omega (arith, space, length-append given body), c.requires.content_fits_in.1)),
     ))
 
@@ -44,13 +44,13 @@ put_report-requires c = by_clauses_of_room_fits_next_in_bounds (let room-long : 
     let fit = (c.requires.content_fits_in.0.report c.in-Report.report c.in-Report.is).1 in
     let behind =
     record_fits c.args.f c.args.archive.now c.args.room.now c.args.out.now c.args.at c.args.s c.in-Report.report c.args.next c.register_waiting-registered.new.room c.register_waiting-registered.new.out c.register_waiting-registered.result
-    (omega (arith, c.requires.room_fits.0.wide)) (rw c.in-Report.is at c.requires.next_in_bounds) (c.register_waiting-registered.ensures.room_after, c.register_waiting-registered.ensures.out_after, c.register_waiting-registered.ensures.value) out_long fit in
+    (omega (arith, c.requires.room_fits.0.wide)) (rw c.in-Report.is at c.requires.next_in_bounds) (c.register_waiting-registered.ensures.room_after, (c.register_waiting-registered.ensures.out_after, c.register_waiting-registered.ensures.value)) out_long fit in
     let remembers =
     record_remembers c.args.f c.args.archive.now c.args.room.now c.args.out.now c.args.at c.args.s c.in-Report.report c.args.next c.register_waiting-registered.new.room c.register_waiting-registered.new.out c.register_waiting-registered.result
-    (omega (arith, c.requires.room_fits.0.wide)) (rw c.in-Report.is at c.requires.next_in_bounds) (c.register_waiting-registered.ensures.room_after, c.register_waiting-registered.ensures.out_after, c.register_waiting-registered.ensures.value) c.requires.room_fits.0 (c.requires.content_fits_in.0.report c.in-Report.report c.in-Report.is).0 (c.requires.room_fits.3 c.in-Report.report c.in-Report.is) in (
+    (omega (arith, c.requires.room_fits.0.wide)) (rw c.in-Report.is at c.requires.next_in_bounds) (c.register_waiting-registered.ensures.room_after, (c.register_waiting-registered.ensures.out_after, c.register_waiting-registered.ensures.value)) c.requires.room_fits.0 (c.requires.content_fits_in.0.report c.in-Report.report c.in-Report.is).0 (c.requires.room_fits.3 c.in-Report.report c.in-Report.is) in (
       (
         record { limits = c.requires.room_fits.0.limits; short = c.requires.room_fits.0.short; wide = omega (arith, c.requires.room_fits.0.wide, room-long); low = c.requires.room_fits.0.low },
-        record { inside = c.requires.room_fits.1; c.in-Report.is = c.requires.room_fits.2 ∙ ap (λ (x : Content). record { content = x; next = c.args.next }) c.in-Report.is },
+        record { inside = c.requires.room_fits.1; is = c.requires.room_fits.2 ∙ ap (λ (x : Content). record { content = x; next = c.args.next }) c.in-Report.is },
         behind.0,
         remembers,
       ),
@@ -67,7 +67,7 @@ put_plain-requires c =
 pub returns-in-Report : goal.returns-in-Report
 returns-in-Report c = by_clauses_of_room_after_out_after_value (rw c.in-Report.is
     (record_written c.args.f c.args.archive.now c.args.room.now c.args.out.now c.args.at c.args.s c.in-Report.report c.args.next c.register_waiting-registered.new.room
-    c.register_waiting-registered.new.out c.register_waiting-registered.result (omega (arith, c.requires.room_fits.0.wide)) (rw c.in-Report.is at c.requires.next_in_bounds) (c.register_waiting-registered.ensures.room_after, c.register_waiting-registered.ensures.out_after, c.register_waiting-registered.ensures.value)
+    c.register_waiting-registered.new.out c.register_waiting-registered.result (omega (arith, c.requires.room_fits.0.wide)) (rw c.in-Report.is at c.requires.next_in_bounds) (c.register_waiting-registered.ensures.room_after, (c.register_waiting-registered.ensures.out_after, c.register_waiting-registered.ensures.value))
     _ _ c.put_report.ensures.out_after c.put_report.ensures.value))
 
 pub returns-in_default : goal.returns-in_default

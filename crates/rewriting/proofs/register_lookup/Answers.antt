@@ -16,7 +16,7 @@ by_clause : {A B : Type 0} → A × B → record { format_fits : A; s_in_bounds 
 by_clause w = record { format_fits = w.0; s_in_bounds = w.1 }
 
 -- the clauses, of their product
-by_clauses_of_room_after_out_after_value : {A B C : Type 0} → A × B × C → record { room_after : A; out_after : B; value : C }
+by_clauses_of_room_after_out_after_value : {A B C : Type 0} → A × (B × C) → record { room_after : A; out_after : B; value : C }
 by_clauses_of_room_after_out_after_value w = record { room_after = w.0; out_after = w.1.0; value = w.1.1 }
 
 pub register_slot-requires : goal.register_slot-requires

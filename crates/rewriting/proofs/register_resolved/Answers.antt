@@ -18,12 +18,8 @@ use Rattle.rewriting.proofs.Registering.{given_bad, given_unresolved, given_empt
 use borrow.Author.Rules.{rules}
 use Rattle.rewriting.proofs.register_resolved.Goals as goal
 
--- two facts as one
-both : {A B : Type 0} → A → B → A × B
-both a b = (a, b)
-
 -- the clauses, of their product
-by_clause : {A B C : Type 0} → A × B × C → record { room_after : A; out_after : B; value : C }
+by_clause : {A B C : Type 0} → A × (B × C) → record { room_after : A; out_after : B; value : C }
 by_clause w = record { room_after = w.0; out_after = w.1.0; value = w.1.1 }
 
 -- the clauses, of their product
@@ -70,7 +66,8 @@ give_index-index-requires c =
 pub put_registration-requires : goal.put_registration-requires
 put_registration-requires c = by_clauses_of_registration_fits_bytes_in_bounds (let r = looked_up c.args.f c.args.archive.now (tables_in c.args.f c.args.room.now) c.args.context c.args.until c.args.lookup in
     let slots = slots_in c.args.f c.args.room.now in
-    let given = rw (part_from c.table_words-words.result c.args.room.now, c.table_words-words.ensures) at both c.give_index-index.ensures.value c.give_index-index.ensures.slots_after in
+    let index_is = rw (part_from c.table_words-words.result c.args.room.now, c.table_words-words.ensures) at c.give_index-index.ensures.value in
+    let slots_are = rw (part_from c.table_words-words.result c.args.room.now, c.table_words-words.ensures) at c.give_index-index.ensures.slots_after in
     let bytes = given_bytes c.args.f c.args.archive.now slots c.args.context c.args.lookup.table r in
     registration_fits c.args.f c.args.archive.now slots c.args.context c.args.lookup.table r c.in-Known.place c.in-Known.length
     c.label_of-label.result c.give_index-index.result c.text.result.now
@@ -78,7 +75,7 @@ put_registration-requires c = by_clauses_of_registration_fits_bytes_in_bounds (l
       known = rw c.table_words-words.ensures at (sym c.resolve-resolved.ensures ∙ c.in-Known.is);
       some = c.if-length-eq0.false;
       labelled = c.label_of-label.ensures;
-      given = given.0;
+      given = index_is;
       is = c.text.ensures;
     }) c.args.at (length c.args.out.now) c.requires.room_fits.1.0.1 (rw (append-nil bytes) at c.requires.lookup_in_bounds))
 
@@ -96,7 +93,8 @@ returns-in-Unresolved c = by_clause (let r = looked_up c.args.f c.args.archive.n
 
 pub returns-else-length-eq0 : goal.returns-else-length-eq0
 returns-else-length-eq0 c = by_clause (let r = looked_up c.args.f c.args.archive.now (tables_in c.args.f c.args.room.now) c.args.context c.args.until c.args.lookup in
-    let given = rw (part_from c.table_words-words.result c.args.room.now, c.table_words-words.ensures) at both c.give_index-index.ensures.value c.give_index-index.ensures.slots_after in
+    let index_is = rw (part_from c.table_words-words.result c.args.room.now, c.table_words-words.ensures) at c.give_index-index.ensures.value in
+    let slots_are = rw (part_from c.table_words-words.result c.args.room.now, c.table_words-words.ensures) at c.give_index-index.ensures.slots_after in
     one_registered c.args.f c.args.archive.now c.args.room.now c.args.out.now c.args.at c.args.context c.args.until c.args.lookup _ _ _
     (given_known c.args.f c.args.archive.now c.args.room.now c.args.out.now c.args.at c.args.context c.args.lookup.table r c.in-Known.place
     c.in-Known.length c.label_of-label.result c.give_index-index.result c.text.result.now c.give_index-index.new.slots _ _ _
@@ -104,8 +102,8 @@ returns-else-length-eq0 c = by_clause (let r = looked_up c.args.f c.args.archive
       known = rw c.table_words-words.ensures at (sym c.resolve-resolved.ensures ∙ c.in-Known.is);
       some = c.if-length-eq0.false;
       labelled = c.label_of-label.ensures;
-      given = given.0;
+      given = index_is;
       is = c.text.ensures;
     })
-    given.1 (slots_back c.table_words-words.result c.args.room.now c.give_index-index.new.slots ∙ ap (λ (m : ℕ). take m c.args.room.now ++ c.give_index-index.new.slots) c.table_words-words.ensures)
+    slots_are (slots_back c.table_words-words.result c.args.room.now c.give_index-index.new.slots ∙ ap (λ (m : ℕ). take m c.args.room.now ++ c.give_index-index.new.slots) c.table_words-words.ensures)
     c.put_registration.ensures.out_after c.put_registration.ensures.value))

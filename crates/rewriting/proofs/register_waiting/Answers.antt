@@ -5,7 +5,7 @@ use borrow.Author.Rules.{rules}
 use Rattle.rewriting.proofs.register_waiting.Goals as goal
 
 -- the clauses, of their product
-by_clause : {A B C : Type 0} → A × B × C → record { room_after : A; out_after : B; value : C }
+by_clause : {A B C : Type 0} → A × (B × C) → record { room_after : A; out_after : B; value : C }
 by_clause w = record { room_after = w.0; out_after = w.1.0; value = w.1.1 }
 
 pub returns : goal.returns

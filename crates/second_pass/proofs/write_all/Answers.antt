@@ -25,11 +25,11 @@ use Rattle.second_pass.proofs.write_all.Lts as lts
 use Rattle.second_pass.proofs.write_all.Goals as goal
 
 -- the clauses, of their product
-by_clause : {A B C D : Type 0} → A × B × C × D → record { out_after : A; room_after : B; slots_indexed : C; room_len_unchanged : D }
+by_clause : {A B C D : Type 0} → A × (B × (C × D)) → record { out_after : A; room_after : B; slots_indexed : C; room_len_unchanged : D }
 by_clause w = record { out_after = w.0; room_after = w.1.0; slots_indexed = w.1.1.0; room_len_unchanged = w.1.1.1 }
 
 -- the clauses, of their product
-by_clauses_of_room_fits_content_fits_in_next_in_bounds : {A B C : Type 0} → A × B × C → record { room_fits : A; content_fits_in : B; next_in_bounds : C }
+by_clauses_of_room_fits_content_fits_in_next_in_bounds : {A B C : Type 0} → A × (B × C) → record { room_fits : A; content_fits_in : B; next_in_bounds : C }
 by_clauses_of_room_fits_content_fits_in_next_in_bounds w = record { room_fits = w.0; content_fits_in = w.1.0; next_in_bounds = w.1.1 }
 
 pub table_words-stretch-requires : goal.table_words-stretch-requires
