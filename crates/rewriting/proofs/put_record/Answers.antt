@@ -13,6 +13,7 @@ use Rattle.records.proofs.Lookups.{other_arm}
 use Rattle.rewriting.specs.Models.Write.{tables_in, slots_in, content_in, content_slots, plain_bytes, report_bytes, report_given_bytes, report_given_slots}
 use Rattle.rewriting.proofs.Registering.{record_fits, record_remembers, record_written}
 use borrow.Author.Rules.{rules}
+use borrow.Enum.Refused.{opened}
 use Rattle.rewriting.proofs.put_record.Goals as goal
 
 -- the clauses, of their product
@@ -61,7 +62,7 @@ pub put_plain-requires : goal.put_plain-requires
 put_plain-requires c =
     let bytes = plain_bytes c.args.f (plain_item c.args.archive.now c.args.content) in
     let bytes_are : content_in c.args.f c.args.archive.now c.args.room.now c.args.s c.args.content c.args.next ≡ bytes =
-    other_arm c.args.content bytes _ c.in_default.keys2 in
+    other_arm c.args.content bytes _ (opened c.in_default.in_default-own.keys2) in
     (c.requires.content_fits_in.0.plain, subst (λ (x : List ℕ). c.args.at + length x ≤ length c.args.out.now) bytes_are c.requires.next_in_bounds)
 
 pub returns-in-Report : goal.returns-in-Report
@@ -74,8 +75,8 @@ pub returns-in_default : goal.returns-in_default
 returns-in_default c = by_clauses_of_room_after_out_after_value (let tables = tables_in c.args.f c.args.room.now in
     let slots = slots_in c.args.f c.args.room.now in
     let bytes = plain_bytes c.args.f (plain_item c.args.archive.now c.args.content) in
-    let bytes_are : content_in c.args.f c.args.archive.now c.args.room.now c.args.s c.args.content c.args.next ≡ bytes = other_arm c.args.content bytes _ c.in_default.keys2 in
-    let slots_are : content_slots c.args.f c.args.archive.now tables slots c.args.s c.args.content c.args.next ≡ slots = other_arm c.args.content slots _ c.in_default.keys2 in (
+    let bytes_are : content_in c.args.f c.args.archive.now c.args.room.now c.args.s c.args.content c.args.next ≡ bytes = other_arm c.args.content bytes _ (opened c.in_default.in_default-own.keys2) in
+    let slots_are : content_slots c.args.f c.args.archive.now tables slots c.args.s c.args.content c.args.next ≡ slots = other_arm c.args.content slots _ (opened c.in_default.in_default-own.keys2) in (
       sym (take-append-drop (table_words c.args.f) c.args.room.now) ∙ ap (λ (x : List ℕ). tables ++ x) (sym slots_are),
       (
         c.put_plain.ensures.out_after ∙ ap (λ (x : List ℕ). overwritten c.args.out.now c.args.at x) (sym bytes_are),
