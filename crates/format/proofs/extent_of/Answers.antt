@@ -19,8 +19,10 @@ overflow_mul-size c = omega (arith, c.record_words-size.ensures, words_lt c.word
 
 pub returns-then-rest-size : goal.returns-then-rest-size
 unfolding extent_of
-returns-then-rest-size c = simp (lt-ltb _ _ c.if-rest-size.true, ne_eqb _ _ c.if-size-eq0.false, ← c.record_words-size.ensures, ← c.word.ensures, le-ltb _ _ c.if-rest-lt8.false)
+returns-then-rest-size c = simp (lt-ltb _ _ c.if-rest-size.true, ne_eqb _ _ c.if-size-eq0.false, ← c.record_words-size.ensures,
+    ← c.word.ensures, le-ltb _ _ c.if-rest-lt8.false)
 
 pub returns : goal.returns
 unfolding extent_of
-returns c = simp (le-ltb _ _ c.if-rest-size.false, ne_eqb _ _ c.if-size-eq0.false, ← c.record_words-size.ensures, ← c.word.ensures, le-ltb _ _ c.if-rest-lt8.false)
+returns c = simp (le-ltb _ _ c.if-rest-size.false, ne_eqb _ _ c.if-size-eq0.false, ← c.record_words-size.ensures, ← c.word.ensures,
+    le-ltb _ _ c.if-rest-lt8.false)

@@ -19,15 +19,18 @@ overflow_sub-from c =
 
 pub overflow_mul-to : goal.overflow_mul-to
 overflow_mul-to c =
-    let i = subst (Inside c.args.start (c.args.start + length c.args.source.now)) c.in-Inline.is c.requires.1 in omega (arith, i.0, i.1, c.stream_words.ensures)
+    let i = subst (Inside c.args.start (c.args.start + length c.args.source.now)) c.in-Inline.is c.requires.1 in omega (arith, i.0, i.1,
+      c.stream_words.ensures)
 
 pub overflow_add-to : goal.overflow_add-to
 overflow_add-to c =
-    let i = subst (Inside c.args.start (c.args.start + length c.args.source.now)) c.in-Inline.is c.requires.1 in omega (arith, i.0, i.1, c.stream_words.ensures)
+    let i = subst (Inside c.args.start (c.args.start + length c.args.source.now)) c.in-Inline.is c.requires.1 in omega (arith, i.0, i.1,
+      c.stream_words.ensures)
 
 pub slice_bounds-all_zero-end : goal.slice_bounds-all_zero-end
 slice_bounds-all_zero-end c =
-    let i = subst (Inside c.args.start (c.args.start + length c.args.source.now)) c.in-Inline.is c.requires.1 in omega (arith, i.0, i.1, c.stream_words.ensures)
+    let i = subst (Inside c.args.start (c.args.start + length c.args.source.now)) c.in-Inline.is c.requires.1 in omega (arith, i.0, i.1,
+      c.stream_words.ensures)
 
 pub returns-in-Index : goal.returns-in-Index
 unfolding padding_zero

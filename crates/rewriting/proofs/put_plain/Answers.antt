@@ -45,7 +45,8 @@ returns-in-Magic c = by_clause (rw (c.in-Magic.is, magic_record c.args.f (λ key
 
 pub returns-in-ProviderInfo : goal.returns-in-ProviderInfo
 unfolding plain_item
-returns-in-ProviderInfo c = by_clause (rw c.in-ProviderInfo.is (rw c.text.ensures at c.put_provider_info.ensures.out_after, rw c.text.ensures at c.put_provider_info.ensures.value))
+returns-in-ProviderInfo c = by_clause (rw c.in-ProviderInfo.is (rw c.text.ensures at c.put_provider_info.ensures.out_after,
+    rw c.text.ensures at c.put_provider_info.ensures.value))
 
 pub returns-in-Section : goal.returns-in-Section
 unfolding plain_item

@@ -40,7 +40,8 @@ put_registration-requires c = by_clause (let slots = slots_in c.args.f c.args.ro
     let index : c.give_index_at-index.result ≡ slot_index (table_words c.args.f) slots c.args.s =
     rw (part_from c.table_words-words.result c.args.room.now, c.table_words-words.ensures, label) at c.give_index_at-index.ensures.value in
     let bytes : c.text.result.now ≡ slot_bytes c.args.archive.now (table_words c.args.f) slots c.args.s =
-    c.text.ensures ∙ rw (c.place_in.ensures, label, (slot_words c.table_words-words.result c.args.room.now c.args.s).0, c.table_words-words.ensures) in
+    c.text.ensures ∙ rw (c.place_in.ensures, label, (slot_words c.table_words-words.result c.args.room.now c.args.s).0,
+      c.table_words-words.ensures) in
     rw (index, bytes) (c.requires.format_fits.2.fits, c.requires.s_in_bounds))
 
 pub returns : goal.returns
@@ -51,7 +52,8 @@ returns c = by_clauses_of_room_after_out_after_value (let slots = slots_in c.arg
     let index : c.give_index_at-index.result ≡ slot_index (table_words c.args.f) slots c.args.s =
     rw (part_from c.table_words-words.result c.args.room.now, c.table_words-words.ensures, label) at c.give_index_at-index.ensures.value in
     let bytes : c.text.result.now ≡ slot_bytes c.args.archive.now (table_words c.args.f) slots c.args.s =
-    c.text.ensures ∙ rw (c.place_in.ensures, label, (slot_words c.table_words-words.result c.args.room.now c.args.s).0, c.table_words-words.ensures) in
+    c.text.ensures ∙ rw (c.place_in.ensures, label, (slot_words c.table_words-words.result c.args.room.now c.args.s).0,
+      c.table_words-words.ensures) in
     let changed : c.give_index_at-index.new.slots ≡ slot_given_slots c.args.f slots c.args.s =
     rw (part_from c.table_words-words.result c.args.room.now, c.table_words-words.ensures, label) at c.give_index_at-index.ensures.slots_after in
     (

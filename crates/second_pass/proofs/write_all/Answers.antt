@@ -20,7 +20,8 @@ by_clause : {A B C D : Type 0} → A × (B × (C × D)) → record { out_after :
 by_clause w = record { out_after = w.0; room_after = w.1.0; slots_indexed = w.1.1.0; room_len_unchanged = w.1.1.1 }
 
 -- the clauses, of their product
-by_clauses_of_room_fits_content_fits_in_next_in_bounds : {A B C : Type 0} → A × (B × C) → record { room_fits : A; content_fits_in : B; next_in_bounds : C }
+by_clauses_of_room_fits_content_fits_in_next_in_bounds : {A B C : Type 0} → A × (B × C) → record { room_fits : A; content_fits_in : B;
+    next_in_bounds : C }
 by_clauses_of_room_fits_content_fits_in_next_in_bounds w = record { room_fits = w.0; content_fits_in = w.1.0; next_in_bounds = w.1.1 }
 
 pub table_words-stretch-requires : goal.table_words-stretch-requires
@@ -37,14 +38,17 @@ slice_bounds-waiting_slot-end c =
 
 pub waiting_slot-waiting-requires : goal.waiting_slot-waiting-requires
 waiting_slot-waiting-requires c =
-    can_wait c.args.f c.table_words-stretch.result c.args.room.now 0 (asked_limits c.args.f c.args.archive.now c.args.room.now c.args.out.now c.requires.asks).0
-    c.table_words-stretch.ensures c.requires.asks.3 (λ low. omega (arith, c.table_words-stretch.ensures)) (λ high. absurd (omega (arith, c.table_words-stretch.ensures)))
+    can_wait c.args.f c.table_words-stretch.result c.args.room.now 0 (asked_limits c.args.f c.args.archive.now c.args.room.now
+      c.args.out.now c.requires.asks).0
+    c.table_words-stretch.ensures c.requires.asks.3 (λ low. omega (arith, c.table_words-stretch.ensures)) (λ high. absurd (omega (arith,
+      c.table_words-stretch.ensures)))
 
 pub loop-s-init : goal.loop-s-init
 loop-s-init c =
     (
       rw c.opening_state-s.ensures (passing_start c.requires.asks (λ i. omega (arith, c.type_inv.archive i)) c.requires.chosen),
-      waiting_in c.args.f c.table_words-stretch.result c.args.room.now c.waiting_slot-waiting.result c.table_words-stretch.ensures c.waiting_slot-waiting.ensures,
+      waiting_in c.args.f c.table_words-stretch.result c.args.room.now c.waiting_slot-waiting.result c.table_words-stretch.ensures
+        c.waiting_slot-waiting.ensures,
     )
 
 pub kept_record_at-record-requires : goal.kept_record_at-record-requires
@@ -61,7 +65,8 @@ slice_bounds-follow-end c =
 
 pub slice_bounds-follow-end-in-loop-s : goal.slice_bounds-follow-end-in-loop-s
 slice_bounds-follow-end-in-loop-s c =
-    sym (length-take-le c.table_words-stretch.result c.loop-s.room (omega (arith, c.table_words-stretch.ensures, c.loop-s.invariant.0.long, c.requires.asks.3)))
+    sym (length-take-le c.table_words-stretch.result c.loop-s.room (omega (arith, c.table_words-stretch.ensures, c.loop-s.invariant.0.long,
+      c.requires.asks.3)))
 
 pub follow-followed-requires : goal.follow-followed-requires
 follow-followed-requires c =
@@ -69,14 +74,16 @@ follow-followed-requires c =
 
 pub shape_of-room-then-followed-ne0 : goal.shape_of-room-then-followed-ne0
 shape_of-room-then-followed-ne0 c =
-    followed-long c.requires.asks c.loop-s.invariant.0 c.loop-s-test.true c.kept_record_at-record.ensures c.table_words-stretch.ensures c.follow-followed.ensures.tables_after
+    followed-long c.requires.asks c.loop-s.invariant.0 c.loop-s-test.true c.kept_record_at-record.ensures c.table_words-stretch.ensures
+      c.follow-followed.ensures.tables_after
 
 pub shape_of-out-then-followed-ne0 : goal.shape_of-out-then-followed-ne0
 shape_of-out-then-followed-ne0 c =
     output_long c.requires.asks c.loop-s.invariant.0
 
 pub returns-then-followed-ne0 : goal.returns-then-followed-ne0
-returns-then-followed-ne0 c = by_clause (absurd (c.if-followed-ne0.true (ap (λ r. r.number) c.follow-followed.ensures.value ∙ passing_goes c.requires.asks c.loop-s.invariant.0 c.loop-s-test.true c.kept_record_at-record.ensures)))
+returns-then-followed-ne0 c = by_clause (absurd (c.if-followed-ne0.true (ap (λ r. r.number) c.follow-followed.ensures.value
+    ∙ passing_goes c.requires.asks c.loop-s.invariant.0 c.loop-s-test.true c.kept_record_at-record.ensures)))
 
 pub offset_bounds-room-stretch-in-loop-s : goal.offset_bounds-room-stretch-in-loop-s
 offset_bounds-room-stretch-in-loop-s c =
@@ -84,22 +91,26 @@ offset_bounds-room-stretch-in-loop-s c =
 
 pub slice_bounds-renew-count : goal.slice_bounds-renew-count
 slice_bounds-renew-count c =
-    let long = followed-long c.requires.asks c.loop-s.invariant.0 c.loop-s-test.true c.kept_record_at-record.ensures c.table_words-stretch.ensures c.follow-followed.ensures.tables_after in
+    let long = followed-long c.requires.asks c.loop-s.invariant.0 c.loop-s-test.true c.kept_record_at-record.ensures
+      c.table_words-stretch.ensures c.follow-followed.ensures.tables_after in
     omega (arith, long, c.table_words-stretch.ensures, c.requires.asks.3)
 
 pub slice_bounds-renew-start : goal.slice_bounds-renew-start
 slice_bounds-renew-start c =
-    let long = followed-long c.requires.asks c.loop-s.invariant.0 c.loop-s-test.true c.kept_record_at-record.ensures c.table_words-stretch.ensures c.follow-followed.ensures.tables_after in
+    let long = followed-long c.requires.asks c.loop-s.invariant.0 c.loop-s-test.true c.kept_record_at-record.ensures
+      c.table_words-stretch.ensures c.follow-followed.ensures.tables_after in
     omega (arith, long, c.table_words-stretch.ensures, c.requires.asks.3)
 
 pub slice_bounds-renew-end : goal.slice_bounds-renew-end
 slice_bounds-renew-end c =
-    let long = followed-long c.requires.asks c.loop-s.invariant.0 c.loop-s-test.true c.kept_record_at-record.ensures c.table_words-stretch.ensures c.follow-followed.ensures.tables_after in
+    let long = followed-long c.requires.asks c.loop-s.invariant.0 c.loop-s-test.true c.kept_record_at-record.ensures
+      c.table_words-stretch.ensures c.follow-followed.ensures.tables_after in
     omega (arith, long, c.table_words-stretch.ensures, c.requires.asks.3)
 
 pub renew-requires : goal.renew-requires
 renew-requires c =
-    can_renew c.requires.asks c.loop-s.invariant.0 c.loop-s-test.true c.kept_record_at-record.ensures c.table_words-stretch.ensures c.follow-followed.ensures.tables_after
+    can_renew c.requires.asks c.loop-s.invariant.0 c.loop-s-test.true c.kept_record_at-record.ensures c.table_words-stretch.ensures
+      c.follow-followed.ensures.tables_after
 
 pub put_record-at-requires : goal.put_record-at-requires
 put_record-at-requires c = by_clauses_of_room_fits_content_fits_in_next_in_bounds (
@@ -110,7 +121,8 @@ put_record-at-requires c = by_clauses_of_room_fits_content_fits_in_next_in_bound
     (
       (t.can.0, t.can.1, t.can.2, t.remembers),
       (
-        (t.fits, λ none. settled (c.loop-s.invariant.1.settled (omega (arith, c.table_words-stretch.ensures, ltb-false c.loop-s.waiting c.table_words-stretch.result none)))),
+        (t.fits, λ none. settled (c.loop-s.invariant.1.settled (omega (arith, c.table_words-stretch.ensures,
+          ltb-false c.loop-s.waiting c.table_words-stretch.result none)))),
         t.space,
       ),
     ))
@@ -127,7 +139,8 @@ slice_bounds-waiting_slot-count-in-loop-s c =
     let room = room_renewed c.requires.asks c.loop-s.invariant.0 c.loop-s-test.true c.kept_record_at-record.ensures
         c.table_words-stretch.ensures c.follow-followed.ensures.tables_after c.renew.ensures in
     let t = passing_turn c.requires.asks c.loop-s.invariant.0 c.loop-s-test.true c.kept_record_at-record.ensures room in
-        let on = t.on c.put_record-at.new.room c.put_record-at.new.out c.put_record-at.result c.put_record-at.ensures.room_after c.put_record-at.ensures.out_after c.put_record-at.ensures.value in
+        let on = t.on c.put_record-at.new.room c.put_record-at.new.out c.put_record-at.result c.put_record-at.ensures.room_after
+          c.put_record-at.ensures.out_after c.put_record-at.ensures.value in
     omega (arith, c.table_words-stretch.ensures, on.long, c.requires.asks.3)
 
 pub slice_bounds-waiting_slot-start-in-loop-s : goal.slice_bounds-waiting_slot-start-in-loop-s
@@ -135,7 +148,8 @@ slice_bounds-waiting_slot-start-in-loop-s c =
     let room = room_renewed c.requires.asks c.loop-s.invariant.0 c.loop-s-test.true c.kept_record_at-record.ensures
         c.table_words-stretch.ensures c.follow-followed.ensures.tables_after c.renew.ensures in
     let t = passing_turn c.requires.asks c.loop-s.invariant.0 c.loop-s-test.true c.kept_record_at-record.ensures room in
-        let on = t.on c.put_record-at.new.room c.put_record-at.new.out c.put_record-at.result c.put_record-at.ensures.room_after c.put_record-at.ensures.out_after c.put_record-at.ensures.value in
+        let on = t.on c.put_record-at.new.room c.put_record-at.new.out c.put_record-at.result c.put_record-at.ensures.room_after
+          c.put_record-at.ensures.out_after c.put_record-at.ensures.value in
     omega (arith, c.table_words-stretch.ensures, on.long, c.requires.asks.3)
 
 pub slice_bounds-waiting_slot-end-in-loop-s : goal.slice_bounds-waiting_slot-end-in-loop-s
@@ -143,7 +157,8 @@ slice_bounds-waiting_slot-end-in-loop-s c =
     let room = room_renewed c.requires.asks c.loop-s.invariant.0 c.loop-s-test.true c.kept_record_at-record.ensures
         c.table_words-stretch.ensures c.follow-followed.ensures.tables_after c.renew.ensures in
     let t = passing_turn c.requires.asks c.loop-s.invariant.0 c.loop-s-test.true c.kept_record_at-record.ensures room in
-        let on = t.on c.put_record-at.new.room c.put_record-at.new.out c.put_record-at.result c.put_record-at.ensures.room_after c.put_record-at.ensures.out_after c.put_record-at.ensures.value in
+        let on = t.on c.put_record-at.new.room c.put_record-at.new.out c.put_record-at.result c.put_record-at.ensures.room_after
+          c.put_record-at.ensures.out_after c.put_record-at.ensures.value in
     omega (arith, c.table_words-stretch.ensures, on.long, c.requires.asks.3)
 
 pub waiting_slot-waiting-requires-in-loop-s : goal.waiting_slot-waiting-requires-in-loop-s
@@ -152,11 +167,15 @@ waiting_slot-waiting-requires-in-loop-s c =
         c.table_words-stretch.ensures c.follow-followed.ensures.tables_after c.renew.ensures in
     let t = passing_turn c.requires.asks c.loop-s.invariant.0 c.loop-s-test.true c.kept_record_at-record.ensures room in
     let settled = settled-renewed c.requires.asks c.loop-s.invariant.0 c.loop-s-test.true c.kept_record_at-record.ensures room in
-        let on = t.on c.put_record-at.new.room c.put_record-at.new.out c.put_record-at.result c.put_record-at.ensures.room_after c.put_record-at.ensures.out_after c.put_record-at.ensures.value in
-    can_wait c.args.f c.table_words-stretch.result c.put_record-at.new.room c.loop-s.waiting t.can.0.limits c.table_words-stretch.ensures (omega (arith, on.long, c.requires.asks.3))
+        let on = t.on c.put_record-at.new.room c.put_record-at.new.out c.put_record-at.result c.put_record-at.ensures.room_after
+          c.put_record-at.ensures.out_after c.put_record-at.ensures.value in
+    can_wait c.args.f c.table_words-stretch.result c.put_record-at.new.room c.loop-s.waiting t.can.0.limits c.table_words-stretch.ensures
+      (omega (arith, on.long, c.requires.asks.3))
     (λ low. let w = c.loop-s.invariant.1.waits (omega (arith, c.table_words-stretch.ensures)) in omega (arith, w.0, c.table_words-stretch.ensures))
-    (λ high. settled-behind c.args.f c.args.archive.now _ c.put_record-at.new.room c.loop-s.s c.kept_record_at-record.result.content c.kept_record_at-record.result.next
-    t.can.0.limits t.can.0.wide c.put_record-at.ensures.room_after (settled (c.loop-s.invariant.1.settled (omega (arith, c.table_words-stretch.ensures)))))
+    (λ high. settled-behind c.args.f c.args.archive.now _ c.put_record-at.new.room c.loop-s.s c.kept_record_at-record.result.content
+      c.kept_record_at-record.result.next
+    t.can.0.limits t.can.0.wide c.put_record-at.ensures.room_after (settled (c.loop-s.invariant.1.settled (omega (arith,
+      c.table_words-stretch.ensures)))))
 
 pub loop-s-smaller : goal.loop-s-smaller
 loop-s-smaller c =
@@ -171,8 +190,10 @@ loop-s-preserved c =
         c.table_words-stretch.ensures c.follow-followed.ensures.tables_after c.renew.ensures in
     let t = passing_turn c.requires.asks c.loop-s.invariant.0 c.loop-s-test.true c.kept_record_at-record.ensures room in
         (
-      rw c.follow-followed.ensures.value (t.on c.put_record-at.new.room c.put_record-at.new.out c.put_record-at.result c.put_record-at.ensures.room_after c.put_record-at.ensures.out_after c.put_record-at.ensures.value),
-      waiting_in c.args.f c.table_words-stretch.result c.put_record-at.new.room c.waiting_slot-waiting-in-loop-s.result c.table_words-stretch.ensures c.waiting_slot-waiting-in-loop-s.ensures,
+      rw c.follow-followed.ensures.value (t.on c.put_record-at.new.room c.put_record-at.new.out c.put_record-at.result
+        c.put_record-at.ensures.room_after c.put_record-at.ensures.out_after c.put_record-at.ensures.value),
+      waiting_in c.args.f c.table_words-stretch.result c.put_record-at.new.room c.waiting_slot-waiting-in-loop-s.result
+        c.table_words-stretch.ensures c.waiting_slot-waiting-in-loop-s.ensures,
     )
 
 pub shape_of-out : goal.shape_of-out

@@ -12,7 +12,8 @@ use Rattle.rewriting.proofs.Settled.{settled-behind, can_wait, waiting_in}
 use Rattle.second_pass.proofs.write_all.Given as goal
 
 abbrev pub invariant-loop-s : goal.invariant-loop-s
-invariant-loop-s l = Passing l.f l.archive l.initial.room l.initial.out l.room l.out l.s l.at × Waiting (table_words l.f) (drop (table_words l.f) l.room) l.waiting
+invariant-loop-s l = Passing l.f l.archive l.initial.room l.initial.out l.room l.out l.s l.at × Waiting (table_words l.f) (drop
+    (table_words l.f) l.room) l.waiting
 
 abbrev pub decreases-loop-s : goal.decreases-loop-s
 decreases-loop-s l = length l.archive - l.s.place

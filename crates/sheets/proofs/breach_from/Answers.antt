@@ -30,7 +30,8 @@ overflow_add-at-then-is_good-2 c =
 pub loop-at-preserved : goal.loop-at-preserved
 loop-at-preserved c =
     let g = good_ends _ _ _ _ c.is_good.ensures c.if-is_good.true in
-    let later = bad_later c.args.sheet.now c.args.longest c.loop-at.before c.loop-at.at c.loop-at-test.true (sym c.is_good.ensures ∙ c.if-is_good.true) in (
+    let later = bad_later c.args.sheet.now c.args.longest c.loop-at.before c.loop-at.at c.loop-at-test.true (sym c.is_good.ensures
+      ∙ c.if-is_good.true) in (
       omega (arith, g, c.number.ensures.0),
       c.loop-at.invariant.1 ∙ later ∙ rw (← c.number-before.ensures.0, ← c.number.ensures.0),
     )

@@ -27,7 +27,8 @@ overflow_add-result c =
 
 pub returns-then-number-index : goal.returns-then-number-index
 returns-then-number-index c =
-    sym (c.loop-at.invariant ∙ find_here c.args.sheet.now c.args.index c.loop-at.at c.loop-at-test.true (sym c.is_whole.ensures ∙ c.if-is_whole.true) (rw (← c.number.ensures.0) (eq-eqb _ _ c.if-number-index.true)) ∙ rw (← c.number-length.ensures.0))
+    sym (c.loop-at.invariant ∙ find_here c.args.sheet.now c.args.index c.loop-at.at c.loop-at-test.true (sym c.is_whole.ensures
+      ∙ c.if-is_whole.true) (rw (← c.number.ensures.0) (eq-eqb _ _ c.if-number-index.true)) ∙ rw (← c.number-length.ensures.0))
 
 pub overflow_add-at-then-is_whole : goal.overflow_add-at-then-is_whole
 overflow_add-at-then-is_whole c =
@@ -39,7 +40,8 @@ overflow_add-at-then-is_whole-2 c =
 
 pub loop-at-preserved : goal.loop-at-preserved
 loop-at-preserved c =
-    c.loop-at.invariant ∙ find_later c.args.sheet.now c.args.index c.loop-at.at c.loop-at-test.true (sym c.is_whole.ensures ∙ c.if-is_whole.true) (rw (← c.number.ensures.0) (ne_eqb _ _ c.if-number-index.false)) ∙ rw (← c.number-length.ensures.0)
+    c.loop-at.invariant ∙ find_later c.args.sheet.now c.args.index c.loop-at.at c.loop-at-test.true (sym c.is_whole.ensures
+      ∙ c.if-is_whole.true) (rw (← c.number.ensures.0) (ne_eqb _ _ c.if-number-index.false)) ∙ rw (← c.number-length.ensures.0)
 
 pub returns-else-is_whole : goal.returns-else-is_whole
 returns-else-is_whole c =

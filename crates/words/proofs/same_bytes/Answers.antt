@@ -21,7 +21,8 @@ loop-i-init c = (search rules, refl)
 
 pub returns-then-little_word : goal.returns-then-little_word
 returns-then-little_word c =
-    sym (words_differ c.args.a.now c.args.b.now c.loop-i.i (λ e. c.if-little_word.true (c.little_word.ensures ∙ e ∙ sym c.little_word-in-loop-i.ensures)))
+    sym (words_differ c.args.a.now c.args.b.now c.loop-i.i (λ e. c.if-little_word.true (c.little_word.ensures ∙ e
+      ∙ sym c.little_word-in-loop-i.ensures)))
 
 pub loop-i-preserved : goal.loop-i-preserved
 loop-i-preserved c =

@@ -15,4 +15,5 @@ pub returns-then-word-lt9223372036854775808 : goal.returns-then-word-lt922337203
 returns-then-word-lt9223372036854775808 c = simp (lt-ltb _ _ c.if-word-lt9223372036854775808.true)
 
 pub returns-else-word-lt9223372036854775808 : goal.returns-else-word-lt9223372036854775808
-returns-else-word-lt9223372036854775808 c = down_is w64 (2 ^ 64 - 1 - c.args.word) (omega arith) ∙ simp (le-ltb _ _ c.if-word-lt9223372036854775808.false)
+returns-else-word-lt9223372036854775808 c = down_is w64 (2 ^ 64 - 1 - c.args.word) (omega arith)
+    ∙ simp (le-ltb _ _ c.if-word-lt9223372036854775808.false)
