@@ -1,9 +1,7 @@
 use Prim.Native.Nat.{◌≤◌, ◌-◌}
-use mathlib.Core.Path.{◌≡◌, refl, sym, ◌∙◌}
+use mathlib.Core.Path.{◌≡◌}
 use lib.ListN.{length}
-use native.Mathlib.Omega.{arith}
 use Rattle.sheets.specs.Sheet.{first_bad, starts_from}
-use Rattle.sheets.proofs.Turns.{good_ends, bad_here, bad_later, bad_none}
 use Rattle.sheets.proofs.breach_from.Given as goal
 
 abbrev pub invariant-loop-at : goal.invariant-loop-at

@@ -5,7 +5,6 @@ use native.Mathlib.Omega.{arith}
 use borrow.Author.Tests.{lt-ltb, le-ltb}
 use mir.Syntax.{w64}
 use Rattle.words.proofs.Signs.{down_fits, down_is}
-use borrow.Author.Rules.{rules}
 use Rattle.words.proofs.signed_word.Goals as goal
 
 pub overflow_sub-result-else-word-lt9223372036854775808 : goal.overflow_sub-result-else-word-lt9223372036854775808
