@@ -24,14 +24,19 @@ make_work() {
     trap 'exit 2' HUP INT TERM
 }
 
-# Whether nothing that programs are built of changed since a file was written.
+# Where a program stands once it is built.
+program_of() { # PROGRAM
+    printf '%s\n' "$home/crates/$1/out/$1"
+}
+
+# Whether nothing that programs are built of changed since a file was written. What the toolchain makes lies in folders named out.
 is_newest() { # FILE
-    [ -f "$1" ] && [ -z "$(find "$home/crates.txt" "$home/crates" -newer "$1" | head -n 1)" ]
+    [ -f "$1" ] && [ -z "$(find "$home/crates.txt" "$home/crates" -name out -prune -o -type f -newer "$1" -print | head -n 1)" ]
 }
 
 # Whether the program is built of the sources as they stand: it is newer, or its last build found it so.
 is_built() { # PROGRAM
-    [ -x "$home/target/bin/$1" ] && { is_newest "$home/target/bin/$1" || is_newest "$home/target/built/$1"; }
+    [ -x "$(program_of "$1")" ] && { is_newest "$(program_of "$1")" || is_newest "$home/target/built/$1"; }
 }
 
 # How many crates a program is made of, itself among them.

@@ -1,4 +1,4 @@
-// Compares the two comparisons of target/staticlib/libcomparisons.a, eight bytes at a time and byte by byte, with Rust's own, and times
+// Compares the two comparisons of crates/comparisons/out/libcomparisons.a, eight bytes at a time and byte by byte, with Rust's own, and times
 // them on the same texts. A call counts the pairs of texts that are the same; the texts of each side stand one behind the other.
 use crate::make::Random;
 use crate::{now, save};

@@ -1,4 +1,4 @@
-// The proved reader and repacker, as target/staticlib/libexports.a has them. A slice crosses as its pointer and length.
+// The proved reader and repacker, as crates/exports/out/libexports.a has them. A slice crosses as its pointer and length.
 use crate::plain::Stop;
 use crate::replies::Reader;
 

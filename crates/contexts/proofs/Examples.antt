@@ -1,7 +1,6 @@
 -- Rates of contexts, request W2: computed of the definitions. Assumes nothing.
-use Prim.Native.Nat.{ℕ}
 use mathlib.Core.Path.{◌≡◌, refl}
-use mathlib.Core.List.{[], List, ◌∷◌}
+use mathlib.Core.List.{[], ◌∷◌}
 use Rattle.contexts.specs.declared.State.{State}
 use Rattle.contexts.specs.Context.{find_id, rated, entering, rate_of}
 

@@ -1,6 +1,6 @@
 -- The items that an archive is read as, after "The list of items" of document 01: texts as bytes, threads as two words, no places.
 -- How each item's record is laid out; from that its uses of texts and threads, the words that it takes without them, and whether it is unresolved.
-use Rattle.std.specs.Prelude.{ℕ, ◌+◌, ◌-◌, [], List, ◌∷◌, ◌++◌, Bool, true, false, ◌||◌, eqb, length, replicate}
+use Rattle.std.specs.Prelude.{ℕ, ◌-◌, [], List, ◌∷◌, ◌++◌, Bool, true, false, ◌||◌, eqb, length, replicate}
 use Rattle.std.proofs.Math.Option.{Option, none}
 use Rattle.words.specs.Word.{pick, Field, ◌of◌}
 use Rattle.words.specs.Stream.{stream_words}

@@ -1,6 +1,6 @@
 -- What stands at a place of an archive apart from tables and contexts, after the list of records in document 01.
 -- `source` are the bytes of one whole record, which stands at the byte place `place`; its first word is its header.
-use Rattle.std.specs.Prelude.{ℕ, ◌+◌, [], List, ◌∷◌, length, take, drop, eqb, ltb}
+use Rattle.std.specs.Prelude.{ℕ, ◌+◌, [], List, ◌∷◌, take, drop, eqb, ltb}
 use Rattle.words.specs.Word.{pick, word_at, field}
 use Rattle.words.specs.Stream.{starts_with_magic}
 use Rattle.format.specs.declared.Format.{Format}

@@ -1,16 +1,15 @@
 -- `arguments::seek` meets its contract: the loop keeps where the arguments end, and where the asked one starts, equal to that of what is left. Assumes nothing.
-use Prim.Native.Nat.{ℕ, ◌+◌, ◌-◌, ◌<◌}
+use Prim.Native.Nat.{ℕ, ◌-◌}
 use mathlib.Core.Path.{◌≡◌, refl, sym, ◌∙◌}
-use lib.ListN.{length, length-drop}
-use mathlib.Core.Logic.{◌⊎◌, inl, inr}
+use lib.ListN.{length-drop}
+use mathlib.Core.Logic.{inl, inr}
 use native.Mathlib.Omega.{arith}
 use borrow.Author.Tests.{lt-ltb, le-ltb}
 use Rattle.format.proofs.Headers.{part_from}
 use Rattle.arguments.specs.Argument.{walked, arguments_of}
-use Rattle.arguments.specs.Models.Reading.{start_of, sought_of}
+use Rattle.arguments.specs.Models.Reading.{sought_of}
 use Rattle.arguments.specs.declared.Walked.TheVariants.{Refused as WalkRefused}
-use Rattle.arguments.proofs.Arguments.{walk_turn, argument_read, texts_read, texts_refused, texts_inside, start_from, start_turn}
-use borrow.Author.Rules.{rules}
+use Rattle.arguments.proofs.Arguments.{walk_turn, argument_read, texts_read, texts_refused, texts_inside, start_turn}
 use Rattle.arguments.proofs.seek.Goals as goal
 use Rattle.arguments.proofs.seek.Goals.{then-left-asked, else-left-asked}
 
@@ -24,7 +23,7 @@ unfolding sought_of
 returns-in-Refused c =
     let w : walked (arguments_of c.args.f c.args.count c.args.part.now c.args.place) ≡ WalkRefused c.in-Refused.number = c.loop-left.invariant.0
     ∙ walk_turn c.args.f c.loop-left.left c.loop-left.rest.now c.loop-left.at c.loop-left-test.true
-      ∙ simp (texts_refused c.args.f c.loop-left.rest.now c.loop-left.at
+    ∙ simp (texts_refused c.args.f c.loop-left.rest.now c.loop-left.at
     c.in-Refused.number (sym c.texts_of-texts.ensures ∙ c.in-Refused.is)) in
     rw w
 
@@ -53,10 +52,12 @@ loop-left-preserved c =
       simp part_from (omega (arith, s.inside, c.loop-left.invariant.1, length-drop c.in-Texts.size c.loop-left.rest.now)),
       c.loop-left.invariant.2
           ∙ start_turn {A = c.loop-left.left ≡ asked} {B = c.loop-left.left ≡ asked → ⊥} c.args.f c.loop-left.left asked c.loop-left.start
-              c.if-left-asked.start c.loop-left.rest.now c.loop-left.at q.0 c.in-Texts.size c.loop-left-test.true c.loop-left.invariant.3
-                q.1 (λ t. t) (λ e. e)
-              (elim c.if-left-asked.branch [
-                  then-left-asked w ↦ inl (w.if-left-asked.true, w.start-is) | else-left-asked w ↦ inr (w.if-left-asked.false, w.start-is) ])
+          c.if-left-asked.start c.loop-left.rest.now c.loop-left.at q.0 c.in-Texts.size c.loop-left-test.true c.loop-left.invariant.3
+          q.1 (λ t. t) (λ e. e)
+          (elim c.if-left-asked.branch [
+            | then-left-asked w ↦ inl (w.if-left-asked.true, w.start-is)
+            | else-left-asked w ↦ inr (w.if-left-asked.false, w.start-is)
+          ])
           ∙ simp part_from,
       c.loop-left.invariant.3,
     )

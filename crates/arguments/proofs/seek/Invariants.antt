@@ -1,13 +1,9 @@
-use Prim.Native.Nat.{◌+◌, ◌-◌, ◌<◌}
-use mathlib.Core.Path.{◌≡◌, refl, sym, ◌∙◌}
-use lib.ListN.{length, length-drop}
-use native.Mathlib.Omega.{arith}
-use borrow.Author.Tests.{lt-ltb, le-ltb}
-use Rattle.format.proofs.Headers.{part_from}
+use Prim.Native.Nat.{◌+◌, ◌<◌}
+use mathlib.Core.Path.{◌≡◌}
+use lib.ListN.{length}
 use Rattle.arguments.specs.Argument.{walked, arguments_of}
-use Rattle.arguments.specs.Models.Reading.{start_of, sought_of}
-use Rattle.arguments.specs.declared.Walked.TheVariants.{Refused as WalkRefused}
-use Rattle.arguments.proofs.Arguments.{walk_turn, argument_read, texts_read, texts_refused, texts_inside, start_from, start_turn}
+use Rattle.arguments.specs.Models.Reading.{start_of}
+use Rattle.arguments.proofs.Arguments.{start_from}
 use Rattle.arguments.proofs.seek.Given as goal
 
 abbrev pub invariant-loop-left : goal.invariant-loop-left

@@ -6,7 +6,6 @@ use borrow.Author.Rules.{sfits_of}
 use Rattle.arguments.specs.declared.Scalar.TheVariants.{Signed64}
 use borrow.Author.Tests.{eq-eqb, ne_eqb}
 use Rattle.arguments.specs.Argument.{word_scalar}
-use borrow.Author.Rules.{rules}
 use Rattle.arguments.proofs.word_scalar.Goals as goal
 
 pub returns-then-variant-eq3 : goal.returns-then-variant-eq3
@@ -24,10 +23,18 @@ returns-then-variant-eq5 c = simp (eq-eqb _ _ c.if-variant-eq5.true, ne_eqb _ _ 
 
 pub returns-then-variant-eq7 : goal.returns-then-variant-eq7
 unfolding word_scalar
-returns-then-variant-eq7 c = simp (eq-eqb _ _ c.if-variant-eq7.true, ne_eqb _ _ c.if-variant-eq5.false, ne_eqb _ _ c.if-variant-eq4.false,
-    ne_eqb _ _ c.if-variant-eq3.false)
+returns-then-variant-eq7 c = simp (
+  eq-eqb _ _ c.if-variant-eq7.true,
+  ne_eqb _ _ c.if-variant-eq5.false,
+  ne_eqb _ _ c.if-variant-eq4.false,
+  ne_eqb _ _ c.if-variant-eq3.false,
+)
 
 pub returns : goal.returns
 unfolding word_scalar
-returns c = simp (ne_eqb _ _ c.if-variant-eq7.false, ne_eqb _ _ c.if-variant-eq5.false, ne_eqb _ _ c.if-variant-eq4.false,
-    ne_eqb _ _ c.if-variant-eq3.false)
+returns c = simp (
+  ne_eqb _ _ c.if-variant-eq7.false,
+  ne_eqb _ _ c.if-variant-eq5.false,
+  ne_eqb _ _ c.if-variant-eq4.false,
+  ne_eqb _ _ c.if-variant-eq3.false,
+)

@@ -4,7 +4,6 @@ use native.Mathlib.Omega.{arith}
 use borrow.Author.Tests.{eq-eqb, ne_eqb}
 use Rattle.contexts.specs.Context.{entering}
 use Rattle.contexts.proofs.Contexts.{found_lt}
-use borrow.Author.Rules.{rules}
 use Rattle.contexts.proofs.enter.Goals as goal
 
 pub overflow_add-result : goal.overflow_add-result

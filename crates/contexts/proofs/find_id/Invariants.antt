@@ -1,11 +1,7 @@
 use Prim.Native.Nat.{◌≤◌, ◌-◌}
-use mathlib.Core.Path.{◌≡◌, refl, sym, ◌∙◌}
-use lib.ListN.{length, drop, take, drop_of_length-le}
-use lib.Seq.{length-take-le}
-use native.Mathlib.Omega.{arith}
-use borrow.Author.Tests.{eq-eqb, ne_eqb}
-use Rattle.contexts.specs.Context.{find_id, find_from}
-use Rattle.contexts.proofs.Contexts.{find_turn}
+use mathlib.Core.Path.{◌≡◌}
+use lib.ListN.{length, drop, take}
+use Rattle.contexts.specs.Context.{find_from}
 use Rattle.contexts.proofs.find_id.Given as goal
 
 abbrev pub invariant-loop-i : goal.invariant-loop-i

@@ -1,7 +1,6 @@
 -- `indexing::choice` meets its contract: each answer is what the definition gives under the tests that led there. Assumes nothing.
 use borrow.Author.Tests.{eq-eqb, ne_eqb}
 use Rattle.indexing.specs.Models.Indexes.{chosen_word}
-use borrow.Author.Rules.{rules}
 use Rattle.indexing.proofs.choice.Goals as goal
 
 pub returns-then-place_in-eq0 : goal.returns-then-place_in-eq0

@@ -1,9 +1,7 @@
 use Prim.Native.Nat.{◌-◌, ◌≤◌}
-use mathlib.Core.Path.{◌≡◌, refl, ◌∙◌}
-use native.Mathlib.Omega.{arith}
-use lib.ListN.{length, length-set}
+use mathlib.Core.Path.{◌≡◌}
+use lib.ListN.{length}
 use Rattle.indexing.specs.Models.Indexes.{chosen_to}
-use Rattle.indexing.proofs.Frames.{chosen_none, chosen_turn}
 use Rattle.indexing.proofs.choose.Given as goal
 
 abbrev pub invariant-loop-s : goal.invariant-loop-s

@@ -1,8 +1,7 @@
 -- `indexing::first_waiting` meets its contract: no key of the slots passed waits (none-waits). Assumes nothing.
-use Prim.Native.Nat.{ℕ, ◌-◌, ◌<◌, ◌≤◌}
+use Prim.Native.Nat.{◌-◌}
 use mathlib.Core.Path.{◌≡◌, sym, ◌∙◌}
 use native.Mathlib.Omega.{arith}
-use Rattle.tally.specs.Models.Slots.{uses_at}
 use Rattle.indexing.proofs.Settled.{none-waits}
 use borrow.Author.Rules.{rules}
 use Rattle.indexing.proofs.first_waiting.Goals as goal
@@ -12,8 +11,13 @@ loop-s-init c = (search rules, λ x low. absurd (omega arith))
 
 pub returns-then-uses_in-eq1 : goal.returns-then-uses_in-eq1
 returns-then-uses_in-eq1 c =
-    record { waits = λ low. (search rules, sym c.uses_in.ensures.0 ∙ c.if-uses_in-eq1.true); settled = λ high. absurd (omega (arith,
-      c.requires.some)) }
+    record {
+      waits = λ low. (search rules, sym c.uses_in.ensures.0 ∙ c.if-uses_in-eq1.true);
+      settled = λ high. absurd (omega (
+        arith,
+        c.requires.some,
+      ));
+    }
 
 pub loop-s-preserved : goal.loop-s-preserved
 loop-s-preserved c =

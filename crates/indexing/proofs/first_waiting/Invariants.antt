@@ -1,8 +1,6 @@
 use Prim.Native.Nat.{ℕ, ◌-◌, ◌<◌, ◌≤◌}
-use mathlib.Core.Path.{◌≡◌, sym, ◌∙◌}
-use native.Mathlib.Omega.{arith}
+use mathlib.Core.Path.{◌≡◌}
 use Rattle.tally.specs.Models.Slots.{uses_at}
-use Rattle.indexing.proofs.Settled.{none-waits}
 use Rattle.indexing.proofs.first_waiting.Given as goal
 
 abbrev pub invariant-loop-s : goal.invariant-loop-s

@@ -2,7 +2,6 @@
 -- is below the capacity (here_below). Assumes nothing.
 use mathlib.Core.Path.{refl}
 use Rattle.tally.proofs.Laws.{here_below}
-use borrow.Author.Rules.{rules}
 use Rattle.indexing.proofs.give_index.Goals as goal
 
 -- the clauses, of their product

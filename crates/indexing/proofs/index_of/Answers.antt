@@ -2,7 +2,6 @@
 -- below the capacity (here_below). Assumes nothing.
 use Rattle.tally.proofs.Laws.{here_below}
 use Rattle.indexing.specs.Models.Indexes.{index_of}
-use borrow.Author.Rules.{rules}
 use Rattle.indexing.proofs.index_of.Goals as goal
 
 pub index_at-requires : goal.index_at-requires

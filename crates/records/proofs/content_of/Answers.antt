@@ -1,7 +1,6 @@
 -- `records::content_of` meets its contract: each answer is what the definition gives under the tests that led there. Assumes nothing.
 use borrow.Author.Tests.{ne_eqb}
 use Rattle.records.specs.Record.{content_of}
-use borrow.Author.Rules.{rules}
 use Rattle.records.proofs.content_of.Goals as goal
 
 pub returns-then-record_type-eq2 : goal.returns-then-record_type-eq2

@@ -2,7 +2,6 @@
 use borrow.Author.Tests.{lt-ltb, le-ltb}
 use Rattle.records.specs.Record.{initialization_of}
 use Rattle.format.specs.Part.{take_parts, take_part, take_words}
-use borrow.Author.Rules.{rules}
 use Rattle.records.proofs.initialization_of.Goals as goal
 
 pub returns-then-end-place : goal.returns-then-end-place

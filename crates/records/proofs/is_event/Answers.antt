@@ -1,7 +1,6 @@
 -- `records::is_event` meets its contract: each answer is what the definition gives under the tests that led there. Assumes nothing.
 use borrow.Author.Tests.{eq-eqb, ne_eqb}
 use Rattle.records.specs.Layout.{is_event}
-use borrow.Author.Rules.{rules}
 use Rattle.records.proofs.is_event.Goals as goal
 
 pub returns-then-field-eq4 : goal.returns-then-field-eq4

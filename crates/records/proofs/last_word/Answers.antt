@@ -1,7 +1,6 @@
 -- `records::last_word` meets its contract: each answer is what the definition gives under the tests that led there. Assumes nothing.
 use borrow.Author.Tests.{eq-eqb, ne_eqb, lt-ltb, lt-leb, le-ltb, le-leb}
 use Rattle.records.specs.Layout.{last_word}
-use borrow.Author.Rules.{rules}
 use Rattle.records.proofs.last_word.Goals as goal
 
 pub returns-then-end-at : goal.returns-then-end-at

@@ -1,7 +1,6 @@
 -- `records::layout_of` meets its contract: each answer is what the definition gives under the test that led there. Assumes nothing.
 use mathlib.Core.Path.{sym, ◌∙◌}
 use Rattle.records.specs.Layout.{layout_of}
-use borrow.Author.Rules.{rules}
 use Rattle.records.proofs.layout_of.Goals as goal
 
 pub returns-then-is_log : goal.returns-then-is_log

@@ -4,7 +4,6 @@ use native.Mathlib.Omega.{arith}
 use Rattle.records.specs.declared.Layout.{Layout}
 use Rattle.records.specs.Layout.{layout_of}
 use Rattle.records.proofs.Bounds.{report_sizes}
-use borrow.Author.Rules.{rules}
 use Rattle.records.proofs.own_behind.Goals as goal
 
 pub word-requires : goal.word-requires

@@ -1,11 +1,9 @@
 -- `records::own_of` meets its contract: each answer is what the definition gives under the test that led there. Assumes nothing.
 use mathlib.Core.Path.{◌≡◌, sym, ap, ◌∙◌}
 use mathlib.Core.Bool.{true, false}
-use native.Mathlib.Omega.{arith}
 use Rattle.words.specs.Word.{word_at}
 use Rattle.records.specs.declared.Own.TheVariants.{Event as EventOwn, Log as LogOwn}
 use Rattle.records.specs.Layout.{event_layout, is_log, log_layout, layout_of, own_of}
-use borrow.Author.Rules.{rules}
 use Rattle.records.proofs.own_of.Goals as goal
 
 -- a log and an event have a word of their own

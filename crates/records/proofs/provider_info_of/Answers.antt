@@ -1,7 +1,6 @@
 -- `records::provider_info_of` meets its contract: each answer is what the definition gives under the tests that led there. Assumes nothing.
 use Rattle.records.specs.Record.{provider_info_of}
 use Rattle.format.specs.Part.{take_parts, take_part}
-use borrow.Author.Rules.{rules}
 use Rattle.records.proofs.provider_info_of.Goals as goal
 
 pub returns-in-Refused : goal.returns-in-Refused

@@ -1,5 +1,4 @@
 -- `records::report_read` meets its contract: each part is what the definition has for it. Assumes nothing.
-use borrow.Author.Rules.{rules}
 use Rattle.records.proofs.report_read.Goals as goal
 
 pub returns : goal.returns

@@ -4,7 +4,6 @@ use mathlib.Core.Path.{sym, ◌∙◌}
 use Rattle.format.specs.Part.{take_parts}
 use Rattle.format.proofs.Parts.{part_taken}
 use Rattle.records.specs.Models.Layouts.{take_pair}
-use borrow.Author.Rules.{rules}
 use Rattle.records.proofs.take_pair.Goals as goal
 
 pub take_part-behind-requires : goal.take_part-behind-requires

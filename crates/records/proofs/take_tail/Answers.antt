@@ -5,7 +5,6 @@ use Rattle.format.specs.Part.{take_parts}
 use Rattle.format.proofs.Parts.{part_taken}
 use Rattle.records.specs.Models.Layouts.{take_pair}
 use Rattle.records.proofs.Layouts.{stream-part}
-use borrow.Author.Rules.{rules}
 use Rattle.records.proofs.take_tail.Goals as goal
 
 pub take_stream-behind-requires : goal.take_stream-behind-requires

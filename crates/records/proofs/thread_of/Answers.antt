@@ -2,7 +2,6 @@
 use borrow.Author.Tests.{eq-eqb, ne_eqb}
 use Rattle.records.specs.Record.{thread_of}
 use Rattle.format.specs.Part.{take_parts, take_part}
-use borrow.Author.Rules.{rules}
 use Rattle.records.proofs.thread_of.Goals as goal
 
 pub returns-then-index-eq0 : goal.returns-then-index-eq0

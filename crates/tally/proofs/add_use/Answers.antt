@@ -5,7 +5,6 @@ use native.Mathlib.Omega.{arith}
 use mir.Facts.{Fits-32_64}
 use borrow.Author.Tests.{lt-ltb, le-ltb}
 use Rattle.tally.proofs.Laws.{here_below, free_below}
-use borrow.Author.Rules.{rules}
 use Rattle.tally.proofs.add_use.Goals as goal
 
 -- the clauses, of their product

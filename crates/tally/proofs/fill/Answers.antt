@@ -1,7 +1,6 @@
 -- `tally::fill` meets its contract: the three words written are those of the definition. Assumes nothing.
 use lib.ListN.{length-set}
 use native.Mathlib.Omega.{arith}
-use borrow.Author.Rules.{rules}
 use Rattle.tally.proofs.fill.Goals as goal
 
 pub returns : goal.returns

@@ -1,9 +1,6 @@
-use Prim.Native.Nat.{◌-◌, ◌<◌}
-use mathlib.Core.Path.{◌≡◌, refl, sym, ◌∙◌}
-use native.Mathlib.Omega.{arith}
-use Rattle.tally.specs.Models.Slots.{key_of, seek, find_of}
-use Rattle.tally.proofs.Probing.{start_low, next_low}
-use Rattle.tally.proofs.Laws.{seek-none, seek-free, seek_here, seek-on}
+use Prim.Native.Nat.{◌<◌}
+use mathlib.Core.Path.{◌≡◌}
+use Rattle.tally.specs.Models.Slots.{key_of, seek}
 use Rattle.tally.proofs.find.Given as goal
 
 abbrev pub invariant-loop-left : goal.invariant-loop-left

@@ -1,7 +1,6 @@
 -- `tally::first_slot` meets its contract: the hash is that of the definition, and no product overflows (mul-result). Assumes nothing.
 use native.Mathlib.Omega.{arith}
 use native.Mathlib.Nat.{mul-lt-mul_of_pos_right}
-use borrow.Author.Rules.{rules}
 use Rattle.tally.specs.Models.Slots.{start_of}
 use Rattle.tally.proofs.first_slot.Goals as goal
 

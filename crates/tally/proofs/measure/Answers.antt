@@ -1,9 +1,9 @@
 -- `tally::measure` meets its contract: the sum is that of the slots passed, and each adds less than 2 ^ 14. Assumes nothing.
-use Prim.Native.Nat.{ℕ, ◌-◌, ◌*◌, ◌^◌, ◌≤◌}
+use Prim.Native.Nat.{◌-◌}
 use mathlib.Core.Path.{◌≡◌, refl, ◌∙◌}
 use native.Mathlib.Omega.{arith}
 use native.Mathlib.Numerals.{add-one}
-use Rattle.tally.specs.Models.Slots.{place_at, label_at, uses_at, cost_of, sum_to, measure_of}
+use Rattle.tally.specs.Models.Slots.{measure_of}
 use borrow.Author.Rules.{rules}
 use Rattle.tally.proofs.measure.Goals as goal
 

@@ -1,8 +1,6 @@
 use Prim.Native.Nat.{ℕ, ◌-◌, ◌*◌, ◌^◌, ◌≤◌}
-use mathlib.Core.Path.{◌≡◌, refl, ◌∙◌}
-use native.Mathlib.Omega.{arith}
-use native.Mathlib.Numerals.{add-one}
-use Rattle.tally.specs.Models.Slots.{place_at, label_at, uses_at, cost_of, sum_to, measure_of}
+use mathlib.Core.Path.{◌≡◌}
+use Rattle.tally.specs.Models.Slots.{place_at, label_at, uses_at, cost_of, sum_to}
 use Rattle.tally.proofs.measure.Given as goal
 
 abbrev pub invariant-loop-s : goal.invariant-loop-s

@@ -1,6 +1,5 @@
 -- `tally::next_slot` meets its contract: each answer is what the definition gives under the test that led there. Assumes nothing.
 use borrow.Author.Tests.{lt-ltb, le-ltb}
-use borrow.Author.Rules.{rules}
 use Rattle.tally.specs.Models.Slots.{next_of}
 use Rattle.tally.proofs.next_slot.Goals as goal
 

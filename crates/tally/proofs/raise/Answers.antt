@@ -2,7 +2,6 @@
 use native.Mathlib.Omega.{arith}
 use borrow.Author.Tests.{lt-ltb, le-ltb}
 use Rattle.tally.specs.Models.Slots.{raised}
-use borrow.Author.Rules.{rules}
 use Rattle.tally.proofs.raise.Goals as goal
 
 pub returns-then-n-lt65535 : goal.returns-then-n-lt65535

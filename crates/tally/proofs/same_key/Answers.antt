@@ -2,7 +2,6 @@
 -- labels differ (label_differs), and keys with one label at one place are the same (place_same). Assumes nothing.
 use mathlib.Core.Path.{sym}
 use borrow.Author.Tests.{eq-eqb}
-use borrow.Author.Rules.{rules}
 use Rattle.tally.proofs.Laws.{label_differs, place_same}
 use Rattle.tally.proofs.same_key.Goals as goal
 

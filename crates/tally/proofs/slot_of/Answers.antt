@@ -2,7 +2,6 @@
 use mathlib.Core.Path.{refl}
 use native.Mathlib.Omega.{arith}
 use Rattle.tally.proofs.Laws.{here_below}
-use borrow.Author.Rules.{rules}
 use Rattle.tally.proofs.slot_of.Goals as goal
 
 pub overflow_add-result : goal.overflow_add-result
@@ -11,8 +10,10 @@ overflow_add-result c =
 
 pub returns-in-Here : goal.returns-in-Here
 returns-in-Here c =
-    let low = here_below _ _ c.requires.0 c.find-slot.ensures c.in-Here.is in simp (← c.find-slot.ensures, c.in-Here.is) (refl,
-      omega (arith, low, c.requires.0.low))
+    let low = here_below _ _ c.requires.0 c.find-slot.ensures c.in-Here.is in simp (← c.find-slot.ensures, c.in-Here.is) (
+      refl,
+      omega (arith, low, c.requires.0.low),
+    )
 
 pub returns-in-Free : goal.returns-in-Free
 returns-in-Free c = simp (← c.find-slot.ensures, c.in-Free.is) (refl, omega arith)
