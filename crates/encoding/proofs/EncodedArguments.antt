@@ -6,7 +6,7 @@ use mathlib.Core.List.{List, [], ◌∷◌, ◌++◌, map, append_assoc}
 use mathlib.Core.Bool.{Bool, true, false}
 use native.Mathlib.Omega.{arith}
 use native.Mathlib.Nat.{add_assoc, add-zero}
-use borrow.Author.Tests.{eq-eqb, eqb-false, le-ltb, lt-ltb, ne_eqb}
+use borrow.Author.Tests.{eq-eqb, eqb-false, le-ltb, ne_eqb}
 use lib.Dec.{eqb}
 use lib.Seq.{take-append_seam}
 use lib.ListN.{length, length-append}

@@ -19,7 +19,7 @@ use Rattle.records.specs.Record.{provider_info_of, metadata_of, initialization_o
 use Rattle.records.specs.Item.{Item, magic, provider_info, section, provider_event, initialization, report, skipped, layout_of_item, stream, words, Key, text_key}
 use Rattle.encoding.specs.Encoded.{parts_bytes, encoded_pieces, record_bytes, layout_header, layout_body, item_record}
 use Rattle.encoding.proofs.EncodedParts.{words_read_lem, stream_read}
-use Rattle.encoding.proofs.EncodedRecords.{RecordFits, at_start, length_record, own-field, record_at_lem}
+use Rattle.encoding.proofs.EncodedRecords.{RecordFits, at_start, own-field, record_at_lem}
 use Rattle.encoding.proofs.EncodedArguments.{AllFit}
 use Rattle.encoding.proofs.EncodedLayouts.{layout_words, length-body, length_layout, PiecesFit, KindSuits, ItemFits, pieces-spelled}
 use Rattle.encoding.proofs.EncodedReports.{own_encoded, small_report}

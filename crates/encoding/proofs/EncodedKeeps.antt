@@ -9,7 +9,7 @@ use native.Mathlib.Nat.{add-sub_cancel_left}
 use borrow.Author.Tests.{eq-eqb, lt-ltb}
 use lib.ListN.{length, drop, length-append}
 use lib.Seq.{drop_at, drop-append_seam}
-use Rattle.words.specs.Word.{word_at, word_bytes, field, Field, ◌of◌, pack}
+use Rattle.words.specs.Word.{word_at, word_bytes, field, ◌of◌, pack}
 use Rattle.words.specs.Stream.{stream_words, padding_of, padded}
 use Rattle.words.proofs.Words.{At, at_left, at_right, length-word_bytes}
 use Rattle.words.proofs.Streams.{length-padded, padding_is}
@@ -18,7 +18,7 @@ use Rattle.format.specs.declared.Reference.{Reference}
 use Rattle.format.specs.Part.{inline_bytes, padding_zero}
 use Rattle.arguments.specs.declared.Scalar.{Scalar}
 use Rattle.arguments.specs.declared.Scalar.TheVariants.{Null, Signed32, Unsigned32, Signed64, Unsigned64, Double, Pointer, KernelObject, Boolean, Unknown}
-use Rattle.arguments.specs.Argument.{argument_type, scalar_words, scalar_type}
+use Rattle.arguments.specs.Argument.{argument_type, scalar_type}
 use Rattle.arguments.proofs.Bounds.{ScalarFits}
 use Rattle.arguments.specs.Loss.{value_bytes, argument_bytes, reserved_bits, value_padding_zero, argument_keeps, arguments_keep}
 use Rattle.records.specs.declared.Content.TheVariants.{String, Thread, Report as ReportRead}
@@ -26,7 +26,7 @@ use Rattle.records.specs.Record.{content_of}
 use Rattle.records.specs.Loss.{words_keep, stream_keeps, report_keeps, record_keeps}
 use Rattle.records.specs.Item.{Thread as ThreadWords, Value, scalar, text, Argument, Report, own_layout, last_words, Item, magic, provider_info, section, provider_event, initialization, report, skipped, report_layout, layout_of_item, Key}
 use Rattle.encoding.specs.Encoded.{Encoded, word, words, stream, words_bytes, text_index, thread_index, text_inline, thread_inline, part_bytes, parts_bytes}
-use Rattle.encoding.specs.Encoded.{record_bytes, encoded_text, scalar_half, scalar_parts, argument_record, arguments_records, layout_header, layout_body, string_record, thread_record, item_record}
+use Rattle.encoding.specs.Encoded.{record_bytes, encoded_text, scalar_half, argument_record, arguments_records, layout_header, layout_body, string_record, thread_record, item_record}
 use Rattle.encoding.proofs.EncodedParts.{reference_at, references_at, part_words, parts_words, length-words, length_part}
 use Rattle.encoding.proofs.EncodedRecords.{header_fields, at_start, length_record, length-size, field_is, own-field, body_at, StringFits, string_fits, thread-fits}
 use Rattle.encoding.proofs.EncodedArguments.{ValueFits, encoded_value, ArgumentFits, AllFit, argument_words, AllSized, all_sized, text_encoded, scalar_parts_lem, type_of, half_of, argument_fields, argument_record_lem, value_at, argument_at, argument_fits, argument_read, length_argument}

@@ -19,7 +19,7 @@ use Rattle.records.proofs.Bounds.{OwnSuits, Absent, AllWords}
 use Rattle.encoding.specs.Models.Part.{referent_table}
 use Rattle.encoding.specs.Encoded.{Encoded, words_bytes, reference_of, parts_bytes, encoded_thread, encoded_referent, arguments_records, encoded_pieces, layout_header, layout_body, layout_record}
 use Rattle.encoding.proofs.EncodedParts.{part_of, references_at, Fine, AllFine, part_words, parts_words, length-words, length_parts, parts_read, AllSpell, all_spelled}
-use Rattle.encoding.proofs.EncodedRecords.{RecordFits, length_record, body_at}
+use Rattle.encoding.proofs.EncodedRecords.{length_record, body_at}
 use Rattle.encoding.proofs.EncodedArguments.{TextFits, AsText, AllFit, arguments_words, text_encoded, length-arguments}
 
 -- ---- lengths

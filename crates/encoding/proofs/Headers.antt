@@ -1,7 +1,7 @@
 -- Headers put together field by field, and records written as a header and right behind it a body; how long the records are.
 -- Assumes nothing.
 use Prim.Native.Nat.{ℕ, ◌+◌, ◌*◌, ◌/◌, ◌^◌, ◌≤◌}
-use mathlib.Core.Path.{◌≡◌, refl, sym, ap, ◌∙◌}
+use mathlib.Core.Path.{◌≡◌, sym, ap, ◌∙◌}
 use mathlib.Core.List.{List, [], ◌∷◌, ◌++◌, append-nil}
 use native.Mathlib.Nat.{add_assoc, mul_assoc, mul_comm, mul-add, mul-zero, add-zero}
 use native.Mathlib.Omega.{arith}

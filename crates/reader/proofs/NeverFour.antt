@@ -1,5 +1,5 @@
 -- Along a run from opening no step gives number 4, no looked-up entry is bad, and every event has all of its arguments. Assumes nothing.
-use Prim.Native.Nat.{ℕ, zero, suc, ◌+◌, ◌-◌, ◌%◌, ◌≤◌, ◌<◌}
+use Prim.Native.Nat.{ℕ, zero, suc, ◌+◌, ◌-◌, ◌%◌, ◌<◌}
 use mathlib.Core.Path.{◌≡◌, refl, sym, ap, subst, ◌∙◌}
 use mathlib.Core.List.{[], List, ◌∷◌}
 use mathlib.Core.Bool.{true, false, true≢false}
@@ -16,11 +16,10 @@ use Rattle.format.specs.declared.Reference.TheVariants.{Inline, Index}
 use Rattle.arguments.specs.declared.Argument.{Argument}
 use Rattle.arguments.specs.declared.Argued.{Argued}
 use Rattle.arguments.specs.declared.Argued.TheVariants.{Refused as ArgumentRefused, Argument as ArgumentRead}
-use Rattle.arguments.specs.Argument.{argument_of, refused, arguments, prepend as prepend_argument, on_argued, arguments_of, numbered_of}
+use Rattle.arguments.specs.Argument.{argument_of, refused, prepend as prepend_argument, on_argued, arguments_of, numbered_of}
 use Rattle.records.specs.declared.Report.{Report}
 use Rattle.records.specs.declared.Content.TheVariants.{Report as ReportRead}
 use Rattle.records.specs.Record.{record_at}
-use Rattle.records.specs.Models.Bounds.{ContentInside}
 use Rattle.records.specs.Item.{Argument as ArgumentItem, Item}
 use Rattle.contexts.specs.declared.State.{State}
 use Rattle.contexts.specs.Context.{belongs_to, moved}
@@ -41,7 +40,7 @@ use Rattle.effects.specs.Follow.{changed, followed, change_of}
 use Rattle.reader.specs.Step.{opening_number, stopping, decision_of, step_reply, step_tables, report_answer, effect_decision, content_decision}
 use Rattle.reader.specs.Ask.{shown_argument, asked_report, asked_place, argument_reply}
 use Rattle.reader.specs.Reads.{prepend as prepend_item, argument_items, report_item, item_of}
-use Rattle.views.proofs.Lookups.{record_whole, ReportFits, report-fits, report-arguments}
+use Rattle.views.proofs.Lookups.{report-fits, report-arguments}
 use Rattle.reader.proofs.Changes.{Plain, Names, IsTable, on_decision, on-entering, showing, registering}
 use Rattle.reader.proofs.Runs.{Held, Sound, step_sound, Run, run_sound}
 

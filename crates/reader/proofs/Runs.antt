@@ -1,6 +1,6 @@
 -- The law of the tables: along any run from opening every state belongs, its ids are distinct, and each entry is 0 or the place of a record
 -- of that table and index that was read in that very context. Assumes nothing.
-use Prim.Native.Nat.{ℕ, ◌+◌, ◌-◌, ◌%◌, ◌≤◌, ◌<◌}
+use Prim.Native.Nat.{ℕ, ◌+◌, ◌%◌, ◌≤◌, ◌<◌}
 use mathlib.Core.Path.{◌≡◌, refl, sym, ◌∙◌}
 use mathlib.Core.List.{[], List, ◌∷◌}
 use mathlib.Core.Option.{some}

@@ -1,8 +1,7 @@
 -- Laws of what a record registers: only string and thread records do, so an entry is read from its header alone. Assumes nothing.
-use Prim.Native.Nat.{ℕ, ◌+◌, ◌-◌, ◌*◌, ◌/◌, ◌%◌, ◌<◌, ◌≤◌}
+use Prim.Native.Nat.{ℕ, ◌+◌, ◌*◌, ◌/◌, ◌%◌, ◌<◌, ◌≤◌}
 use mathlib.Core.Path.{◌≡◌, refl, sym, ap, subst, ◌∙◌}
 use mathlib.Core.List.{List}
-use mathlib.Core.Bool.{true}
 use mathlib.Core.Logic.{◌⊎◌, inl, inr}
 use native.Mathlib.Omega.{arith}
 use native.Mathlib.Nat.{add-zero}
@@ -21,13 +20,12 @@ use Rattle.format.specs.Header.{record_words, extent_of}
 use Rattle.format.specs.Part.{take_words, take_stream, take_part, take_parts}
 use Rattle.format.proofs.Headers.{Whole, extent_read}
 use Rattle.records.specs.declared.Content.{Content}
-use Rattle.records.specs.declared.Content.TheVariants.{String, Thread}
 use Rattle.records.specs.Effect.{effect_of}
 use Rattle.records.specs.Record.{string_of, thread_of, content_of, record_of, record_at}
 use Rattle.records.proofs.Contents.{ContentIs, refused, magic, provider_info, section, provider_event, initialization, string, thread, report, ignored, skipped, content_is, content_string, content_thread}
 use Rattle.tables.specs.declared.Resolved.{Resolved}
 use Rattle.tables.specs.declared.Resolved.TheVariants.{Bad, Known}
-use Rattle.tables.specs.Table.{Registration, Nothing, Entry, on_registration, registration_of, highest_of, entry_at}
+use Rattle.tables.specs.Table.{Registration, on_registration, registration_of, highest_of, entry_at}
 use Rattle.tables.specs.Models.Entries.{header_index, header_length, longest_of, header_entry}
 
 -- ---- what a record registers, by its header

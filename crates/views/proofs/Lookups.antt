@@ -20,7 +20,7 @@ use Rattle.format.specs.declared.Extent.TheVariants.{Refused as ExtentRefused, B
 use Rattle.format.specs.Header.{record_words, extent_of}
 use Rattle.format.specs.Models.Bounds.{Inside}
 use Rattle.format.proofs.Headers.{extent_read}
-use Rattle.arguments.specs.Argument.{arguments, arguments_of}
+use Rattle.arguments.specs.Argument.{arguments_of}
 use Rattle.records.specs.declared.Lookup.{Lookup}
 use Rattle.records.specs.declared.Report.{Report}
 use Rattle.records.specs.declared.Content.{Content}

@@ -6,7 +6,6 @@ use lib.ListN.{length}
 use Rattle.words.specs.Stream.{overwritten}
 use Rattle.encoding.specs.Models.Part.{text_part}
 use Rattle.encoding.proofs.Parts.{length_start, length_argument, short_argument}
-use borrow.Author.Rules.{rules}
 use Rattle.argument_encoding.proofs.put_short_argument.Goals as goal
 
 -- the clauses, of their product
@@ -25,5 +24,8 @@ put_argument_start-requires c = by_clause (let part = text_part c.args.index c.a
 
 pub returns : goal.returns
 returns c = by_clauses_of_out_after_value (let part = text_part c.args.index c.args.name.now in
-    let same = short_argument c.args.f c.args.variant c.args.half part in (c.put_argument_start.ensures.out_after
-    ∙ ap (overwritten c.args.out.now c.args.place) same, omega (arith, c.put_argument_start.ensures.value, ap length same)))
+    let same = short_argument c.args.f c.args.variant c.args.half part in (
+      c.put_argument_start.ensures.out_after
+          ∙ ap (overwritten c.args.out.now c.args.place) same,
+      omega (arith, c.put_argument_start.ensures.value, ap length same),
+    ))

@@ -2,7 +2,6 @@
 use mathlib.Core.Path.{sym}
 use lib.Seq.{set_out}
 use Rattle.effects.specs.Follow.{changed}
-use borrow.Author.Rules.{rules}
 use Rattle.effects.proofs.apply.Goals as goal
 
 pub returns-in-Keep : goal.returns-in-Keep

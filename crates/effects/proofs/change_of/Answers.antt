@@ -2,7 +2,6 @@
 use mathlib.Core.Path.{subst}
 use Rattle.effects.specs.Follow.{change_of}
 use Rattle.effects.specs.Models.Bounds.{EffectFits}
-use borrow.Author.Rules.{rules}
 use Rattle.effects.proofs.change_of.Goals as goal
 
 pub position_of-requires : goal.position_of-requires

@@ -1,6 +1,5 @@
 -- `effects::effect_of` meets its contract: each answer is what the definition gives for the content that was matched. Assumes nothing.
 use Rattle.records.specs.Effect.{effect_of}
-use borrow.Author.Rules.{rules}
 use Rattle.effects.proofs.effect_of.Goals as goal
 
 pub returns-in-Refused : goal.returns-in-Refused

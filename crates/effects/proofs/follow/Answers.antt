@@ -1,6 +1,5 @@
 -- `effects::follow` meets its contract: each answer is what the definition gives for the effect that was matched. Assumes nothing.
 use Rattle.effects.specs.Follow.{followed}
-use borrow.Author.Rules.{rules}
 use Rattle.effects.proofs.follow.Goals as goal
 
 pub returns-in-Stop : goal.returns-in-Stop

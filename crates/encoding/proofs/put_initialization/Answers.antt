@@ -9,7 +9,6 @@ use Rattle.words.proofs.Words.{length-word_bytes}
 use Rattle.encoding.proofs.Headers.{record_written, length-plain}
 use Rattle.encoding.proofs.EncodedItems.{initialization_record}
 use Rattle.records.specs.Item.{initialization}
-use borrow.Author.Rules.{rules}
 use Rattle.encoding.proofs.put_initialization.Goals as goal
 
 -- the clauses, of their product
@@ -25,10 +24,10 @@ put_word-requires-2 c =
 
 pub returns : goal.returns
 returns c = by_clause (let long = length-plain c.args.f (initialization c.args.rate) in (
-      c.put_word-2.ensures ∙ ap (λ (out : List ℕ). overwritten out (c.args.place + 8) (word_bytes c.args.f.order c.args.rate)) c.put_word.ensures
-          ∙ record_written c.args.f c.args.out.now c.args.place 1 1 c.header.result (0 of 48 ∷ []) (word_bytes c.args.f.order c.args.rate)
-            (omega (arith, long))
-          (length-word_bytes c.args.f.order c.args.rate) (omega (arith, c.header.ensures))
-          ∙ ap (overwritten c.args.out.now c.args.place) (sym (initialization_record c.args.f (λ key. 0) c.args.rate)),
-      omega (arith, long),
-    ))
+  c.put_word-2.ensures ∙ ap (λ (out : List ℕ). overwritten out (c.args.place + 8) (word_bytes c.args.f.order c.args.rate)) c.put_word.ensures
+      ∙ record_written c.args.f c.args.out.now c.args.place 1 1 c.header.result (0 of 48 ∷ []) (word_bytes c.args.f.order c.args.rate)
+      (omega (arith, long))
+      (length-word_bytes c.args.f.order c.args.rate) (omega (arith, c.header.ensures))
+      ∙ ap (overwritten c.args.out.now c.args.place) (sym (initialization_record c.args.f (λ key. 0) c.args.rate)),
+  omega (arith, long),
+))

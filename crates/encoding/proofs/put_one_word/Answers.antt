@@ -3,7 +3,6 @@ use native.Mathlib.Omega.{arith}
 use mathlib.Core.List.{append-nil}
 use Rattle.words.specs.Word.{word_bytes}
 use Rattle.words.proofs.Words.{length-word_bytes}
-use borrow.Author.Rules.{rules}
 use Rattle.encoding.proofs.put_one_word.Goals as goal
 
 -- the clauses, of their product
@@ -15,5 +14,10 @@ put_word-requires c = let e = append-nil (word_bytes c.args.f.order c.args.word)
     omega (arith, rw e at c.requires, length-word_bytes c.args.f.order c.args.word)
 
 pub returns : goal.returns
-returns c = by_clause (rw (append-nil (word_bytes c.args.f.order c.args.word)) (c.put_word.ensures, omega (arith,
-    length-word_bytes c.args.f.order c.args.word)))
+returns c = by_clause (rw (append-nil (word_bytes c.args.f.order c.args.word)) (
+  c.put_word.ensures,
+  omega (
+    arith,
+    length-word_bytes c.args.f.order c.args.word,
+  ),
+))

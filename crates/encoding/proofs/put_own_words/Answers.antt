@@ -1,5 +1,4 @@
 -- `put_own_words` meets its contract: each kind has one word of its own. Assumes nothing.
-use borrow.Author.Rules.{rules}
 use Rattle.encoding.proofs.put_own_words.Goals as goal
 
 -- the clauses, of their product

@@ -10,7 +10,6 @@ use Rattle.words.proofs.Streams.{length-padded}
 use Rattle.encoding.proofs.Headers.{record_written, length-plain}
 use Rattle.encoding.proofs.EncodedItems.{provider_info_record}
 use Rattle.records.specs.Item.{provider_info}
-use borrow.Author.Rules.{rules}
 use Rattle.encoding.proofs.put_provider_info.Goals as goal
 
 -- the clauses, of their product
@@ -31,7 +30,7 @@ returns c = by_clause (let n = length c.args.name.now in
       c.put_stream.ensures
           ∙ ap (λ (out : List ℕ). overwritten out (c.args.place + 8) (padded c.args.name.now)) c.put_word.ensures
           ∙ record_written c.args.f c.args.out.now c.args.place 0 c.stream_words-size.result c.with_field-word.result (1 of 4 ∷ c.args.id
-            of 32 ∷ n of 8 ∷ 0 of 4 ∷ []) (padded c.args.name.now)
+          of 32 ∷ n of 8 ∷ 0 of 4 ∷ []) (padded c.args.name.now)
           (omega (arith, long)) (omega (arith, length-padded c.args.name.now, c.stream_words-size.ensures))
           (omega (
             arith,

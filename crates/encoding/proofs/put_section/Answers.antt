@@ -5,7 +5,6 @@ use mathlib.Core.List.{[], ◌∷◌}
 use Rattle.words.specs.Word.{◌of◌}
 use Rattle.encoding.proofs.Headers.{header_written, length-plain}
 use Rattle.records.specs.Item.{section}
-use borrow.Author.Rules.{rules}
 use Rattle.encoding.proofs.put_section.Goals as goal
 
 -- the clauses, of their product
@@ -18,7 +17,7 @@ put_word-requires c =
 
 pub returns : goal.returns
 returns c = by_clause (let long = length-plain c.args.f (section c.args.id) in (
-      c.put_word.ensures ∙ header_written c.args.f c.args.out.now c.args.place 0 c.with_field.result (2 of 4 ∷ c.args.id of 32 ∷ 0 of 12 ∷ [])
-          (omega (arith, c.with_field.ensures, c.with_field-metadata.ensures, c.header.ensures)),
-      omega (arith, long),
-    ))
+  c.put_word.ensures ∙ header_written c.args.f c.args.out.now c.args.place 0 c.with_field.result (2 of 4 ∷ c.args.id of 32 ∷ 0 of 12 ∷ [])
+      (omega (arith, c.with_field.ensures, c.with_field-metadata.ensures, c.header.ensures)),
+  omega (arith, long),
+))

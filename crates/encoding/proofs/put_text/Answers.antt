@@ -6,7 +6,6 @@ use Rattle.words.specs.Stream.{overwritten}
 use Rattle.words.proofs.Streams.{length-padded}
 use borrow.Author.Tests.{ne_eqb}
 use Rattle.encoding.proofs.Parts.{nothing_written, inline_bytes_lem}
-use borrow.Author.Rules.{rules}
 use Rattle.encoding.proofs.put_text.Goals as goal
 
 -- the clauses, of their product
@@ -22,6 +21,6 @@ put_stream-requires c =
 
 pub returns : goal.returns
 returns c = by_clause (let inline = inline_bytes_lem c.args.index c.args.bytes.now c.if-index-ne0.false in (
-      c.put_stream.ensures ∙ ap (overwritten c.args.out.now c.args.place) (sym inline),
-      omega (arith, c.stream_words.ensures, length-padded c.args.bytes.now, ap length inline),
-    ))
+  c.put_stream.ensures ∙ ap (overwritten c.args.out.now c.args.place) (sym inline),
+  omega (arith, c.stream_words.ensures, length-padded c.args.bytes.now, ap length inline),
+))

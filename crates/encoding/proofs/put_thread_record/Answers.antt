@@ -12,7 +12,6 @@ use Rattle.records.specs.Item.{thread}
 use Rattle.encoding.specs.Encoded.{thread_inline, part_bytes}
 use Rattle.encoding.proofs.EncodedParts.{length_part}
 use Rattle.encoding.proofs.Headers.{record_written, thread_written, length-thread}
-use borrow.Author.Rules.{rules}
 use Rattle.encoding.proofs.put_thread_record.Goals as goal
 
 -- the clauses, of their product
@@ -37,11 +36,11 @@ returns c = by_clause (let t = thread c.args.process c.args.thread in let long =
     let same : length headed ≡ length c.args.out.now = length-overwritten c.args.out.now c.args.place (word_bytes c.args.f.order c.with_field.result)
     (omega (arith, long, length-word_bytes c.args.f.order c.with_field.result)) in (
       c.put_word-3.ensures ∙ ap (λ (out : List ℕ). overwritten out (c.args.place + 16) (word_bytes c.args.f.order c.args.thread))
-        (c.put_word-2.ensures
+          (c.put_word-2.ensures
           ∙ ap (λ (out : List ℕ). overwritten out (c.args.place + 8) (word_bytes c.args.f.order c.args.process)) c.put_word.ensures)
           ∙ thread_written c.args.f headed c.args.place c.args.process c.args.thread (omega (arith, long, same))
           ∙ record_written c.args.f c.args.out.now c.args.place 3 2 c.with_field.result (c.args.index of 8 ∷ 0 of 40 ∷ []) (part_bytes
-            c.args.f (thread_inline t)) (omega (arith, long))
+          c.args.f (thread_inline t)) (omega (arith, long))
           (length_part c.args.f (thread_inline t)) (omega (arith, c.with_field.ensures, c.header.ensures)),
       omega (arith, long),
     ))

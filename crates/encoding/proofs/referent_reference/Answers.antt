@@ -1,6 +1,5 @@
 -- `referent_reference` meets its contract: by the table a thread's index or a text's reference.
 use borrow.Author.Tests.{eq-eqb, ne_eqb}
-use borrow.Author.Rules.{rules}
 use Rattle.encoding.proofs.referent_reference.Goals as goal
 
 pub returns-then-table-eq3 : goal.returns-then-table-eq3

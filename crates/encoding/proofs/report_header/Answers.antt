@@ -1,5 +1,4 @@
 -- `report_header` meets its contract: each kind has its own fields. Assumes nothing.
-use borrow.Author.Rules.{rules}
 use Rattle.encoding.proofs.report_header.Goals as goal
 
 pub event_header-requires : goal.event_header-requires

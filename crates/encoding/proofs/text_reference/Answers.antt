@@ -3,7 +3,6 @@ use native.Mathlib.Omega.{arith}
 use mathlib.Core.Path.{sym}
 use borrow.Author.Tests.{eq-eqb, ne_eqb}
 use Rattle.encoding.proofs.Parts.{empty_reference, inline_reference}
-use borrow.Author.Rules.{rules}
 use Rattle.encoding.proofs.text_reference.Goals as goal
 
 pub returns-then-index-ne0 : goal.returns-then-index-ne0

@@ -2,7 +2,6 @@
 use native.Mathlib.Omega.{arith}
 use Rattle.words.proofs.Streams.{length-padded}
 use borrow.Author.Tests.{eq-eqb, ne_eqb}
-use borrow.Author.Rules.{rules}
 use Rattle.encoding.proofs.text_words.Goals as goal
 
 pub returns-then-index-ne0 : goal.returns-then-index-ne0

@@ -1,5 +1,4 @@
 -- `losses::both_padding_zero` meets its contract: each answer is what the definition gives under the tests that led there. Assumes nothing.
-use borrow.Author.Rules.{rules}
 use Rattle.losses.proofs.both_padding_zero.Goals as goal
 
 pub returns-then-padding_zero : goal.returns-then-padding_zero

@@ -1,7 +1,6 @@
 -- `losses::check_argument` meets its contract: what it loses is seen from its texts (checked_texts). Assumes nothing.
 use mathlib.Core.Path.{sym, ◌∙◌}
 use Rattle.losses.proofs.Checking.{checked_texts, checked_number}
-use borrow.Author.Rules.{rules}
 use Rattle.losses.proofs.check_argument.Goals as goal
 
 pub texts_keep-keeps-requires : goal.texts_keep-keeps-requires

@@ -1,12 +1,10 @@
 -- `losses::check_arguments` meets its contract: the loop keeps the definition of the whole equal to that of what is left. Assumes nothing.
-use Prim.Native.Nat.{◌+◌, ◌-◌}
-use mathlib.Core.Path.{◌≡◌, refl, sym, ◌∙◌}
-use lib.ListN.{length, length-drop}
+use mathlib.Core.Path.{refl, sym, ◌∙◌}
+use lib.ListN.{length-drop}
 use native.Mathlib.Omega.{arith}
 use Rattle.format.proofs.Headers.{part_from}
 use Rattle.losses.specs.Models.Checking.{checked_arguments}
-use Rattle.losses.proofs.Checking.{end_from, checked_inside, check_turn, check_refused, check_end}
-use borrow.Author.Rules.{rules}
+use Rattle.losses.proofs.Checking.{checked_inside, check_turn, check_refused, check_end}
 use Rattle.losses.proofs.check_arguments.Goals as goal
 
 pub loop-left-init : goal.loop-left-init
@@ -56,5 +54,5 @@ loop-left-preserved c =
 pub returns : goal.returns
 returns c =
     rw c.both-keeps-2.ensures (sym (c.loop-left.invariant.0 ∙ check_end c.args.f c.loop-left.keeps c.loop-left.left c.loop-left.rest.now
-      c.loop-left.at c.args.extra
+    c.loop-left.at c.args.extra
     (omega (arith, c.loop-left-test.false))))

@@ -1,10 +1,8 @@
-use Prim.Native.Nat.{◌+◌, ◌-◌}
-use mathlib.Core.Path.{◌≡◌, refl, sym, ◌∙◌}
-use lib.ListN.{length, length-drop}
-use native.Mathlib.Omega.{arith}
-use Rattle.format.proofs.Headers.{part_from}
+use Prim.Native.Nat.{◌+◌}
+use mathlib.Core.Path.{◌≡◌}
+use lib.ListN.{length}
 use Rattle.losses.specs.Models.Checking.{checked_arguments}
-use Rattle.losses.proofs.Checking.{end_from, checked_inside, check_turn, check_refused, check_end}
+use Rattle.losses.proofs.Checking.{end_from}
 use Rattle.losses.proofs.check_arguments.Given as goal
 
 abbrev pub invariant-loop-left : goal.invariant-loop-left

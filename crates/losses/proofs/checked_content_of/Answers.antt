@@ -7,7 +7,6 @@ use Rattle.records.specs.Record.{content_of}
 use Rattle.records.specs.Loss.{record_keeps}
 use Rattle.records.proofs.Contents.{content_inside}
 use Rattle.records.proofs.Lookups.{plain_content}
-use borrow.Author.Rules.{rules}
 use Rattle.losses.proofs.checked_content_of.Goals as goal
 
 pub returns-then-layout : goal.returns-then-layout

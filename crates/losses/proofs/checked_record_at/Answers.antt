@@ -7,7 +7,6 @@ use lib.Seq.{length-take-le}
 use Rattle.format.proofs.Headers.{part_from, extent_read}
 use Rattle.records.specs.Record.{record_of}
 use Rattle.records.specs.Loss.{record_keeps}
-use borrow.Author.Rules.{rules}
 use Rattle.losses.proofs.checked_record_at.Goals as goal
 
 -- the clauses, of their product

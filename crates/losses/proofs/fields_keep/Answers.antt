@@ -1,7 +1,6 @@
 -- `losses::fields_keep` meets its contract: each answer is what the definition gives under the tests that led there. Assumes nothing.
 use borrow.Author.Tests.{eq-eqb, ne_eqb}
 use Rattle.losses.specs.Models.Checking.{fields_keep}
-use borrow.Author.Rules.{rules}
 use Rattle.losses.proofs.fields_keep.Goals as goal
 
 pub returns-then-reserved-ne0 : goal.returns-then-reserved-ne0

@@ -1,7 +1,6 @@
 -- `losses::held_bytes` meets its contract: each answer is what the definition gives under the tests that led there. Assumes nothing.
 use borrow.Author.Tests.{eq-eqb, ne_eqb}
 use Rattle.arguments.specs.Models.Reading.{held_bytes}
-use borrow.Author.Rules.{rules}
 use Rattle.losses.proofs.held_bytes.Goals as goal
 
 pub returns-then-variant-eq6 : goal.returns-then-variant-eq6

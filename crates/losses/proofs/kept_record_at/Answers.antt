@@ -6,7 +6,6 @@ use lib.ListN.{length, take, drop, length-drop}
 use lib.Seq.{length-take-le}
 use Rattle.format.proofs.Headers.{part_from, extent_read}
 use Rattle.records.specs.Record.{record_of}
-use borrow.Author.Rules.{rules}
 use Rattle.losses.proofs.kept_record_at.Goals as goal
 
 pub slice_bounds-kept_content_of-end : goal.slice_bounds-kept_content_of-end

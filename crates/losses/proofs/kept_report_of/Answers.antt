@@ -6,7 +6,6 @@ use native.Mathlib.Omega.{arith}
 use Rattle.records.specs.Layout.{layout_of, report_of}
 use Rattle.records.proofs.Layouts.{layout_fits, fields_read}
 use Rattle.losses.proofs.Kept.{kept-report}
-use borrow.Author.Rules.{rules}
 use Rattle.losses.proofs.kept_report_of.Goals as goal
 
 pub take_fields-fields-requires : goal.take_fields-fields-requires

@@ -5,7 +5,6 @@ use Prim.Native.Nat.{◌+◌}
 use lib.ListN.{length}
 use Rattle.records.specs.Loss.{record_keeps}
 use Rattle.records.specs.Models.Bounds.{ContentInside}
-use borrow.Author.Rules.{rules}
 use Rattle.losses.proofs.plain_keeps.Goals as goal
 
 pub stream_keeps-requires : goal.stream_keeps-requires

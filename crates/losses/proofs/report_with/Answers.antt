@@ -1,5 +1,4 @@
 -- `losses::report_with` meets its contract: each answer is what the definition gives under the tests that led there. Assumes nothing.
-use borrow.Author.Rules.{rules}
 use Rattle.losses.proofs.report_with.Goals as goal
 
 pub returns-in-Refused : goal.returns-in-Refused

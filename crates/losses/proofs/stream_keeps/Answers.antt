@@ -1,7 +1,6 @@
 -- `losses::stream_keeps` meets its contract: each answer is what the definition gives under the tests that led there. Assumes nothing.
 use native.Mathlib.Omega.{arith}
 use Rattle.records.specs.Loss.{stream_keeps}
-use borrow.Author.Rules.{rules}
 use Rattle.losses.proofs.stream_keeps.Goals as goal
 
 pub words_keep-requires : goal.words_keep-requires

@@ -4,7 +4,6 @@ use native.Mathlib.Omega.{arith}
 use borrow.Author.Tests.{eq-eqb, ne_eqb, lt-ltb, le-ltb}
 use Rattle.losses.specs.Models.Checking.{texts_keep}
 use Rattle.losses.proofs.Checking.{texts_stand}
-use borrow.Author.Rules.{rules}
 use Rattle.losses.proofs.texts_keep.Goals as goal
 
 pub word-header-requires : goal.word-header-requires

@@ -2,7 +2,6 @@
 use mathlib.Core.Path.{sym, ◌∙◌}
 use borrow.Author.Tests.{eq-eqb, ne_eqb}
 use mathlib.Core.Bool.{and-true}
-use borrow.Author.Rules.{rules}
 use Rattle.losses.proofs.texts_padding_zero.Goals as goal
 
 pub both_padding_zero-requires : goal.both_padding_zero-requires

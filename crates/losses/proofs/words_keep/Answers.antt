@@ -1,7 +1,6 @@
 -- `losses::words_keep` meets its contract: each answer is what the definition gives under the tests that led there. Assumes nothing.
 use borrow.Author.Tests.{eq-eqb, ne_eqb}
 use Rattle.records.specs.Loss.{words_keep}
-use borrow.Author.Rules.{rules}
 use Rattle.losses.proofs.words_keep.Goals as goal
 
 pub returns-then-source-size : goal.returns-then-source-size

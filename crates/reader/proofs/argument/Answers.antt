@@ -6,7 +6,6 @@ use lib.ListN.{length}
 use Rattle.tables.proofs.Tables.{small_fits}
 use Rattle.reader.proofs.Steps.{admitted}
 use Rattle.reader.specs.Ask.{argument_reply}
-use borrow.Author.Rules.{rules}
 use Rattle.reader.proofs.argument.Goals as goal
 
 pub opening_number-refused-requires : goal.opening_number-refused-requires
@@ -30,10 +29,21 @@ ask_place-requires c =
 pub returns-then-belongs : goal.returns-then-belongs
 unfolding argument_reply
 returns-then-belongs c =
-    simp (← c.ask_place.ensures, c.if-belongs.true, ← c.belongs.ensures, eq-eqb _ _ c.if-refused-ne0.false,
-      ← c.opening_number-refused.ensures, ← c.small_format-f.ensures)
+    simp (
+      ← c.ask_place.ensures,
+      c.if-belongs.true,
+      ← c.belongs.ensures,
+      eq-eqb _ _ c.if-refused-ne0.false,
+      ← c.opening_number-refused.ensures,
+      ← c.small_format-f.ensures,
+    )
 
 pub returns : goal.returns
 unfolding argument_reply
-returns c = simp (c.if-belongs.false, ← c.belongs.ensures, eq-eqb _ _ c.if-refused-ne0.false, ← c.opening_number-refused.ensures,
-    ← c.small_format-f.ensures)
+returns c = simp (
+  c.if-belongs.false,
+  ← c.belongs.ensures,
+  eq-eqb _ _ c.if-refused-ne0.false,
+  ← c.opening_number-refused.ensures,
+  ← c.small_format-f.ensures,
+)

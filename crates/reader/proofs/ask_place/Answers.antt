@@ -10,7 +10,6 @@ use Rattle.contexts.proofs.Contexts.{belongs_facts}
 use Rattle.records.specs.Record.{record_of}
 use Rattle.reader.specs.Ask.{asked_place}
 use Rattle.reader.proofs.Asks.{extent_behind, asked_none, asked_record}
-use borrow.Author.Rules.{rules}
 use Rattle.reader.proofs.ask_place.Goals as goal
 
 pub returns-then-at-ne0 : goal.returns-then-at-ne0

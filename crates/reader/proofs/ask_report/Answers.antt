@@ -1,5 +1,4 @@
 -- `reader::ask_report` meets its contract: each answer is what the definition gives under the tests that led there. Assumes nothing.
-use borrow.Author.Rules.{rules}
 use Rattle.reader.proofs.ask_report.Goals as goal
 
 pub returns-in-Refused : goal.returns-in-Refused

@@ -1,6 +1,5 @@
 -- `reader::plain_answer` meets its contract: each answer is what the definition gives under the tests that led there. Assumes nothing.
 use Rattle.reader.specs.Step.{plain_answer}
-use borrow.Author.Rules.{rules}
 use Rattle.reader.proofs.plain_answer.Goals as goal
 
 pub returns-in-Magic : goal.returns-in-Magic

@@ -1,7 +1,6 @@
 -- `reader::show_seen` meets its contract: each answer is what the definition gives for what was matched. Assumes nothing.
 use Rattle.reader.specs.Models.Replies.{seen_reply}
 use Rattle.reader.specs.Step.{stopping}
-use borrow.Author.Rules.{rules}
 use Rattle.reader.proofs.show_seen.Goals as goal
 
 pub returns-in-Refused : goal.returns-in-Refused

@@ -1,7 +1,6 @@
 -- The replies to what is seen of a record, and to an argument that is found: models of code, which no promise uses.
 use Rattle.std.specs.Prelude.{ℕ, List}
 use Rattle.format.specs.declared.Format.{Format}
-use Rattle.arguments.specs.Argument.{refused}
 use Rattle.contexts.specs.declared.State.{State}
 use Rattle.contexts.specs.Context.{moved}
 use Rattle.views.specs.declared.Seen.{Seen}

@@ -1,13 +1,11 @@
 -- `tables::entry_at` meets its contract: an entry stands for what its header says (entry_header), every other one is bad. Assumes nothing.
 use borrow.Author.Tests.{ne_eqb}
 use native.Mathlib.Omega.{arith}
-use mathlib.Core.Path.{◌≡◌, sym, ap, ◌∙◌}
-use mathlib.Core.Logic.{◌⊎◌}
+use mathlib.Core.Path.{sym, ap, ◌∙◌}
 use Rattle.words.specs.Word.{field}
 use Rattle.tables.specs.Table.{entry_at}
 use Rattle.tables.specs.Models.Entries.{header_entry}
 use Rattle.tables.proofs.Entries.{entry_cut, entry_zero, entry_other, entry_outside, entry_header, either_table}
-use borrow.Author.Rules.{rules}
 use Rattle.tables.proofs.entry_at.Goals as goal
 
 pub returns-then-entry-ne0 : goal.returns-then-entry-ne0

@@ -4,7 +4,6 @@ use native.Mathlib.Omega.{arith}
 use native.Mathlib.Nat.{mul-le-mul_right}
 use Prim.Native.Nat.{◌+◌}
 use Rattle.tables.specs.Table.{highest_of, position}
-use borrow.Author.Rules.{rules}
 use Rattle.tables.proofs.position_of.Goals as goal
 
 pub overflow_mul-start : goal.overflow_mul-start
@@ -26,8 +25,12 @@ returns-then-table-eq3 c = simp (eq-eqb _ _ c.if-table-eq3.true)
 
 pub overflow_add-result-2 : goal.overflow_add-result-2
 unfolding highest_of
-overflow_add-result-2 c = let i = simp (ne_eqb _ _ c.if-table-eq3.false) at c.requires.2 in omega (arith, i, c.requires.0.indexes,
-    mul-le-mul_right (c.args.f.highest + 257) c.requires.1)
+overflow_add-result-2 c = let i = simp (ne_eqb _ _ c.if-table-eq3.false) at c.requires.2 in omega (
+  arith,
+  i,
+  c.requires.0.indexes,
+  mul-le-mul_right (c.args.f.highest + 257) c.requires.1,
+)
 
 pub returns : goal.returns
 unfolding position

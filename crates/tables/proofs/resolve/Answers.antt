@@ -3,7 +3,6 @@ use borrow.Author.Tests.{eq-eqb, ne_eqb, lt-ltb, le-ltb}
 use native.Mathlib.Omega.{arith}
 use Rattle.tables.specs.Table.{resolved}
 use Rattle.tables.proofs.Tables.{at_lt}
-use borrow.Author.Rules.{rules}
 use Rattle.tables.proofs.resolve.Goals as goal
 
 pub returns-then-highest_of-index : goal.returns-then-highest_of-index
@@ -40,5 +39,11 @@ returns-in-Inline c = simp c.in-Inline.is
 pub returns-else-entry-eq0 : goal.returns-else-entry-eq0
 unfolding resolved
 returns-else-entry-eq0 c =
-    simp (← c.entry_at.ensures, ne_eqb _ _ c.if-entry-eq0.false, ← c.position_of-at.ensures, le-ltb _ _ c.if-highest_of-index.false,
-      ← c.highest_of.ensures, c.in-Index.is)
+    simp (
+      ← c.entry_at.ensures,
+      ne_eqb _ _ c.if-entry-eq0.false,
+      ← c.position_of-at.ensures,
+      le-ltb _ _ c.if-highest_of-index.false,
+      ← c.highest_of.ensures,
+      c.in-Index.is,
+    )

@@ -6,7 +6,6 @@ use Rattle.records.proofs.Lookups.{plain_content}
 use Rattle.views.specs.Models.Numbered.{argument_in}
 use Rattle.views.proofs.Lookups.{report_content}
 use Rattle.views.proofs.Numbered.{no_argument}
-use borrow.Author.Rules.{rules}
 use Rattle.views.proofs.find_argument.Goals as goal
 
 pub returns-then-layout-number : goal.returns-then-layout-number

@@ -1,6 +1,5 @@
 -- `views::is_bad` meets its contract: each answer is what the definition gives under the tests that led there. Assumes nothing.
 use Rattle.views.specs.Shown.{is_bad}
-use borrow.Author.Rules.{rules}
 use Rattle.views.proofs.is_bad.Goals as goal
 
 pub returns-in-Bad : goal.returns-in-Bad

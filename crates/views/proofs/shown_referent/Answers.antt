@@ -1,7 +1,6 @@
 -- `views::shown_referent` meets its contract: each answer is what the definition gives under the tests that led there. Assumes nothing.
 use borrow.Author.Tests.{eq-eqb, ne_eqb}
 use Rattle.views.specs.Shown.{shown_referent}
-use borrow.Author.Rules.{rules}
 use Rattle.views.proofs.shown_referent.Goals as goal
 
 pub shown_thread-requires : goal.shown_thread-requires

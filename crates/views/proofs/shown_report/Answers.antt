@@ -1,5 +1,4 @@
 -- `views::shown_report` meets its contract: each part is what the definition has for it. Assumes nothing.
-use borrow.Author.Rules.{rules}
 use Rattle.views.proofs.shown_report.Goals as goal
 
 pub returns : goal.returns

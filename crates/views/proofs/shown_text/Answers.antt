@@ -1,6 +1,5 @@
 -- `views::shown_text` meets its contract: each answer is what the definition gives under the tests that led there. Assumes nothing.
 use Rattle.views.specs.Shown.{shown_text}
-use borrow.Author.Rules.{rules}
 use Rattle.views.proofs.shown_text.Goals as goal
 
 pub returns-in-Bad : goal.returns-in-Bad

@@ -4,7 +4,6 @@ use mathlib.Core.Path.{subst}
 use lib.ListN.{length}
 use Rattle.views.specs.Shown.{shown_thread}
 use Rattle.views.specs.Models.Bounds.{ThreadInside}
-use borrow.Author.Rules.{rules}
 use Rattle.views.proofs.shown_thread.Goals as goal
 
 pub word-requires : goal.word-requires
