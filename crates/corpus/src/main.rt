@@ -145,11 +145,8 @@ fn next_case<F: Read>(
 
 // Nothing says that a file ends, so the cases are counted, up to a number that no file reaches.
 fn show_cases<F: Read>(rt: &(impl Print + Eprint), file: &mut F, room: &mut [u32], out: &mut [u8]) {
-    let mut case = 0;
-    while case < 1000000 {
-        if next_case(rt, file, case, room, out) {
-            case += 1;
-        } else {
+    for case in 0..1000000 {
+        if !next_case(rt, file, case, room, out) {
             return;
         }
     }

@@ -78,20 +78,16 @@ fn put_half(out: &mut [u8], at: usize, n: u32) -> usize {
 
 fn put_ids(out: &mut [u8], at: usize, ids: [u32; 8]) -> usize {
     let mut last = at;
-    let mut i = 0;
-    while i < 8 {
-        last = put_half(out, last, ids[i]);
-        i += 1;
+    for id in &ids {
+        last = put_half(out, last, *id);
     }
     last
 }
 
 fn put_rates(out: &mut [u8], at: usize, rates: [u64; 9]) -> usize {
     let mut last = at;
-    let mut i = 0;
-    while i < 9 {
-        last = put_number(out, last, rates[i]);
-        i += 1;
+    for rate in &rates {
+        last = put_number(out, last, *rate);
     }
     last
 }
@@ -131,10 +127,8 @@ fn put_change(out: &mut [u8], at: usize, before: &[u32], after: &[u32], position
 
 fn put_changes(out: &mut [u8], at: usize, before: &[u32], after: &[u32]) -> usize {
     let mut last = at;
-    let mut i = 0;
-    while i < before.len() {
+    for i in 0..before.len() {
         last = put_change(out, last, before, after, i);
-        i += 1;
     }
     last
 }
@@ -192,11 +186,8 @@ fn read_entry<F: Read>(file: &mut F, tables: &mut [u32]) -> bool {
 
 // Sets so many table entries, and answers whether they could all be read.
 fn read_entries<F: Read>(file: &mut F, tables: &mut [u32], count: u32) -> bool {
-    let mut left = count;
-    while 0 < left {
-        if read_entry(file, tables) {
-            left -= 1;
-        } else {
+    for _ in 0..count {
+        if !read_entry(file, tables) {
             return false;
         }
     }
@@ -329,11 +320,8 @@ fn next_probe<F: Read>(
 
 // Nothing says that a file ends, so the calls are counted, up to a number that no file reaches.
 fn show_probes<F: Read>(rt: &(impl Print + Eprint), file: &mut F, out: &mut [u8]) {
-    let mut probe = 0;
-    while probe < 1000000 {
-        if next_probe(rt, file, probe, out) {
-            probe += 1;
-        } else {
+    for probe in 0..1000000 {
+        if !next_probe(rt, file, probe, out) {
             return;
         }
     }

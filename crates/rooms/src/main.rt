@@ -21,41 +21,33 @@ fn byte_before(position: usize) -> u8 {
 }
 
 fn fill_words(words: &mut [u32]) {
-    let mut i = 0;
-    while i < words.len() {
+    for i in 0..words.len() {
         words[i] = word_before(i);
-        i += 1;
     }
 }
 
 fn fill_bytes(bytes: &mut [u8]) {
-    let mut i = 0;
-    while i < bytes.len() {
+    for i in 0..bytes.len() {
         bytes[i] = byte_before(i);
-        i += 1;
     }
 }
 
 // Whether the words from a position on are as they were.
 fn words_kept(words: &[u32], from: usize) -> bool {
-    let mut i = from;
-    while i < words.len() {
+    for i in from..words.len() {
         if words[i] != word_before(i) {
             return false;
         }
-        i += 1;
     }
     true
 }
 
 // Whether the bytes from a position on are as they were.
 fn bytes_kept(bytes: &[u8], from: usize) -> bool {
-    let mut i = from;
-    while i < bytes.len() {
+    for i in from..bytes.len() {
         if bytes[i] != byte_before(i) {
             return false;
         }
-        i += 1;
     }
     true
 }
@@ -65,12 +57,10 @@ fn words_zero(words: &[u32], to: usize) -> bool {
     if words.len() < to {
         return false;
     }
-    let mut i = 0;
-    while i < to {
+    for i in 0..to {
         if words[i] != 0 {
             return false;
         }
-        i += 1;
     }
     true
 }
@@ -286,11 +276,8 @@ fn next_archive<F: Read>(rt: &(impl Print + Eprint), file: &mut F) -> bool {
 
 // Nothing says that a file ends, so the archives are counted, up to a number that no file reaches.
 fn show_archives<F: Read>(rt: &(impl Print + Eprint), file: &mut F) {
-    let mut left = 1000000u64;
-    while 0 < left {
-        if next_archive(rt, file) {
-            left -= 1;
-        } else {
+    for _ in 0..1000000u64 {
+        if !next_archive(rt, file) {
             return;
         }
     }
