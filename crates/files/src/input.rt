@@ -1,7 +1,7 @@
 // Reading from a reader into a lent buffer. What a read that failed has in common with the end of the input, that no
 // byte came, is told apart.
 ghost use Rattle.std.specs.Prelude.{◌≡◌};
-ghost use Rattle.files.specs.Input.{Reads, ReadsBytes};
+ghost use Rattle.files.specs.Input.{Reads, ReadsBytes, Takes, TakesBytes};
 
 use std::io::Read;
 
@@ -22,7 +22,8 @@ pub enum Outcome {
 
 // Reads until the buffer is full or the input ends. A read that a signal interrupts is one that failed.
 pub fn read<R: Read>(reader: &mut R, buffer: &mut [u8]) -> Input
-    ensures { Reads buffer.old result buffer.new }
+    ensures reads { Reads buffer.old result buffer.new }
+    ensures takes { Takes (R.remaining reader.old) (R.remaining reader.new) result buffer.new }
 {
     let mut n = 0;
     while n < buffer.len() {
@@ -37,7 +38,8 @@ pub fn read<R: Read>(reader: &mut R, buffer: &mut [u8]) -> Input
 
 // Reads n bytes to the start of a buffer.
 pub fn read_bytes<R: Read>(reader: &mut R, buffer: &mut [u8], n: usize) -> Outcome
-    ensures { ReadsBytes buffer.old n result buffer.new }
+    ensures reads { ReadsBytes buffer.old n result buffer.new }
+    ensures takes { TakesBytes (R.remaining reader.old) (R.remaining reader.new) n result buffer.new }
 {
     if buffer.len() < n {
         return Outcome::Failed; // the buffer is not touched
