@@ -1,4 +1,6 @@
 // Arguments, written into lent bytes at a place. Each function answers the place right behind what it wrote.
+#![tactic(auto)]
+
 ghost use Rattle.std.specs.Prelude.{◌≡◌, ◌+◌, ◌*◌, ◌^◌, ◌<◌, ◌≤◌, [], ◌∷◌, length};
 ghost use Rattle.words.specs.Stream.{overwritten};
 ghost use Rattle.encoding.specs.Encoded.{word as wordPart, encoded_argument};

@@ -1,4 +1,6 @@
 // The arguments of an event, apart from any table. An argument is taken from the part of the event that starts at it.
+#![tactic(auto)]
+
 ghost use Rattle.std.specs.Prelude.{◌≡◌, ◌+◌, ◌-◌, ◌*◌, ◌^◌, ◌<◌, ◌≤◌, length};
 ghost use Rattle.arguments.specs.Argument.{header_scalar, word_scalar, holds_word, argument_of};
 ghost use Rattle.arguments.specs.Models.Reading.{take_value, value_text, texts_of, sought_of};

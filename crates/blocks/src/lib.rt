@@ -1,5 +1,7 @@
 // Answers, arguments and states as numbers in lent words, and the state that numbers stand for. Functions that are called by `exports`
 // put all their numbers, or none where the words are too few.
+#![tactic(auto)]
+
 ghost use Rattle.std.specs.Prelude.{◌≡◌, [], ◌∷◌, ◌+◌, ◌%◌, ◌^◌, ◌≤◌, length, get_or};
 ghost use Rattle.words.specs.Stream.{overwritten};
 ghost use Rattle.words.specs.Word.{unsigned, bit};

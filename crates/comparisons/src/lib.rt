@@ -1,4 +1,6 @@
 // Many pairs of texts compared in one call, eight bytes at a time and byte by byte, for the bench to time. Nothing is asked of a caller.
+#![tactic(auto)]
+
 ghost use Rattle.std.specs.Prelude.{◌≡◌, ◌≤◌, min};
 ghost use Rattle.words.specs.Word.{pick};
 ghost use Rattle.words.specs.Stream.{same_bytes};

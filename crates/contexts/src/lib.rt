@@ -1,4 +1,6 @@
 // The state of a reading, and the contexts of providers.
+#![tactic(auto)]
+
 ghost use Rattle.std.specs.Prelude.{◌≡◌, ◌+◌, ◌<◌, ◌≤◌, set};
 ghost use Rattle.contexts.specs.Context.{opening, belongs_to, find_id, moved, rated, entering, provider_of, rate_of};
 

@@ -1,5 +1,7 @@
 // The effect of a record, and what it makes of the state and of the tables: the reader's step and both passes of a repack follow
 // it. Assumes that the state names one of nine contexts, and that what is registered has an index of its table.
+#![tactic(auto)]
+
 ghost use Rattle.std.specs.Prelude.{◌≡◌, ◌^◌, ◌<◌, ◌≤◌};
 ghost use Rattle.records.specs.Effect.{effect_of};
 ghost use Rattle.tables.specs.Models.Entries.{FormatFits};

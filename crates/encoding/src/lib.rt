@@ -1,4 +1,6 @@
 // Records, written into lent bytes at a place. Each function answers the place right behind what it wrote.
+#![tactic(auto)]
+
 ghost use Rattle.std.specs.Prelude.{◌≡◌, [], ◌∷◌, ◌+◌, ◌*◌, ◌^◌, ◌<◌, ◌≤◌, length};
 ghost use Rattle.words.specs.Stream.{stream_words, padded, overwritten, magic as magic_bytes};
 ghost use Rattle.records.specs.Item.{thread as thread_of, provider_info, section, provider_event, initialization, event_fields, log_fields, own_layout};

@@ -1,5 +1,7 @@
 // Reading and repacking for programs in other languages: each call puts what it answers as numbers at the start of lent words, and
 // replies how many. Nothing is asked of a caller.
+#![tactic(auto)]
+
 ghost use Rattle.std.specs.Prelude.{◌≡◌, length};
 ghost use Rattle.format.specs.Limits.{small_format};
 ghost use Rattle.reader.specs.Step.{open_reply, open_tables, step_reply, step_tables};

@@ -1,5 +1,7 @@
 // The first pass of a repack: it finds what the archive is refused by, and counts the uses of each text and thread in the room.
 // The room is four stretches of words: the reading tables, and the three of the tally.
+#![tactic(auto)]
+
 ghost use Rattle.std.specs.Prelude.{◌≡◌, [], ◌∷◌, ◌++◌, true, ℕ, ◌+◌, ◌*◌, ◌<◌, ◌≤◌, length, take, drop, get_or};
 ghost use Rattle.passes.specs.Models.Last.{tables_of};
 ghost use Rattle.format.specs.Limits.{longest_archive};

@@ -1,4 +1,6 @@
 // What every record is made of, apart from any table: limits, references, headers, and the parts of a body.
+#![tactic(auto)]
+
 ghost use Rattle.std.specs.Prelude.{◌≡◌, ◌+◌, ◌*◌, ◌^◌, ◌<◌, length};
 ghost use Rattle.format.specs.Limits.{small_format};
 ghost use Rattle.format.specs.Header.{record_words, extent_of, archive_number};

@@ -1,4 +1,6 @@
 // A hash of some bytes, in which every byte and every bit has a part: eight products of halves of words for each 32 bytes.
+#![tactic(auto)]
+
 ghost use Rattle.std.specs.Prelude.{◌≡◌, ◌+◌, ◌^◌, ◌<◌, ◌≤◌, length};
 ghost use Rattle.hashing.specs.Models.Hash.{swapped_of, spread_of, join_of, least_of, block_of, half_at, few_of, hash_of, folded_of};
 

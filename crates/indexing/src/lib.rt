@@ -1,5 +1,7 @@
 // Choices and indexes in the table of a tally once the uses are counted: in place of the uses of each key stands 0 where it is spelled inline,
 // 1 where it is registered and has no index yet, and one more than its index where it has one. The counters of the marks count the indexes given.
+#![tactic(auto)]
+
 ghost use Rattle.std.specs.Prelude.{◌≡◌, ◌-◌, ◌*◌, ◌^◌, ◌<◌, ◌≤◌};
 ghost use Rattle.tally.specs.declared.Slot.TheVariants.{Here};
 ghost use Rattle.tally.specs.Models.Slots.{key_of, find_of, raised, count_at};

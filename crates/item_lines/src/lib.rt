@@ -1,5 +1,7 @@
 // The lines of document 01's listing, each put into a lent buffer. Each function puts its bytes from a place on and answers the place
 // behind them; what does not fit is left out. Nothing here asks anything of its caller.
+#![tactic(auto)]
+
 ghost use Rattle.lines.specs.Put.{Puts};
 ghost use Rattle.item_lines.specs.Line.{provider_info_line, section_line, provider_event_line, initialization_line, skipped_line, timestamp_shown, event_start, referents_shown, extra_shown, event_shown, log_shown, own_shown, report_line, argument_line, end_line, answer_line, asked_line};
 

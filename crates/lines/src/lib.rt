@@ -1,5 +1,7 @@
 // Numbers, texts and references, put into a lent buffer as a line shows them. Each function puts its bytes from a place on
 // and answers the place behind them; what does not fit is left out. Nothing here asks anything of its caller.
+#![tactic(auto)]
+
 ghost use Rattle.std.specs.Prelude.{◌≡◌, ◌-◌, ◌+◌, ◌^◌, ◌<◌, ◌≤◌, min, ◌++◌, negsuc, length, take};
 ghost use Rattle.words.specs.Stream.{overwritten};
 ghost use Rattle.io.specs.Digits.{last_digits};

@@ -1,5 +1,7 @@
 // The listing of document 01, put into a lent buffer. Each function puts its bytes from a place on and answers the place
 // behind them; what does not fit is left out. Nothing here asks anything of its caller.
+#![tactic(auto)]
+
 ghost use Rattle.std.specs.Prelude.{◌≡◌};
 ghost use Rattle.format.specs.Limits.{small_format};
 ghost use Rattle.reader.specs.Step.{step_reply, step_tables};

@@ -1,5 +1,7 @@
 // What stands in a record, and whether repacking loses something of it: bits and words that no item has. Both are found in one walk over its
 // arguments. A record that is known to lose nothing is read without any.
+#![tactic(auto)]
+
 ghost use Rattle.std.specs.Prelude.{◌≡◌, true, false, ◌&&◌, ◌+◌, ◌-◌, ◌*◌, ◌^◌, ◌<◌, ◌≤◌, length, take, drop, eqb};
 ghost use Rattle.words.specs.Word.{pick, word_at};
 ghost use Rattle.words.specs.Stream.{stream_words};

@@ -1,4 +1,6 @@
 // Repacking: the shortest archive that reads as the same list of items. Nothing here asks anything of its caller.
+#![tactic(auto)]
+
 ghost use Rattle.std.specs.Prelude.{◌≡◌, ℕ, ◌*◌, ◌<◌, ◌≤◌, length, drop, get_or};
 ghost use Rattle.std.proofs.Math.Option.{none};
 ghost use Rattle.format.specs.Limits.{small_format};

@@ -1,5 +1,7 @@
 // What a record does to the state and the tables of a pass over an archive, by its effect; and the slots that a pass remembers for the entries of the
 // tables.
+#![tactic(auto)]
+
 ghost use Rattle.std.specs.Prelude.{◌≡◌, ◌^◌, ◌<◌, ◌≤◌};
 ghost use Rattle.records.specs.Effect.{effect_of};
 ghost use Rattle.tables.specs.Models.Entries.{FormatFits};

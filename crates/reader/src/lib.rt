@@ -1,4 +1,6 @@
 // Reading a trace: opening, stepping, asking for an argument and for a text. Nothing here asks anything of its caller.
+#![tactic(auto)]
+
 ghost use Rattle.std.specs.Prelude.{◌≡◌, ◌+◌, ◌^◌, ◌<◌, ◌≤◌, true, length};
 ghost use Rattle.words.specs.Stream.{part_of};
 ghost use Rattle.format.specs.Limits.{small_format};

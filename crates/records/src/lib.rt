@@ -1,4 +1,6 @@
 // One record apart from any table and context: how it is laid out, and what stands in it.
+#![tactic(auto)]
+
 ghost use Rattle.std.specs.Prelude.{◌≡◌, false, ◌+◌, ◌-◌, ◌*◌, ◌^◌, ◌<◌, ◌≤◌, length};
 ghost use Rattle.words.specs.Word.{word_at};
 ghost use Rattle.format.specs.Models.Bounds.{PartFits};

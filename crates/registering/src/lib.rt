@@ -1,4 +1,6 @@
 // Whether a key, a text or a thread, is registered, by the words that it takes and how often it is used.
+#![tactic(auto)]
+
 ghost use Rattle.std.specs.Prelude.{◌≡◌};
 ghost use Rattle.registering.specs.Registers.{registers};
 

@@ -1,6 +1,8 @@
 // How a record is written again: the registrations before it that are new, its references by index or inline, its arguments and its header.
 // The room is four stretches of words: the reading tables, and the three of the tally, in which choices stand for uses; the last remembers the
 // slots of what the entries of the reading tables stand for.
+#![tactic(auto)]
+
 ghost use Rattle.std.specs.Prelude.{◌≡◌, [], ◌∷◌, ◌++◌, false, ◌+◌, ◌-◌, ◌*◌, ◌^◌, ◌<◌, ◌≤◌, length};
 ghost use Rattle.passes.specs.Models.Item.{plain_item};
 ghost use Rattle.indexing.specs.Models.Indexes.{Settled};

@@ -1,5 +1,7 @@
 // The second pass of a repack: it writes each item's record again, and before it the registrations that are new. Assumes what `Asks` says of
 // archive, room and output. The first pass took the archive, so that no record of it loses anything.
+#![tactic(auto)]
+
 ghost use Rattle.std.specs.Prelude.{◌≡◌, ◌*◌, ◌<◌, length, drop};
 ghost use Rattle.passes.specs.Models.Codes.{Chosen};
 ghost use Rattle.passes.specs.Models.Last.{tables_of};

@@ -1,4 +1,6 @@
 // The names sheet of request W5: whether it keeps its rules, and what an index stands for in it. Any bytes may be handed in.
+#![tactic(auto)]
+
 ghost use Rattle.std.specs.Prelude.{◌≡◌, ◌+◌, ◌≤◌, ◌<◌, length};
 ghost use Rattle.sheets.specs.Sheet.{number_at, starts_from, is_whole, is_good, first_bad, has_version, breach_of, find_of};
 

@@ -1,5 +1,7 @@
 // The reading tables: which records they name, and what a reference stands for. An entry is trusted for nothing:
 // the record that it names is read again each time.
+#![tactic(auto)]
+
 ghost use Rattle.std.specs.Prelude.{◌≡◌, ◌+◌, ◌*◌, ◌^◌, ◌<◌, ◌≤◌, length};
 ghost use Rattle.tables.specs.Table.{table_words, highest_of, position, cleared, entry_at, resolved};
 ghost use Rattle.tables.specs.Models.Entries.{FormatFits, header_entry};

@@ -3,6 +3,8 @@
 // key's bytes and, above 16 bits, its uses. A place of 0 is a free slot. The last 18 words of these two are no slots; those of the second
 // count the distinct keys of each mark. The third stretch remembers slots: its word at a number that the caller chooses has one more than
 // a slot, or 0.
+#![tactic(auto)]
+
 ghost use Rattle.std.specs.Prelude.{◌≡◌, ◌+◌, ◌-◌, ◌*◌, ◌/◌, ◌%◌, ◌^◌, ◌<◌, ◌≤◌};
 ghost use Rattle.words.specs.Stream.{same_bytes};
 ghost use Rattle.tally.specs.Models.Slots.{label_of, key_of, place_in, label_in, uses_in, with_uses, start_of, next_of, find_of, raised, used_again, filled, slot_word, remembered_at, remembering, added_slot, added, cost_of, measure_of};

@@ -1,5 +1,7 @@
 // A record as it is shown: what it refers to looked up, its arguments walked over once, and the argument of a number found in it.
 // Functions here serve `reader`; they ask for bounds, which it proves.
+#![tactic(auto)]
+
 ghost use Rattle.std.specs.Prelude.{◌≡◌, ◌+◌, ◌-◌, ◌^◌, ◌<◌, ◌≤◌, true, length};
 ghost use Rattle.words.specs.Word.{word_at};
 ghost use Rattle.tables.specs.Table.{table_words};

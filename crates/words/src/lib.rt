@@ -1,4 +1,6 @@
 // Words of eight bytes, their fields, and streams of bytes. Nothing here knows a record.
+#![tactic(auto)]
+
 ghost use Rattle.std.specs.Prelude.{◌≡◌, ◌&&◌, ◌+◌, ◌-◌, ◌*◌, ◌^◌, ◌<◌, ◌≤◌, length, get_or, replicate};
 ghost use Rattle.words.specs.Word.{little_at, bytes_of, word_at, word_bytes, field, signed};
 ghost use Rattle.words.specs.Stream.{stream_words, padded, overwritten, part_of, same_bytes, all_zero, starts_with_magic};

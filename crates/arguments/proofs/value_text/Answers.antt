@@ -1,0 +1,28 @@
+-- `arguments::value_text` meets its contract: each answer is what the definition gives under the tests that led there. Assumes nothing.
+use borrow.Author.Tests.{eq-eqb, ne_eqb, lt-ltb, le-ltb}
+use Rattle.arguments.specs.Models.Reading.{value_text}
+use Rattle.format.specs.Part.{take_parts, take_part, take_words}
+use borrow.Author.Rules.{rules}
+use Rattle.arguments.proofs.value_text.Goals as goal
+
+pub returns-in-Refused : goal.returns-in-Refused
+unfolding value_text take_parts take_part take_words
+returns-in-Refused c =
+    simp (c.in-Refused.is, ← c.take_text-text.ensures, ← c.field.ensures, eq-eqb _ _ c.if-variant-eq6.true, ← c.field-variant.ensures)
+
+pub returns-in-Part : goal.returns-in-Part
+unfolding value_text take_parts take_part take_words
+returns-in-Part c =
+    simp (c.in-Part.is, ← c.take_text-text.ensures, ← c.field.ensures, eq-eqb _ _ c.if-variant-eq6.true, ← c.field-variant.ensures)
+
+pub returns-then-place-argument : goal.returns-then-place-argument
+unfolding value_text take_parts take_part take_words
+returns-then-place-argument c = simp (lt-ltb _ _ c.if-place-argument.true, c.if-holds_word.true, ← c.holds_word.ensures, ne_eqb _ _ c.if-variant-eq6.false, ← c.field-variant.ensures)
+
+pub returns-then-holds_word : goal.returns-then-holds_word
+unfolding value_text take_parts take_part take_words
+returns-then-holds_word c = simp (le-ltb _ _ c.if-place-argument.false, c.if-holds_word.true, ← c.holds_word.ensures, ne_eqb _ _ c.if-variant-eq6.false, ← c.field-variant.ensures)
+
+pub returns : goal.returns
+unfolding value_text take_parts take_part take_words
+returns c = simp (c.if-holds_word.false, ← c.holds_word.ensures, ne_eqb _ _ c.if-variant-eq6.false, ← c.field-variant.ensures)

@@ -1,0 +1,64 @@
+-- `first_pass::count_known` meets its contract: the use is counted and its slot noted, one call behind the other in the room (lent_twice).
+-- Assumes nothing.
+use Rattle.tally.specs.Models.Slots.{label_of, key_of, find_of}
+use mathlib.Core.List.{List, ◌++◌}
+use Prim.Native.Nat.{ℕ}
+use mathlib.Core.Path.{ap, refl, sym, ◌∙◌}
+use native.Mathlib.Omega.{arith}
+use lib.ListN.{take, drop, take-append-drop, length-drop}
+use borrow.Author.Tests.{eq-eqb, ne_eqb}
+use Rattle.tables.specs.Table.{table_words}
+use Rattle.tally.specs.Models.Slots.{label_of}
+use Rattle.format.proofs.Headers.{part_from}
+use Rattle.first_pass.specs.Models.Count.{count_good, count_slots}
+use Rattle.first_pass.proofs.Laws.{lent_twice}
+use Rattle.first_pass.proofs.Memory.{slot_none, slot_some}
+use borrow.Author.Rules.{rules}
+use Rattle.first_pass.proofs.count_known.Goals as goal
+
+-- two facts as one
+both : {A B : Type 0} → A → B → A × B
+both a b = (a, b)
+
+-- the clauses, of their product
+by_clause : {A B : Type 0} → A × B → record { value : A; room_after : B }
+by_clause w = record { value = w.0; room_after = w.1 }
+
+pub returns-then-length-eq0 : goal.returns-then-length-eq0
+unfolding count_good count_slots
+returns-then-length-eq0 c = by_clause (simp (eq-eqb _ _ c.if-length-eq0.true) (refl, sym (take-append-drop (table_words c.args.f) c.args.room.now)))
+
+pub add_use-slot-requires : goal.add_use-slot-requires
+unfolding label_of
+add_use-slot-requires c =
+    (
+      record {
+        some = omega (arith, c.table_words-words.ensures);
+        low = omega (arith, c.table_words-words.ensures, c.requires.0.fits.indexes);
+        long = simp part_from (omega (arith, c.table_words-words.ensures, c.requires.0.wide, length-drop c.table_words-words.result c.args.room.now));
+      },
+      omega (arith, c.requires.3, c.if-length-eq0.false),
+      omega (arith, c.label_of-label.ensures, c.requires.4, c.requires.0.low, c.requires.1, c.requires.2),
+    )
+
+pub returns-then-slot-eq0 : goal.returns-then-slot-eq0
+unfolding count_good count_slots
+returns-then-slot-eq0 c = by_clause (let used = rw (part_from c.table_words-words.result c.args.room.now) at both c.add_use-slot.ensures.value c.add_use-slot.ensures.slots_after in
+    let twice = lent_twice c.table_words-words.result c.args.room.now c.add_use-slot.new.slots c.note.new.slots (omega (arith, c.table_words-words.ensures, c.requires.0.wide)) in
+    let slot = find_of c.args.archive.now c.table_words-words.result (drop c.table_words-words.result c.args.room.now) (key_of c.args.archive.now c.args.place c.label_of-label.result) in
+    let noted = rw (part_from, twice.0) at c.note.ensures in
+    simp (← c.table_words-words.ensures, ne_eqb _ _ c.if-length-eq0.false, ← c.label_of-label.ensures, ← c.highest_of-highest.ensures) (
+      sym (slot_none c.table_words-words.result (drop c.table_words-words.result c.args.room.now) c.label_of-label.result c.highest_of-highest.result slot (sym used.0.0 ∙ c.if-slot-eq0.true)),
+      twice.1 ∙ ap (λ (l : List ℕ). take c.table_words-words.result c.args.room.now ++ l) (noted ∙ rw (used.1, used.0.0)),
+    ))
+
+pub returns : goal.returns
+unfolding count_good count_slots
+returns c = by_clause (let used = rw (part_from c.table_words-words.result c.args.room.now) at both c.add_use-slot.ensures.value c.add_use-slot.ensures.slots_after in
+    let twice = lent_twice c.table_words-words.result c.args.room.now c.add_use-slot.new.slots c.note.new.slots (omega (arith, c.table_words-words.ensures, c.requires.0.wide)) in
+    let slot = find_of c.args.archive.now c.table_words-words.result (drop c.table_words-words.result c.args.room.now) (key_of c.args.archive.now c.args.place c.label_of-label.result) in
+    let noted = rw (part_from, twice.0) at c.note.ensures in
+    simp (← c.table_words-words.ensures, ne_eqb _ _ c.if-length-eq0.false, ← c.label_of-label.ensures, ← c.highest_of-highest.ensures) (
+      sym (slot_some c.table_words-words.result (drop c.table_words-words.result c.args.room.now) c.label_of-label.result c.highest_of-highest.result slot (λ z. c.if-slot-eq0.false (used.0.0 ∙ z))),
+      twice.1 ∙ ap (λ (l : List ℕ). take c.table_words-words.result c.args.room.now ++ l) (noted ∙ rw (used.1, used.0.0)),
+    ))

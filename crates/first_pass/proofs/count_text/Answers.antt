@@ -1,0 +1,22 @@
+-- `first_pass::count_text` meets its contract: a slot that is remembered is used again (again_counts); otherwise what was looked up is counted. Assumes
+-- nothing.
+use native.Mathlib.Omega.{arith}
+use Rattle.records.specs.Lookups.{text_lookup}
+use Rattle.first_pass.proofs.Laws.{again_fits, again_counts}
+use borrow.Author.Rules.{rules}
+use Rattle.first_pass.proofs.count_text.Goals as goal
+
+-- the clauses, of their product
+by_clause : {A B : Type 0} → A × B → record { value : A; room_after : B }
+by_clause w = record { value = w.0; room_after = w.1 }
+
+pub use_again-requires : goal.use_again-requires
+use_again-requires c =
+    again_fits c.args.f c.args.archive.now c.args.room.now c.args.context c.args.until
+    (text_lookup c.args.reference) c.table_words-words.result c.recall-known.result c.requires.0 c.requires.2 (omega arith) (omega arith)
+    c.table_words-words.ensures c.recall-known.ensures c.if-known-ne0.true
+
+pub returns-then-known-ne0 : goal.returns-then-known-ne0
+returns-then-known-ne0 c = by_clause (again_counts c.args.f c.args.archive.now c.args.room.now c.args.context c.args.until
+    (text_lookup c.args.reference) c.table_words-words.result c.recall-known.result c.requires.0 c.requires.2 (omega arith) (omega arith)
+    c.table_words-words.ensures c.recall-known.ensures c.if-known-ne0.true c.use_again.new.slots c.use_again.ensures)

@@ -1,0 +1,34 @@
+-- `format::take_part` meets its contract: each answer is what the definition gives under the tests that led there. Assumes nothing.
+use mathlib.Core.Path.{subst}
+use Rattle.format.specs.Part.{take_part}
+use Rattle.format.specs.Models.Bounds.{PartFits}
+use borrow.Author.Rules.{rules}
+use Rattle.format.proofs.take_part.Goals as goal
+
+pub take_words-requires : goal.take_words-requires
+take_words-requires c = (subst PartFits c.in-Words.is c.requires.0, c.requires.1, c.requires.2)
+
+pub take_stream-requires : goal.take_stream-requires
+take_stream-requires c = (subst PartFits c.in-Stream.is c.requires.0, c.requires.1, c.requires.2)
+
+pub take_text-requires : goal.take_text-requires
+take_text-requires c = (subst PartFits c.in-Text.is c.requires.0, c.requires.1, c.requires.2)
+
+pub take_thread-requires : goal.take_thread-requires
+take_thread-requires c = (subst PartFits c.in-Thread.is c.requires.0, c.requires.1, c.requires.2)
+
+pub returns-in-Words : goal.returns-in-Words
+unfolding take_part
+returns-in-Words c = simp c.in-Words.is c.take_words.ensures
+
+pub returns-in-Stream : goal.returns-in-Stream
+unfolding take_part
+returns-in-Stream c = simp c.in-Stream.is c.take_stream.ensures
+
+pub returns-in-Text : goal.returns-in-Text
+unfolding take_part
+returns-in-Text c = simp c.in-Text.is c.take_text.ensures
+
+pub returns-in-Thread : goal.returns-in-Thread
+unfolding take_part
+returns-in-Thread c = simp c.in-Thread.is c.take_thread.ensures

@@ -1,0 +1,10 @@
+use Rattle.std.proofs.Common.{◌≡◌, ◌-◌, ◌/◌, ◌≤◌, length, refl, arith, rules, le-ltb, lt-ltb}
+use Rattle.hashing.specs.Models.Hash.{blocks_of, hash_of}
+use Rattle.hashing.proofs.Laws.{blocks_turn}
+use Rattle.hashing.proofs.hash.Given as goal
+
+abbrev pub invariant-loop-i : goal.invariant-loop-i
+invariant-loop-i l = (l.i ≤ l.blocks) × (l.hash ≡ blocks_of l.bytes l.seed l.i)
+
+abbrev pub decreases-loop-i : goal.decreases-loop-i
+decreases-loop-i l = l.blocks - l.i

@@ -1,0 +1,10 @@
+-- `put_skipped` meets its contract: the parts of the line, one behind the other.
+use Rattle.item_lines.specs.Line.{skipped_line}
+use Rattle.lines.proofs.Puts.{◌then◌}
+use borrow.Author.Rules.{rules}
+use Rattle.item_lines.proofs.put_skipped.Goals as goal
+
+pub returns : goal.returns
+unfolding skipped_line
+returns c =
+    c.put_bytes-first.ensures then c.put_number-second.ensures then c.put_number-last.ensures then c.put_bytes.ensures

@@ -1,0 +1,19 @@
+use Prim.Native.Nat.{ℕ, ◌≤◌, ◌<◌, ◌-◌, ◌+◌}
+use mathlib.Core.Path.{◌≡◌, refl, ap, ◌∙◌}
+use mathlib.Core.List.{List}
+use native.Mathlib.Omega.{arith}
+use lib.ListN.{length}
+use Rattle.format.specs.Limits.{small_format}
+use Rattle.item_lines.specs.Line.{asked_line}
+use Rattle.listings.specs.Listing.{argument_lines}
+use Rattle.lines.proofs.Puts.{puts_same, Leaves, leaves_all, leaves_less, leaves_none, leaves_same}
+use Rattle.listings.proofs.Turns.{arguments_turn}
+use Rattle.listings.proofs.put_arguments.Given as goal
+
+abbrev pub invariant-loop-number : goal.invariant-loop-number
+invariant-loop-number l = (l.number ≤ l.count) × (length l.out ≡ length l.initial.out)
+    × Leaves l.initial.out l.at (argument_lines small_format l.archive l.tables l.state l.place 0 l.count) l.out l.last
+    (argument_lines small_format l.archive l.tables l.state l.place l.number (l.count - l.number))
+
+abbrev pub decreases-loop-number : goal.decreases-loop-number
+decreases-loop-number l = l.count - l.number

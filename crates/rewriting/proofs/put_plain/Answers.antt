@@ -1,0 +1,88 @@
+-- `rewriting::put_plain` meets its contract: content by content, the record is the one of its item, and nothing where it shows none. Assumes nothing.
+use native.Mathlib.Omega.{arith}
+use Rattle.passes.specs.Models.Item.{plain_item}
+use Rattle.words.specs.Stream.{magic as magic_bytes}
+use Rattle.records.specs.Item.{magic}
+use Rattle.encoding.proofs.Headers.{length-plain}
+use Rattle.encoding.proofs.EncodedItems.{magic_record}
+use Rattle.encoding.proofs.Parts.{nothing_written}
+use borrow.Author.Rules.{rules}
+use Rattle.rewriting.proofs.put_plain.Goals as goal
+
+-- two facts as one
+both : {A B : Type 0} → A → B → A × B
+both a b = (a, b)
+
+-- the clauses, of their product
+by_clause : {A B : Type 0} → A × B → record { out_after : A; value : B }
+by_clause w = record { out_after = w.0; value = w.1 }
+
+pub put_magic-requires : goal.put_magic-requires
+unfolding plain_item
+put_magic-requires c =
+    let room = rw c.in-Magic.is at c.requires.1 in
+    omega (arith, room, length-plain c.args.f magic)
+
+pub put_provider_info-requires : goal.put_provider_info-requires
+unfolding plain_item
+put_provider_info-requires c =
+    rw c.text.ensures (rw c.in-ProviderInfo.is at c.requires.0, rw c.in-ProviderInfo.is at c.requires.1)
+
+pub put_section-requires : goal.put_section-requires
+unfolding plain_item
+put_section-requires c =
+    rw c.in-Section.is at c.requires.1
+
+pub put_provider_event-requires : goal.put_provider_event-requires
+unfolding plain_item
+put_provider_event-requires c =
+    (rw c.in-ProviderEvent.is at c.requires.0, rw c.in-ProviderEvent.is at c.requires.1)
+
+pub put_initialization-requires : goal.put_initialization-requires
+unfolding plain_item
+put_initialization-requires c =
+    rw c.in-Initialization.is at c.requires.1
+
+pub returns-in-Magic : goal.returns-in-Magic
+unfolding plain_item magic_bytes
+returns-in-Magic c = by_clause (rw (c.in-Magic.is, magic_record c.args.f (λ key. 0)) (c.put_magic.ensures.out_after, c.put_magic.ensures.value))
+
+pub returns-in-ProviderInfo : goal.returns-in-ProviderInfo
+unfolding plain_item
+returns-in-ProviderInfo c = by_clause (rw c.in-ProviderInfo.is (rw c.text.ensures at both c.put_provider_info.ensures.out_after c.put_provider_info.ensures.value))
+
+pub returns-in-Section : goal.returns-in-Section
+unfolding plain_item
+returns-in-Section c = by_clause (rw c.in-Section.is (c.put_section.ensures.out_after, c.put_section.ensures.value))
+
+pub returns-in-ProviderEvent : goal.returns-in-ProviderEvent
+unfolding plain_item
+returns-in-ProviderEvent c = by_clause (rw c.in-ProviderEvent.is (c.put_provider_event.ensures.out_after, c.put_provider_event.ensures.value))
+
+pub returns-in-Initialization : goal.returns-in-Initialization
+unfolding plain_item
+returns-in-Initialization c = by_clause (rw c.in-Initialization.is (c.put_initialization.ensures.out_after, c.put_initialization.ensures.value))
+
+pub returns-in-Report : goal.returns-in-Report
+unfolding plain_item
+returns-in-Report c = by_clause (rw c.in-Report.is (nothing_written c.args.out.now c.args.at, omega arith))
+
+pub returns-in-Refused : goal.returns-in-Refused
+unfolding plain_item
+returns-in-Refused c = by_clause (rw c.in-Refused.is (nothing_written c.args.out.now c.args.at, omega arith))
+
+pub returns-in-String : goal.returns-in-String
+unfolding plain_item
+returns-in-String c = by_clause (rw c.in-String.is (nothing_written c.args.out.now c.args.at, omega arith))
+
+pub returns-in-Thread : goal.returns-in-Thread
+unfolding plain_item
+returns-in-Thread c = by_clause (rw c.in-Thread.is (nothing_written c.args.out.now c.args.at, omega arith))
+
+pub returns-in-Ignored : goal.returns-in-Ignored
+unfolding plain_item
+returns-in-Ignored c = by_clause (rw c.in-Ignored.is (nothing_written c.args.out.now c.args.at, omega arith))
+
+pub returns-in-Skipped : goal.returns-in-Skipped
+unfolding plain_item
+returns-in-Skipped c = by_clause (absurd (rw c.in-Skipped.is at c.requires.0))
