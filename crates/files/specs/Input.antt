@@ -35,4 +35,4 @@ pub record ReadsBytes (before : List ℕ) (n : ℕ) (reply : Outcome) (after : L
 abbrev pub TakesBytes : Option (List ℕ) → Option (List ℕ) → ℕ → Outcome → List ℕ → Type 0
 TakesBytes before after n All buffer = Consumes before after (take n buffer)
 TakesBytes before after n End buffer = Consumes before after [] × IsAtEnd after
-TakesBytes before after n NotAll buffer = (came : ℕ) × Consumes before after (take came buffer)
+TakesBytes before after n NotAll buffer = (came : ℕ) × (came ≤ n) × Consumes before after (take came buffer)
