@@ -31,6 +31,11 @@ def nested(comps, n):
     return None, comps
 
 
+def product(parts, sign):
+    """The parts as one product, whose second part is that of the rest."""
+    return f"({parts[0]}{sign}{parts[1] if len(parts) == 2 else product(parts[1:], sign)})"
+
+
 class Function:
     def __init__(self, data, notes):
         self.d, self.notes = data, notes
@@ -79,7 +84,7 @@ class Function:
                 if i is not None:
                     rest = [pre["fields"][i], *more]
             elif name == "requires" and pre:
-                return "(" + ", ".join(f"c.requires.{f}" for f in pre["fields"]) + ")"
+                return product([f"c.requires.{f}" for f in pre["fields"]], ", ")
             return ".".join(["c", name, *rest])
         q = self.step(p, name)
         if q is None:
@@ -99,7 +104,7 @@ class Function:
                 return ".".join(["c", "type_inv", var, *rest[1:]])
         clauses = self.d["clauses"][q]
         if rest == ["ensures"] and clauses:
-            return "(" + ", ".join(f"c.{place[2][1]}.ensures.{f}" for f in clauses["fields"]) + ")"
+            return product([f"c.{place[2][1]}.ensures.{f}" for f in clauses["fields"]], ", ")
         rest = self.fields(q, rest)
         return ".".join(["c", place[2][1], *rest])
 
@@ -204,7 +209,7 @@ def helper(name, names):
     types = [chr(ord("A") + i) for i in range(len(names))]
     picks = [f"{n} = w{'.1' * i}{'' if i == len(names) - 1 else '.0'}" for i, n in enumerate(names)]
     return (
-        f"-- the clauses, of their product\n{name} : {{{' '.join(types)} : Type 0}} → {' × '.join(types)} → record {{ {'; '.join(f'{n} : {t}' for n, t in zip(names, types))} }}\n"
+        f"-- the clauses, of their product\n{name} : {{{' '.join(types)} : Type 0}} → {product(types, ' × ')[1:-1]} → record {{ {'; '.join(f'{n} : {t}' for n, t in zip(names, types))} }}\n"
         f"{name} w = record {{ {'; '.join(picks)} }}"
     )
 

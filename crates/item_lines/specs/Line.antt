@@ -1,5 +1,5 @@
 -- The lines of a listing, after "The listing program" of document 01. A line ends in a line feed, 10; letters are by their ASCII numbers.
-use Rattle.std.specs.Prelude.{ℕ, List, [], ◌∷◌, ◌++◌, Bool, true, false}
+use Rattle.std.specs.Prelude.{ℕ, List, [], ◌∷◌, ◌++◌}
 use Rattle.words.specs.Stream.{part_of}
 use Rattle.words.specs.Word.{pick}
 use Rattle.records.specs.declared.Event.{Event}

@@ -1,5 +1,5 @@
 -- A signed number as a local's bits hold it, by its sign: what printing it asks. Assumes nothing.
-use Prim.Native.Nat.{ℕ, zero, suc, suc-le-suc, zero-le}
+use Prim.Native.Nat.{suc, suc-le-suc, zero-le}
 use native.Mathlib.Nat.{not-suc-le-zero}
 use mathlib.Core.Path.{◌≡◌, refl, sym, ap, subst, ◌∙◌}
 use mathlib.Core.Bool.{true, false, true≢false}

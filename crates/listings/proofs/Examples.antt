@@ -2,8 +2,8 @@
 use Prim.Native.Nat.{ℕ}
 use mathlib.Core.Path.{◌≡◌, refl}
 use mathlib.Core.List.{List, [], ◌∷◌, ◌++◌}
-use mathlib.Core.Bool.{true, false}
-use lib.IntN.{pos, negsuc}
+use mathlib.Core.Bool.{true}
+use lib.IntN.{negsuc}
 use lib.ListN.{replicate}
 use Rattle.effects.specs.Follow.{changed, followed, followed_entered, change_of}
 use Rattle.words.specs.Word.{word_at, word_bytes, little, little_at, bytes_of}
@@ -17,7 +17,7 @@ use Rattle.arguments.specs.Models.Reading.{take_value, texts_of, value_text}
 use Rattle.records.specs.Layout.{has_extra, extra_words, is_event, event_layout, log_layout, layout_of, event_of, log_of, own_of, take_fields, last_word, report_of}
 use Rattle.records.specs.Record.{metadata_of, string_of, content_of, record_of}
 use Rattle.records.specs.Effect.{effect_of}
-use Rattle.contexts.specs.Context.{belongs_to, find_id, entering, provider_of}
+use Rattle.contexts.specs.Context.{belongs_to, provider_of}
 use Rattle.tables.specs.Table.{highest_of, position, registration_of, entry_at, resolved}
 use Rattle.views.specs.declared.ShownText.TheVariants.{Unresolved}
 use Rattle.views.specs.declared.ShownThread.TheVariants.{Unresolved as ThreadUnresolved}

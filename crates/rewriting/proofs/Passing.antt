@@ -300,6 +300,12 @@ module _ {f : Format} {archive room₀ out₀ room out : List ℕ} {s : State} {
       let keeps : length first ≡ length room₀ =
       rw first-is
       (omega (arith, asks.3, length-append tables' fresh, tables_long, renewed-long f archive slots s content, length-drop (table_words f) room, p.long)) in
+      let bytes_are : content_in f archive first s content next ≡ bytes =
+      ap (λ t. content_bytes f archive t (drop (table_words f) first) s content next) tables_are
+      ∙ ap (λ d. content_bytes f archive tables' d s content next) slots_are in
+      let room_is : content_room f archive first s content next ≡ tables' ++ slots' =
+      ap (λ t. t ++ content_slots f archive t (drop (table_words f) first) s content next) tables_are
+      ∙ ap (λ d. tables' ++ content_slots f archive tables' d s content next) slots_are in
       record {
         number = turned.number;
         nearer = comes_nearer;
@@ -311,6 +317,6 @@ module _ {f : Format} {archive room₀ out₀ room out : List ℕ} {s : State} {
         );
         fits = rw (tables_are, slots_are) turned.fits;
         remembers = rw (tables_are, slots_are) remembers_for;
-        space = rw (tables_are, slots_are) bytes_space;
-        on = rw (tables_are, slots_are) goes_on;
+        space = subst (λ (b : List ℕ). at + length b ≤ length out) (sym bytes_are) bytes_space;
+        on = λ after last end a l e. goes_on after last end (a ∙ room_is) (l ∙ ap (overwritten out at) bytes_are) (e ∙ ap (λ (b : List ℕ). at + length b) bytes_are);
       }

@@ -17,11 +17,13 @@ by_clause w = record { out_after = w.0; value = w.1 }
 
 pub overflow_add-text_words : goal.overflow_add-text_words
 overflow_add-text_words c =
-    omega (arith, length_start c.args.f c.args.variant c.args.more c.args.half (text_part c.args.index c.args.name.now), (c.text_words.ensures ∙ ap length (sym (text_bytes_lem c.args.f c.args.index c.args.name.now))))
+    omega (arith, length_start c.args.f c.args.variant c.args.more c.args.half (text_part c.args.index c.args.name.now),
+      (c.text_words.ensures ∙ ap length (sym (text_bytes_lem c.args.f c.args.index c.args.name.now))))
 
 pub overflow_add-text_words-2 : goal.overflow_add-text_words-2
 overflow_add-text_words-2 c =
-    omega (arith, length_start c.args.f c.args.variant c.args.more c.args.half (text_part c.args.index c.args.name.now), (c.text_words.ensures ∙ ap length (sym (text_bytes_lem c.args.f c.args.index c.args.name.now))))
+    omega (arith, length_start c.args.f c.args.variant c.args.more c.args.half (text_part c.args.index c.args.name.now),
+      (c.text_words.ensures ∙ ap length (sym (text_bytes_lem c.args.f c.args.index c.args.name.now))))
 
 pub header-requires : goal.header-requires
 header-requires c =
@@ -60,14 +62,16 @@ put_word-requires c =
 
 pub put_text-requires : goal.put_text-requires
 put_text-requires c =
-    omega (arith, ap length (text_bytes_lem c.args.f c.args.index c.args.name.now), length_start c.args.f c.args.variant c.args.more c.args.half (text_part c.args.index c.args.name.now))
+    omega (arith, ap length (text_bytes_lem c.args.f c.args.index c.args.name.now),
+      length_start c.args.f c.args.variant c.args.more c.args.half (text_part c.args.index c.args.name.now))
 
 pub returns : goal.returns
 returns c = by_clause (let part = text_part c.args.index c.args.name.now in
     let long = length_start c.args.f c.args.variant c.args.more c.args.half part in (
       c.put_text.ensures.out_after
           ∙ ap (λ (out : List ℕ). overwritten out (c.args.place + 8) (text_bytes c.args.index c.args.name.now)) c.put_word.ensures
-          ∙ ap (overwritten (overwritten c.args.out.now c.args.place (word_bytes c.args.f.order c.with_field.result)) (c.args.place + 8)) (sym (text_bytes_lem c.args.f c.args.index c.args.name.now))
+          ∙ ap (overwritten (overwritten c.args.out.now c.args.place (word_bytes c.args.f.order c.with_field.result)) (c.args.place + 8))
+            (sym (text_bytes_lem c.args.f c.args.index c.args.name.now))
           ∙ start_written c.args.f c.args.out.now c.args.place c.args.variant c.args.more c.args.half
           c.text_words.result
           c.with_field.result part

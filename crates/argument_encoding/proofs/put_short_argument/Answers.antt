@@ -24,4 +24,6 @@ put_argument_start-requires c = by_clause (let part = text_part c.args.index c.a
     ((omega arith, omega arith, omega arith, omega arith), (omega (arith, long, all), omega (arith, long, all))))
 
 pub returns : goal.returns
-returns c = by_clauses_of_out_after_value (let part = text_part c.args.index c.args.name.now in let same = short_argument c.args.f c.args.variant c.args.half part in (c.put_argument_start.ensures.out_after ∙ ap (overwritten c.args.out.now c.args.place) same, omega (arith, c.put_argument_start.ensures.value, ap length same)))
+returns c = by_clauses_of_out_after_value (let part = text_part c.args.index c.args.name.now in
+    let same = short_argument c.args.f c.args.variant c.args.half part in (c.put_argument_start.ensures.out_after
+    ∙ ap (overwritten c.args.out.now c.args.place) same, omega (arith, c.put_argument_start.ensures.value, ap length same)))

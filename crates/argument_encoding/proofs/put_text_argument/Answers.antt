@@ -20,11 +20,14 @@ by_clauses_of_out_after_value : {A B : Type 0} → A × B → record { out_after
 by_clauses_of_out_after_value w = record { out_after = w.0; value = w.1 }
 
 pub put_argument_start-behind-requires : goal.put_argument_start-behind-requires
-put_argument_start-behind-requires c = by_clause (let part = text_part c.args.index c.args.name.now in let text = text_part c.args.key c.args.text.now in
+put_argument_start-behind-requires c = by_clause (let part = text_part c.args.index c.args.name.now in
+    let text = text_part c.args.key c.args.text.now in
     let long = length_start c.args.f 6 c.text_words-more.result c.text_reference.result part in
     let all = length_argument_one c.args.f 6 (reference_of text) part text in (
-      (omega arith, omega (arith, c.text_reference.ensures, reference_lt c.args.key c.args.text.now (omega arith) (omega arith)), omega arith, omega arith),
-      (omega (arith, long, all, c.text_words-more.ensures, ap length (text_bytes_lem c.args.f c.args.key c.args.text.now)), omega (arith, long, all, c.text_words-more.ensures, ap length (text_bytes_lem c.args.f c.args.key c.args.text.now))),
+      (omega arith, omega (arith, c.text_reference.ensures, reference_lt c.args.key c.args.text.now (omega arith) (omega arith)),
+        omega arith, omega arith),
+      (omega (arith, long, all, c.text_words-more.ensures, ap length (text_bytes_lem c.args.f c.args.key c.args.text.now)), omega (arith,
+        long, all, c.text_words-more.ensures, ap length (text_bytes_lem c.args.f c.args.key c.args.text.now))),
     ))
 
 pub put_text-requires : goal.put_text-requires
@@ -44,9 +47,13 @@ returns c = by_clauses_of_out_after_value (let part = text_part c.args.index c.a
     let long = length_start c.args.f 6 c.text_words-more.result c.text_reference.result part in
     let all = length_argument_one c.args.f 6 (reference_of text) part text in (
       c.put_text.ensures.out_after
-          ∙ ap (λ (out : List ℕ). overwritten out c.put_argument_start-behind.result (text_bytes c.args.key c.args.text.now)) c.put_argument_start-behind.ensures.out_after
-          ∙ ap (overwritten (overwritten c.args.out.now c.args.place (argument_start c.args.f 6 c.text_words-more.result c.text_reference.result part)) c.put_argument_start-behind.result) (sym (text_bytes_lem c.args.f c.args.key c.args.text.now))
+          ∙ ap (λ (out : List ℕ). overwritten out c.put_argument_start-behind.result (text_bytes c.args.key c.args.text.now))
+            c.put_argument_start-behind.ensures.out_after
+          ∙ ap (overwritten (overwritten c.args.out.now c.args.place (argument_start c.args.f 6 c.text_words-more.result
+            c.text_reference.result part)) c.put_argument_start-behind.result) (sym (text_bytes_lem c.args.f c.args.key c.args.text.now))
           ∙ rw (c.put_argument_start-behind.ensures.value, c.text_reference.ensures)
-          (argument_written c.args.f c.args.out.now c.args.place 6 c.text_words-more.result (reference_of text) part text (omega (arith, long, all)) (sym (c.text_words-more.ensures ∙ ap length (sym (text_bytes_lem c.args.f c.args.key c.args.text.now))))),
-      omega (arith, ap length (text_bytes_lem c.args.f c.args.key c.args.text.now), c.put_text.ensures.value, c.put_argument_start-behind.ensures.value, long, all),
+          (argument_written c.args.f c.args.out.now c.args.place 6 c.text_words-more.result (reference_of text) part text (omega (arith,
+            long, all)) (sym (c.text_words-more.ensures ∙ ap length (sym (text_bytes_lem c.args.f c.args.key c.args.text.now))))),
+      omega (arith, ap length (text_bytes_lem c.args.f c.args.key c.args.text.now), c.put_text.ensures.value,
+        c.put_argument_start-behind.ensures.value, long, all),
     ))

@@ -29,17 +29,24 @@ put_argument_start-behind-requires c = by_clause (let part = text_part c.args.in
 
 pub put_word-requires : goal.put_word-requires
 put_word-requires c =
-    let part = text_part c.args.index c.args.name.now in omega (arith, c.put_argument_start-behind.ensures.value, length_start c.args.f c.args.variant 1 0 part, length_argument_one c.args.f c.args.variant 0 part (word c.args.word), length-word_bytes c.args.f.order c.args.word)
+    let part = text_part c.args.index c.args.name.now in omega (arith, c.put_argument_start-behind.ensures.value,
+      length_start c.args.f c.args.variant 1 0 part, length_argument_one c.args.f c.args.variant 0 part (word c.args.word),
+      length-word_bytes c.args.f.order c.args.word)
 
 pub overflow_add-result : goal.overflow_add-result
 overflow_add-result c =
-    let part = text_part c.args.index c.args.name.now in omega (arith, c.put_argument_start-behind.ensures.value, length_start c.args.f c.args.variant 1 0 part, length_argument_one c.args.f c.args.variant 0 part (word c.args.word), length-word_bytes c.args.f.order c.args.word)
+    let part = text_part c.args.index c.args.name.now in omega (arith, c.put_argument_start-behind.ensures.value,
+      length_start c.args.f c.args.variant 1 0 part, length_argument_one c.args.f c.args.variant 0 part (word c.args.word),
+      length-word_bytes c.args.f.order c.args.word)
 
 pub returns : goal.returns
-returns c = by_clauses_of_out_after_value (let part = text_part c.args.index c.args.name.now in let long = length_start c.args.f c.args.variant 1 0 part in
+returns c = by_clauses_of_out_after_value (let part = text_part c.args.index c.args.name.now in
+    let long = length_start c.args.f c.args.variant 1 0 part in
     let all = length_argument_one c.args.f c.args.variant 0 part (word c.args.word) in (
-      c.put_word.ensures ∙ ap (λ (out : List ℕ). overwritten out c.put_argument_start-behind.result (word_bytes c.args.f.order c.args.word)) c.put_argument_start-behind.ensures.out_after
-          ∙ rw c.put_argument_start-behind.ensures.value (argument_written c.args.f c.args.out.now c.args.place c.args.variant 1 0 part (word c.args.word) (omega (arith, long, all))
+      c.put_word.ensures ∙ ap (λ (out : List ℕ). overwritten out c.put_argument_start-behind.result (word_bytes c.args.f.order
+        c.args.word)) c.put_argument_start-behind.ensures.out_after
+          ∙ rw c.put_argument_start-behind.ensures.value (argument_written c.args.f c.args.out.now c.args.place c.args.variant 1 0 part
+            (word c.args.word) (omega (arith, long, all))
           (length-word_bytes c.args.f.order c.args.word)),
       omega (arith, c.put_argument_start-behind.ensures.value, long, all, length-word_bytes c.args.f.order c.args.word),
     ))

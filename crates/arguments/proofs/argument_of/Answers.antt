@@ -21,7 +21,8 @@ returns-then-size-eq0 c = simp (eq-eqb _ _ c.if-size-eq0.true, ← c.field.ensur
 
 pub returns-then-rest-size : goal.returns-then-rest-size
 unfolding argument_of
-returns-then-rest-size c = simp (lt-ltb _ _ c.if-rest-size.true, ne_eqb _ _ c.if-size-eq0.false, ← c.field.ensures, ← c.word-header.ensures, le-ltb _ _ c.if-rest-lt8.false)
+returns-then-rest-size c = simp (lt-ltb _ _ c.if-rest-size.true, ne_eqb _ _ c.if-size-eq0.false, ← c.field.ensures,
+    ← c.word-header.ensures, le-ltb _ _ c.if-rest-lt8.false)
 
 pub slice_bounds-argument-end : goal.slice_bounds-argument-end
 slice_bounds-argument-end c =
@@ -42,7 +43,8 @@ take_value-valued-requires c =
 pub returns-in-Refused : goal.returns-in-Refused
 unfolding argument_of
 returns-in-Refused c =
-    simp (c.in-Refused.is, ← c.take_text-named.ensures, ← c.field-2.ensures, le-ltb _ _ c.if-rest-size.false, ne_eqb _ _ c.if-size-eq0.false, ← c.field.ensures, ← c.word-header.ensures, le-ltb _ _ c.if-rest-lt8.false, name_then_value)
+    simp (c.in-Refused.is, ← c.take_text-named.ensures, ← c.field-2.ensures, le-ltb _ _ c.if-rest-size.false,
+      ne_eqb _ _ c.if-size-eq0.false, ← c.field.ensures, ← c.word-header.ensures, le-ltb _ _ c.if-rest-lt8.false, name_then_value)
 
 pub returns-in-Refused-valued : goal.returns-in-Refused-valued
 unfolding argument_of

@@ -15,17 +15,21 @@ returns-then-variant-eq0 c = simp (eq-eqb _ _ c.if-variant-eq0.true, ← c.field
 
 pub returns-then-variant-eq1 : goal.returns-then-variant-eq1
 unfolding header_scalar
-returns-then-variant-eq1 c = simp (← c.signed_half.ensures, eq-eqb _ _ c.if-variant-eq1.true, ne_eqb _ _ c.if-variant-eq0.false, ← c.field-variant.ensures) (ap Signed32 (to_z-of_z {w = w32} (sfits_of c.signed_half.type_inv)))
+returns-then-variant-eq1 c = simp (← c.signed_half.ensures, eq-eqb _ _ c.if-variant-eq1.true, ne_eqb _ _ c.if-variant-eq0.false,
+    ← c.field-variant.ensures) (ap Signed32 (to_z-of_z {w = w32} (sfits_of c.signed_half.type_inv)))
 
 pub returns-then-variant-eq2 : goal.returns-then-variant-eq2
 unfolding header_scalar
-returns-then-variant-eq2 c = simp (← c.field.ensures, eq-eqb _ _ c.if-variant-eq2.true, ne_eqb _ _ c.if-variant-eq1.false, ne_eqb _ _ c.if-variant-eq0.false, ← c.field-variant.ensures)
+returns-then-variant-eq2 c = simp (← c.field.ensures, eq-eqb _ _ c.if-variant-eq2.true, ne_eqb _ _ c.if-variant-eq1.false,
+    ne_eqb _ _ c.if-variant-eq0.false, ← c.field-variant.ensures)
 
 pub returns-then-variant-eq9 : goal.returns-then-variant-eq9
 unfolding header_scalar
 returns-then-variant-eq9 c =
-    simp (← c.field-then-variant-eq9.ensures, eq-eqb _ _ c.if-variant-eq9.true, ne_eqb _ _ c.if-variant-eq2.false, ne_eqb _ _ c.if-variant-eq1.false, ne_eqb _ _ c.if-variant-eq0.false, ← c.field-variant.ensures)
+    simp (← c.field-then-variant-eq9.ensures, eq-eqb _ _ c.if-variant-eq9.true, ne_eqb _ _ c.if-variant-eq2.false,
+      ne_eqb _ _ c.if-variant-eq1.false, ne_eqb _ _ c.if-variant-eq0.false, ← c.field-variant.ensures)
 
 pub returns : goal.returns
 unfolding header_scalar
-returns c = simp (ne_eqb _ _ c.if-variant-eq9.false, ne_eqb _ _ c.if-variant-eq2.false, ne_eqb _ _ c.if-variant-eq1.false, ne_eqb _ _ c.if-variant-eq0.false, ← c.field-variant.ensures)
+returns c = simp (ne_eqb _ _ c.if-variant-eq9.false, ne_eqb _ _ c.if-variant-eq2.false, ne_eqb _ _ c.if-variant-eq1.false,
+    ne_eqb _ _ c.if-variant-eq0.false, ← c.field-variant.ensures)

@@ -23,7 +23,8 @@ pub returns-in-Refused : goal.returns-in-Refused
 unfolding sought_of
 returns-in-Refused c =
     let w : walked (arguments_of c.args.f c.args.count c.args.part.now c.args.place) ≡ WalkRefused c.in-Refused.number = c.loop-left.invariant.0
-    ∙ walk_turn c.args.f c.loop-left.left c.loop-left.rest.now c.loop-left.at c.loop-left-test.true ∙ simp (texts_refused c.args.f c.loop-left.rest.now c.loop-left.at
+    ∙ walk_turn c.args.f c.loop-left.left c.loop-left.rest.now c.loop-left.at c.loop-left-test.true
+      ∙ simp (texts_refused c.args.f c.loop-left.rest.now c.loop-left.at
     c.in-Refused.number (sym c.texts_of-texts.ensures ∙ c.in-Refused.is)) in
     rw w
 
@@ -52,7 +53,8 @@ loop-left-preserved c =
       simp part_from (omega (arith, s.inside, c.loop-left.invariant.1, length-drop c.in-Texts.size c.loop-left.rest.now)),
       c.loop-left.invariant.2
           ∙ start_turn {A = c.loop-left.left ≡ asked} {B = c.loop-left.left ≡ asked → ⊥} c.args.f c.loop-left.left asked c.loop-left.start
-              c.if-left-asked.start c.loop-left.rest.now c.loop-left.at q.0 c.in-Texts.size c.loop-left-test.true c.loop-left.invariant.3 q.1 (λ t. t) (λ e. e)
+              c.if-left-asked.start c.loop-left.rest.now c.loop-left.at q.0 c.in-Texts.size c.loop-left-test.true c.loop-left.invariant.3
+                q.1 (λ t. t) (λ e. e)
               (elim c.if-left-asked.branch [
                   then-left-asked w ↦ inl (w.if-left-asked.true, w.start-is) | else-left-asked w ↦ inr (w.if-left-asked.false, w.start-is) ])
           ∙ simp part_from,

@@ -11,7 +11,9 @@ use Rattle.arguments.proofs.Arguments.{walk_turn, argument_read, texts_read, tex
 use Rattle.arguments.proofs.seek.Given as goal
 
 abbrev pub invariant-loop-left : goal.invariant-loop-left
-invariant-loop-left l = (walked (arguments_of l.f l.count l.part l.place) ≡ walked (arguments_of l.f l.left l.rest l.at)) × (l.at + length l.rest ≡ l.place + length l.part) × (start_of l.f l.number l.part l.place ≡ start_from l.f l.left l.asked l.start l.rest l.at) × (0 < l.asked)
+invariant-loop-left l = (walked (arguments_of l.f l.count l.part l.place) ≡ walked (arguments_of l.f l.left l.rest l.at)) × (l.at + length
+    l.rest ≡ l.place + length l.part) × (start_of l.f l.number l.part l.place ≡ start_from l.f l.left l.asked l.start l.rest l.at) × (0 <
+    l.asked)
 
 abbrev pub decreases-loop-left : goal.decreases-loop-left
 decreases-loop-left l = l.left

@@ -18,12 +18,14 @@ returns-in-Part c =
 pub returns-then-place-argument : goal.returns-then-place-argument
 unfolding take_value take_parts take_part take_words
 returns-then-place-argument c =
-    simp (lt-ltb _ _ c.if-place-argument.true, c.if-holds_word.true, ← c.holds_word.ensures, ne_eqb _ _ c.if-variant-eq6.false, ← c.field-variant.ensures)
+    simp (lt-ltb _ _ c.if-place-argument.true, c.if-holds_word.true, ← c.holds_word.ensures, ne_eqb _ _ c.if-variant-eq6.false,
+      ← c.field-variant.ensures)
 
 pub returns-then-holds_word : goal.returns-then-holds_word
 unfolding take_value take_parts take_part take_words
 returns-then-holds_word c =
-    simp (← c.word_scalar.ensures, ← c.word-word.ensures, le-ltb _ _ c.if-place-argument.false, c.if-holds_word.true, ← c.holds_word.ensures, ne_eqb _ _ c.if-variant-eq6.false, ← c.field-variant.ensures)
+    simp (← c.word_scalar.ensures, ← c.word-word.ensures, le-ltb _ _ c.if-place-argument.false, c.if-holds_word.true,
+      ← c.holds_word.ensures, ne_eqb _ _ c.if-variant-eq6.false, ← c.field-variant.ensures)
 
 pub returns : goal.returns
 unfolding take_value take_parts take_part take_words

@@ -14,10 +14,12 @@ pub returns-then-room-lt8 : goal.returns-then-room-lt8
 returns-then-room-lt8 c = simp (lt-ltb _ _ c.if-room-lt8.true, name_then_text)
 
 pub returns-then-size-eq0 : goal.returns-then-size-eq0
-returns-then-size-eq0 c = simp (eq-eqb _ _ c.if-size-eq0.true, ← c.field.ensures, ← c.word-header.ensures, le-ltb _ _ c.if-room-lt8.false, name_then_text)
+returns-then-size-eq0 c = simp (eq-eqb _ _ c.if-size-eq0.true, ← c.field.ensures, ← c.word-header.ensures, le-ltb _ _ c.if-room-lt8.false,
+    name_then_text)
 
 pub returns-then-room-size : goal.returns-then-room-size
-returns-then-room-size c = simp (lt-ltb _ _ c.if-room-size.true, ne_eqb _ _ c.if-size-eq0.false, ← c.field.ensures, ← c.word-header.ensures, le-ltb _ _ c.if-room-lt8.false, name_then_text)
+returns-then-room-size c = simp (lt-ltb _ _ c.if-room-size.true, ne_eqb _ _ c.if-size-eq0.false, ← c.field.ensures,
+    ← c.word-header.ensures, le-ltb _ _ c.if-room-lt8.false, name_then_text)
 
 pub slice_bounds-argument-end : goal.slice_bounds-argument-end
 slice_bounds-argument-end c =
@@ -37,7 +39,8 @@ value_text-valued-requires c =
 
 pub returns-in-Refused : goal.returns-in-Refused
 returns-in-Refused c =
-    simp (c.in-Refused.is, ← c.take_text-named.ensures, ← c.field-2.ensures, le-ltb _ _ c.if-room-size.false, ne_eqb _ _ c.if-size-eq0.false, ← c.field.ensures, ← c.word-header.ensures, le-ltb _ _ c.if-room-lt8.false, name_then_text)
+    simp (c.in-Refused.is, ← c.take_text-named.ensures, ← c.field-2.ensures, le-ltb _ _ c.if-room-size.false,
+      ne_eqb _ _ c.if-size-eq0.false, ← c.field.ensures, ← c.word-header.ensures, le-ltb _ _ c.if-room-lt8.false, name_then_text)
 
 pub returns-in-Refused-valued : goal.returns-in-Refused-valued
 returns-in-Refused-valued c =

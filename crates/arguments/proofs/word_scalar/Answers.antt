@@ -11,7 +11,8 @@ use Rattle.arguments.proofs.word_scalar.Goals as goal
 
 pub returns-then-variant-eq3 : goal.returns-then-variant-eq3
 unfolding word_scalar
-returns-then-variant-eq3 c = simp (← c.signed_word.ensures, eq-eqb _ _ c.if-variant-eq3.true) (ap Signed64 (to_z-of_z {w = w64} (sfits_of c.signed_word.type_inv)))
+returns-then-variant-eq3 c = simp (← c.signed_word.ensures, eq-eqb _ _ c.if-variant-eq3.true) (ap Signed64 (to_z-of_z {w = w64} (sfits_of
+    c.signed_word.type_inv)))
 
 pub returns-then-variant-eq4 : goal.returns-then-variant-eq4
 unfolding word_scalar
@@ -23,8 +24,10 @@ returns-then-variant-eq5 c = simp (eq-eqb _ _ c.if-variant-eq5.true, ne_eqb _ _ 
 
 pub returns-then-variant-eq7 : goal.returns-then-variant-eq7
 unfolding word_scalar
-returns-then-variant-eq7 c = simp (eq-eqb _ _ c.if-variant-eq7.true, ne_eqb _ _ c.if-variant-eq5.false, ne_eqb _ _ c.if-variant-eq4.false, ne_eqb _ _ c.if-variant-eq3.false)
+returns-then-variant-eq7 c = simp (eq-eqb _ _ c.if-variant-eq7.true, ne_eqb _ _ c.if-variant-eq5.false, ne_eqb _ _ c.if-variant-eq4.false,
+    ne_eqb _ _ c.if-variant-eq3.false)
 
 pub returns : goal.returns
 unfolding word_scalar
-returns c = simp (ne_eqb _ _ c.if-variant-eq7.false, ne_eqb _ _ c.if-variant-eq5.false, ne_eqb _ _ c.if-variant-eq4.false, ne_eqb _ _ c.if-variant-eq3.false)
+returns c = simp (ne_eqb _ _ c.if-variant-eq7.false, ne_eqb _ _ c.if-variant-eq5.false, ne_eqb _ _ c.if-variant-eq4.false,
+    ne_eqb _ _ c.if-variant-eq3.false)

@@ -29,7 +29,8 @@ argument_numbers t (Text (Unresolved index)) n1 n2 n3 n = rw (← n)
 pub returns : goal.returns
 returns c =
     let name : List ℕ = 10 ∷ c.text_choice-name.result.tag ∷ c.text_choice-name.result.first ∷ c.text_choice-name.result.second ∷ [] in
-    twenty c.args.out.now 0 name (value_values c.args.argument.value) zeros zeros zeros (omega arith) refl (length-value c.args.argument.value) refl refl
+    twenty c.args.out.now 0 name (value_values c.args.argument.value) zeros zeros zeros (omega arith) refl (length-value
+      c.args.argument.value) refl refl
     c.put_four.ensures c.put_value.ensures c.put_four-2.ensures
     c.put_four-3.ensures c.put_four-4.ensures
     ∙ ap (overwritten c.args.out.now 0) (argument_numbers c.args.argument.name c.args.argument.value _ _ _ c.text_choice-name.ensures)

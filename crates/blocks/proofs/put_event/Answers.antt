@@ -28,10 +28,13 @@ pub returns : goal.returns
 returns c =
     let one : List ℕ = 8 ∷ c.args.report.place ∷ c.provider_choice-provider.result.tag ∷ c.provider_choice-provider.result.first ∷ [] in
     let two : List ℕ = c.args.event.variant ∷ c.args.event.timestamp ∷ c.args.report.rate ∷ c.referent_choice-first.result.tag ∷ [] in
-    let three : List ℕ = c.referent_choice-first.result.first ∷ c.referent_choice-first.result.second ∷ c.referent_choice-second.result.tag ∷ c.referent_choice-second.result.first ∷ [] in
-    let four : List ℕ = c.referent_choice-second.result.second ∷ c.referent_choice-third.result.tag ∷ c.referent_choice-third.result.first ∷ c.referent_choice-third.result.second ∷ [] in
+    let three : List ℕ = c.referent_choice-first.result.first ∷ c.referent_choice-first.result.second ∷
+      c.referent_choice-second.result.tag ∷ c.referent_choice-second.result.first ∷ [] in
+    let four : List ℕ = c.referent_choice-second.result.second ∷ c.referent_choice-third.result.tag ∷ c.referent_choice-third.result.first
+      ∷ c.referent_choice-third.result.second ∷ [] in
     let five : List ℕ = c.args.report.count ∷ c.args.report.last ∷ 0 ∷ 0 ∷ [] in
     twenty c.args.out.now 0 one two three four five (omega arith) refl refl refl refl
     c.put_four.ensures c.put_four-2.ensures c.put_four-3.ensures
     c.put_four-4.ensures c.put_four-5.ensures
-    ∙ ap (overwritten c.args.out.now 0) (event-numbers c.args.event c.args.report _ _ _ _ _ _ _ _ _ _ _ c.provider_choice-provider.ensures c.referent_choice-first.ensures c.referent_choice-second.ensures c.referent_choice-third.ensures)
+    ∙ ap (overwritten c.args.out.now 0) (event-numbers c.args.event c.args.report _ _ _ _ _ _ _ _ _ _ _ c.provider_choice-provider.ensures
+      c.referent_choice-first.ensures c.referent_choice-second.ensures c.referent_choice-third.ensures)

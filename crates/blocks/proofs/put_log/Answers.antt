@@ -16,7 +16,8 @@ abbrev zeros : List ℕ
 zeros = 0 ∷ 0 ∷ 0 ∷ 0 ∷ []
 
 -- a log's numbers, with those of its provider and of its thread written out
-log-numbers : (l : Log) (r : ShownReport) (p1 p2 a1 a2 a3 : ℕ) → p1 ∷ p2 ∷ [] ≡ provider_values r.provider → a1 ∷ a2 ∷ a3 ∷ [] ≡ referent_values r.first
+log-numbers : (l : Log) (r : ShownReport) (p1 p2 a1 a2 a3 : ℕ) → p1 ∷ p2 ∷ [] ≡ provider_values r.provider → a1 ∷ a2 ∷ a3 ∷ [] ≡
+    referent_values r.first
     → 12 ∷ r.place ∷ p1 ∷ p2 ∷ l.timestamp ∷ r.rate ∷ a1 ∷ a2 ∷ a3 ∷ r.stream.place ∷ r.stream.length ∷ 0 ∷ 0 ∷ 0 ∷ 0 ∷ 0 ∷ zeros
     ≡ block 20 (log_values l r)
 log-numbers l r p1 p2 a1 a2 a3 p a = rw (← p, ← a)
@@ -29,4 +30,5 @@ returns c =
     twenty c.args.out.now 0 one two three zeros zeros (omega arith) refl refl refl refl
     c.put_four.ensures c.put_four-2.ensures c.put_four-3.ensures
     c.put_four-4.ensures c.put_four-5.ensures
-    ∙ ap (overwritten c.args.out.now 0) (log-numbers c.args.log c.args.report _ _ _ _ _ c.provider_choice-provider.ensures c.referent_choice-thread.ensures)
+    ∙ ap (overwritten c.args.out.now 0) (log-numbers c.args.log c.args.report _ _ _ _ _ c.provider_choice-provider.ensures
+      c.referent_choice-thread.ensures)

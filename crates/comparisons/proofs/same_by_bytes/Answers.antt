@@ -25,4 +25,5 @@ loop-i-preserved c =
 
 pub returns : goal.returns
 returns c =
-    sym (c.loop-i.invariant.1 ∙ rw (drop_of_length-le c.args.a.now {i = c.loop-i.i} (omega arith), drop_of_length-le c.args.b.now {i = c.loop-i.i} (omega arith)))
+    sym (c.loop-i.invariant.1 ∙ rw (drop_of_length-le c.args.a.now {i = c.loop-i.i} (omega arith),
+      drop_of_length-le c.args.b.now {i = c.loop-i.i} (omega arith)))

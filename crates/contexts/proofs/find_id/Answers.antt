@@ -16,13 +16,16 @@ loop-i-init c = (search rules, search rules, refl)
 pub returns-then-ids-i : goal.returns-then-ids-i
 unfolding find_id
 returns-then-ids-i c =
-    sym (c.loop-i.invariant.2 ∙ find_turn c.args.ids c.args.count c.args.id c.loop-i.i (omega arith) (omega arith) ∙ simp (eq-eqb _ _ c.if-ids-i.true))
+    sym (c.loop-i.invariant.2 ∙ find_turn c.args.ids c.args.count c.args.id c.loop-i.i (omega arith) (omega arith)
+      ∙ simp (eq-eqb _ _ c.if-ids-i.true))
 
 pub loop-i-preserved : goal.loop-i-preserved
 loop-i-preserved c =
-    (omega arith, c.loop-i.invariant.1, c.loop-i.invariant.2 ∙ find_turn c.args.ids c.args.count c.args.id c.loop-i.i (omega arith) (omega arith) ∙ simp (ne_eqb _ _ c.if-ids-i.false))
+    (omega arith, c.loop-i.invariant.1, c.loop-i.invariant.2 ∙ find_turn c.args.ids c.args.count c.args.id c.loop-i.i (omega arith) (omega
+      arith) ∙ simp (ne_eqb _ _ c.if-ids-i.false))
 
 pub returns : goal.returns
 unfolding find_id
 returns c =
-    let e = length-take-le c.args.count c.args.ids (omega arith) in sym (c.loop-i.invariant.2 ∙ rw (drop_of_length-le (take c.args.count c.args.ids) {i = c.loop-i.i} (omega arith)))
+    let e = length-take-le c.args.count c.args.ids (omega arith) in sym (c.loop-i.invariant.2
+      ∙ rw (drop_of_length-le (take c.args.count c.args.ids) {i = c.loop-i.i} (omega arith)))

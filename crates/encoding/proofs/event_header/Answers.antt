@@ -5,4 +5,5 @@ use Rattle.encoding.proofs.event_header.Goals as goal
 
 pub returns : goal.returns
 returns c =
-    omega (arith, c.with_field.ensures, c.with_field-with_second.ensures, c.with_field-with_first.ensures, c.with_field-with_count.ensures, c.with_field-with_variant.ensures, c.header.ensures)
+    omega (arith, c.with_field.ensures, c.with_field-with_second.ensures, c.with_field-with_first.ensures, c.with_field-with_count.ensures,
+      c.with_field-with_variant.ensures, c.header.ensures)

@@ -26,7 +26,8 @@ put_word-requires-2 c =
 pub returns : goal.returns
 returns c = by_clause (let long = length-plain c.args.f (initialization c.args.rate) in (
       c.put_word-2.ensures ∙ ap (λ (out : List ℕ). overwritten out (c.args.place + 8) (word_bytes c.args.f.order c.args.rate)) c.put_word.ensures
-          ∙ record_written c.args.f c.args.out.now c.args.place 1 1 c.header.result (0 of 48 ∷ []) (word_bytes c.args.f.order c.args.rate) (omega (arith, long))
+          ∙ record_written c.args.f c.args.out.now c.args.place 1 1 c.header.result (0 of 48 ∷ []) (word_bytes c.args.f.order c.args.rate)
+            (omega (arith, long))
           (length-word_bytes c.args.f.order c.args.rate) (omega (arith, c.header.ensures))
           ∙ ap (overwritten c.args.out.now c.args.place) (sym (initialization_record c.args.f (λ key. 0) c.args.rate)),
       omega (arith, long),

@@ -15,4 +15,5 @@ put_word-requires c = let e = append-nil (word_bytes c.args.f.order c.args.word)
     omega (arith, rw e at c.requires, length-word_bytes c.args.f.order c.args.word)
 
 pub returns : goal.returns
-returns c = by_clause (rw (append-nil (word_bytes c.args.f.order c.args.word)) (c.put_word.ensures, omega (arith, length-word_bytes c.args.f.order c.args.word)))
+returns c = by_clause (rw (append-nil (word_bytes c.args.f.order c.args.word)) (c.put_word.ensures, omega (arith,
+    length-word_bytes c.args.f.order c.args.word)))

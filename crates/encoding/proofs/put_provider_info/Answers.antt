@@ -30,7 +30,8 @@ returns c = by_clause (let n = length c.args.name.now in
     let long = length-plain c.args.f (provider_info c.args.id c.args.name.now) in (
       c.put_stream.ensures
           ∙ ap (λ (out : List ℕ). overwritten out (c.args.place + 8) (padded c.args.name.now)) c.put_word.ensures
-          ∙ record_written c.args.f c.args.out.now c.args.place 0 c.stream_words-size.result c.with_field-word.result (1 of 4 ∷ c.args.id of 32 ∷ n of 8 ∷ 0 of 4 ∷ []) (padded c.args.name.now)
+          ∙ record_written c.args.f c.args.out.now c.args.place 0 c.stream_words-size.result c.with_field-word.result (1 of 4 ∷ c.args.id
+            of 32 ∷ n of 8 ∷ 0 of 4 ∷ []) (padded c.args.name.now)
           (omega (arith, long)) (omega (arith, length-padded c.args.name.now, c.stream_words-size.ensures))
           (omega (
             arith,

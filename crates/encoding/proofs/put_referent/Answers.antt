@@ -14,14 +14,17 @@ by_clause : {A B : Type 0} → A × B → record { out_after : A; value : B }
 by_clause w = record { out_after = w.0; value = w.1 }
 
 pub put_text-requires : goal.put_text-requires
-put_text-requires c = omega (arith, ap length (text_bytes_lem c.args.f c.args.index c.args.bytes.now), ap (λ w. length (part_bytes c.args.f w)) (referent_text c.args.f c.args.table c.args.index c.args.bytes.now c.if-table-ne3.true))
+put_text-requires c = omega (arith, ap length (text_bytes_lem c.args.f c.args.index c.args.bytes.now),
+    ap (λ w. length (part_bytes c.args.f w)) (referent_text c.args.f c.args.table c.args.index c.args.bytes.now c.if-table-ne3.true))
 
 pub returns-then-table-ne3 : goal.returns-then-table-ne3
-returns-then-table-ne3 c = by_clause (rw (referent_text c.args.f c.args.table c.args.index c.args.bytes.now c.if-table-ne3.true, text_bytes_lem c.args.f c.args.index c.args.bytes.now) (c.put_text.ensures.out_after, c.put_text.ensures.value))
+returns-then-table-ne3 c = by_clause (rw (referent_text c.args.f c.args.table c.args.index c.args.bytes.now c.if-table-ne3.true,
+    text_bytes_lem c.args.f c.args.index c.args.bytes.now) (c.put_text.ensures.out_after, c.put_text.ensures.value))
 
 pub returns-then-index-ne0 : goal.returns-then-index-ne0
 returns-then-index-ne0 c = by_clause (let t = thread (word_at c.args.f.order c.args.bytes.now 0) (word_at c.args.f.order c.args.bytes.now 8) in
-    rw (referent_thread c.args.f c.args.table c.args.index c.args.bytes.now c.if-table-ne3.false, indexed-thread c.args.f c.args.index t c.if-index-ne0.true)
+    rw (referent_thread c.args.f c.args.table c.args.index c.args.bytes.now c.if-table-ne3.false,
+      indexed-thread c.args.f c.args.index t c.if-index-ne0.true)
     (nothing_written c.args.out.now c.args.place, omega arith))
 
 pub word-requires : goal.word-requires

@@ -32,7 +32,8 @@ put_stream-requires c =
 pub returns : goal.returns
 returns c = by_clause (let n = length c.args.bytes.now in let long = length_string c.args.f c.args.index c.args.bytes.now in (
       c.put_stream.ensures ∙ ap (λ (out : List ℕ). overwritten out (c.args.place + 8) (padded c.args.bytes.now)) c.put_word.ensures
-          ∙ record_written c.args.f c.args.out.now c.args.place 2 c.stream_words-size.result c.with_field-word.result (c.args.index of 15 ∷ 0 of 1 ∷ n of 15 ∷ 0 of 17 ∷ [])
+          ∙ record_written c.args.f c.args.out.now c.args.place 2 c.stream_words-size.result c.with_field-word.result (c.args.index of 15
+            ∷ 0 of 1 ∷ n of 15 ∷ 0 of 17 ∷ [])
           (padded c.args.bytes.now) (omega (arith, long)) (omega (arith, length-padded c.args.bytes.now, c.stream_words-size.ensures))
           (omega (arith, c.with_field-word.ensures, c.with_field-indexed.ensures, c.header.ensures)),
       omega (arith, long, c.stream_words-size.ensures),

@@ -30,13 +30,16 @@ put_word-requires c =
 
 pub put_word-requires-2 : goal.put_word-requires-2
 put_word-requires-2 c =
-    let t = thread c.args.process c.args.thread in omega (arith, length_part c.args.f (thread_inline t), ap length (inline_thread c.args.f c.args.index t c.if-index-ne0.false))
+    let t = thread c.args.process c.args.thread in omega (arith, length_part c.args.f (thread_inline t),
+      ap length (inline_thread c.args.f c.args.index t c.if-index-ne0.false))
 
 pub returns : goal.returns
 returns c = by_clause (let t = thread c.args.process c.args.thread in let inline = inline_thread c.args.f c.args.index t c.if-index-ne0.false in
-    let first = word_bytes c.args.f.order c.args.process in let second = word_bytes c.args.f.order c.args.thread in let long = length_part c.args.f (thread_inline t) in (
+    let first = word_bytes c.args.f.order c.args.process in let second = word_bytes c.args.f.order c.args.thread in
+      let long = length_part c.args.f (thread_inline t) in (
       c.put_word-2.ensures ∙ ap (λ (out : List ℕ). overwritten out (c.args.place + 8) second) c.put_word.ensures
-          ∙ ap (λ (n : ℕ). overwritten (overwritten c.args.out.now c.args.place first) (c.args.place + n) second) (sym (length-word_bytes c.args.f.order c.args.process))
+          ∙ ap (λ (n : ℕ). overwritten (overwritten c.args.out.now c.args.place first) (c.args.place + n) second) (sym (length-word_bytes
+            c.args.f.order c.args.process))
           ∙ overwritten_twice c.args.out.now c.args.place first second (omega (arith, long, ap length inline))
           ∙ ap (overwritten c.args.out.now c.args.place) (sym inline),
       omega (arith, long, ap length inline),

@@ -32,13 +32,16 @@ put_word-requires-3 c =
     omega (arith, length-thread c.args.f c.args.index (thread c.args.process c.args.thread))
 
 pub returns : goal.returns
-returns c = by_clause (let t = thread c.args.process c.args.thread in let long = length-thread c.args.f c.args.index t in let headed = overwritten c.args.out.now c.args.place (word_bytes c.args.f.order c.with_field.result) in
+returns c = by_clause (let t = thread c.args.process c.args.thread in let long = length-thread c.args.f c.args.index t in
+    let headed = overwritten c.args.out.now c.args.place (word_bytes c.args.f.order c.with_field.result) in
     let same : length headed ≡ length c.args.out.now = length-overwritten c.args.out.now c.args.place (word_bytes c.args.f.order c.with_field.result)
     (omega (arith, long, length-word_bytes c.args.f.order c.with_field.result)) in (
-      c.put_word-3.ensures ∙ ap (λ (out : List ℕ). overwritten out (c.args.place + 16) (word_bytes c.args.f.order c.args.thread)) (c.put_word-2.ensures
+      c.put_word-3.ensures ∙ ap (λ (out : List ℕ). overwritten out (c.args.place + 16) (word_bytes c.args.f.order c.args.thread))
+        (c.put_word-2.ensures
           ∙ ap (λ (out : List ℕ). overwritten out (c.args.place + 8) (word_bytes c.args.f.order c.args.process)) c.put_word.ensures)
           ∙ thread_written c.args.f headed c.args.place c.args.process c.args.thread (omega (arith, long, same))
-          ∙ record_written c.args.f c.args.out.now c.args.place 3 2 c.with_field.result (c.args.index of 8 ∷ 0 of 40 ∷ []) (part_bytes c.args.f (thread_inline t)) (omega (arith, long))
+          ∙ record_written c.args.f c.args.out.now c.args.place 3 2 c.with_field.result (c.args.index of 8 ∷ 0 of 40 ∷ []) (part_bytes
+            c.args.f (thread_inline t)) (omega (arith, long))
           (length_part c.args.f (thread_inline t)) (omega (arith, c.with_field.ensures, c.header.ensures)),
       omega (arith, long),
     ))

@@ -8,10 +8,12 @@ use borrow.Author.Rules.{rules}
 use Rattle.exports.proofs.inthuchot_step.Goals as goal
 
 -- the clauses, of their product
-by_clause : {A B C : Type 0} → A × B × C → record { value : A; out_after : B; tables_after : C }
+by_clause : {A B C : Type 0} → A × (B × C) → record { value : A; out_after : B; tables_after : C }
 by_clause w = record { value = w.0; out_after = w.1.0; tables_after = w.1.1 }
 
 pub returns : goal.returns
-returns c = by_clause (let reply = c.step-stepped.ensures.value ∙ ap (step_reply small_format c.args.archive.now c.args.tables.now) c.given_state-start.ensures in
-    let tables = c.step-stepped.ensures.tables_after ∙ ap (step_tables small_format c.args.archive.now c.args.tables.now) c.given_state-start.ensures in
+returns c = by_clause (let reply = c.step-stepped.ensures.value ∙ ap (step_reply small_format c.args.archive.now c.args.tables.now)
+    c.given_state-start.ensures in
+    let tables = c.step-stepped.ensures.tables_after ∙ ap (step_tables small_format c.args.archive.now c.args.tables.now)
+      c.given_state-start.ensures in
     (c.put_reply.ensures.value, (c.put_reply.ensures.out_after ∙ ap (λ (r : Reply). put_numbers c.args.out.now (reply_numbers r)) reply, tables)))

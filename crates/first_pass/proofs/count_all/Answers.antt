@@ -13,7 +13,7 @@ use borrow.Author.Rules.{rules}
 use Rattle.first_pass.proofs.count_all.Goals as goal
 
 -- the clauses, of their product
-by_clause : {A B C D : Type 0} → A × B × C × D → record { count_is : A; room_after : B; slots_left : C; room_len_unchanged : D }
+by_clause : {A B C D : Type 0} → A × (B × (C × D)) → record { count_is : A; room_after : B; slots_left : C; room_len_unchanged : D }
 by_clause w = record { count_is = w.0; room_after = w.1.0; slots_left = w.1.1.0; room_len_unchanged = w.1.1.1 }
 
 pub loop-s-init : goal.loop-s-init
@@ -28,7 +28,8 @@ checked_record_at-checked-requires c =
 
 pub slice_bounds-follow-end : goal.slice_bounds-follow-end
 slice_bounds-follow-end c =
-    omega (arith, c.table_words-stretch.ensures, room_wide c.args.f c.args.archive.now c.args.room.now c.loop-s.room c.loop-s.s c.loop-s.found c.loop-s.words c.loop-s.invariant)
+    omega (arith, c.table_words-stretch.ensures, room_wide c.args.f c.args.archive.now c.args.room.now c.loop-s.room c.loop-s.s
+      c.loop-s.found c.loop-s.words c.loop-s.invariant)
 
 pub slice_bounds-follow-end-in-loop-s : goal.slice_bounds-follow-end-in-loop-s
 slice_bounds-follow-end-in-loop-s c =
@@ -42,38 +43,48 @@ follow-followed-requires c =
 
 pub shape_of-room-then-followed-ne0 : goal.shape_of-room-then-followed-ne0
 shape_of-room-then-followed-ne0 c =
-    followed-long c.args.f c.args.archive.now c.args.room.now c.loop-s.room c.loop-s.s c.loop-s.found c.loop-s.words c.loop-s.invariant c.loop-s-test.true c.checked_record_at-checked.result.record
-    c.checked_record_at-checked.ensures.record_value c.follow-followed.result c.follow-followed.ensures.value c.table_words-stretch.result c.table_words-stretch.ensures c.follow-followed.new.tables
+    followed-long c.args.f c.args.archive.now c.args.room.now c.loop-s.room c.loop-s.s c.loop-s.found c.loop-s.words c.loop-s.invariant
+      c.loop-s-test.true c.checked_record_at-checked.result.record
+    c.checked_record_at-checked.ensures.record_value c.follow-followed.result c.follow-followed.ensures.value c.table_words-stretch.result
+      c.table_words-stretch.ensures c.follow-followed.new.tables
     c.follow-followed.ensures.tables_after
 
 pub returns-then-followed-ne0 : goal.returns-then-followed-ne0
-returns-then-followed-ne0 c = by_clause (room_stops c.args.f c.args.archive.now c.args.room.now c.loop-s.room c.loop-s.s c.loop-s.found c.loop-s.words c.loop-s.invariant c.loop-s-test.true c.checked_record_at-checked.result.record
-    c.checked_record_at-checked.ensures.record_value c.follow-followed.result c.follow-followed.ensures.value c.table_words-stretch.result c.table_words-stretch.ensures c.follow-followed.new.tables
+returns-then-followed-ne0 c = by_clause (room_stops c.args.f c.args.archive.now c.args.room.now c.loop-s.room c.loop-s.s c.loop-s.found
+    c.loop-s.words c.loop-s.invariant c.loop-s-test.true c.checked_record_at-checked.result.record
+    c.checked_record_at-checked.ensures.record_value c.follow-followed.result c.follow-followed.ensures.value c.table_words-stretch.result
+      c.table_words-stretch.ensures c.follow-followed.new.tables
     c.follow-followed.ensures.tables_after
     c.if-followed-ne0.true)
 
 pub slice_bounds-renew-count : goal.slice_bounds-renew-count
 slice_bounds-renew-count c =
-    let long = followed-long c.args.f c.args.archive.now c.args.room.now c.loop-s.room c.loop-s.s c.loop-s.found c.loop-s.words c.loop-s.invariant c.loop-s-test.true
+    let long = followed-long c.args.f c.args.archive.now c.args.room.now c.loop-s.room c.loop-s.s c.loop-s.found c.loop-s.words
+      c.loop-s.invariant c.loop-s-test.true
     c.checked_record_at-checked.result.record
-    c.checked_record_at-checked.ensures.record_value c.follow-followed.result c.follow-followed.ensures.value c.table_words-stretch.result c.table_words-stretch.ensures c.follow-followed.new.tables
+    c.checked_record_at-checked.ensures.record_value c.follow-followed.result c.follow-followed.ensures.value c.table_words-stretch.result
+      c.table_words-stretch.ensures c.follow-followed.new.tables
     c.follow-followed.ensures.tables_after in
     omega (arith, long, c.table_words-stretch.ensures, c.loop-s.invariant.wide)
 
 pub slice_bounds-renew-start : goal.slice_bounds-renew-start
 slice_bounds-renew-start c =
-    let long = followed-long c.args.f c.args.archive.now c.args.room.now c.loop-s.room c.loop-s.s c.loop-s.found c.loop-s.words c.loop-s.invariant c.loop-s-test.true
+    let long = followed-long c.args.f c.args.archive.now c.args.room.now c.loop-s.room c.loop-s.s c.loop-s.found c.loop-s.words
+      c.loop-s.invariant c.loop-s-test.true
     c.checked_record_at-checked.result.record
-    c.checked_record_at-checked.ensures.record_value c.follow-followed.result c.follow-followed.ensures.value c.table_words-stretch.result c.table_words-stretch.ensures c.follow-followed.new.tables
+    c.checked_record_at-checked.ensures.record_value c.follow-followed.result c.follow-followed.ensures.value c.table_words-stretch.result
+      c.table_words-stretch.ensures c.follow-followed.new.tables
     c.follow-followed.ensures.tables_after in
     omega (arith, long, c.table_words-stretch.ensures, c.loop-s.invariant.wide)
 
 pub renew-requires : goal.renew-requires
 renew-requires c =
     let q = room_state c.args.f c.args.archive.now c.args.room.now c.loop-s.room c.loop-s.s c.loop-s.found c.loop-s.words c.loop-s.invariant in
-    let long = followed-long c.args.f c.args.archive.now c.args.room.now c.loop-s.room c.loop-s.s c.loop-s.found c.loop-s.words c.loop-s.invariant c.loop-s-test.true
+    let long = followed-long c.args.f c.args.archive.now c.args.room.now c.loop-s.room c.loop-s.s c.loop-s.found c.loop-s.words
+      c.loop-s.invariant c.loop-s-test.true
     c.checked_record_at-checked.result.record
-    c.checked_record_at-checked.ensures.record_value c.follow-followed.result c.follow-followed.ensures.value c.table_words-stretch.result c.table_words-stretch.ensures c.follow-followed.new.tables
+    c.checked_record_at-checked.ensures.record_value c.follow-followed.result c.follow-followed.ensures.value c.table_words-stretch.result
+      c.table_words-stretch.ensures c.follow-followed.new.tables
     c.follow-followed.ensures.tables_after in (
       c.requires.0,
       record {
@@ -88,18 +99,24 @@ renew-requires c =
 pub check_record-counted-requires : goal.check_record-counted-requires
 check_record-counted-requires c =
     let q = room_state c.args.f c.args.archive.now c.args.room.now c.loop-s.room c.loop-s.s c.loop-s.found c.loop-s.words c.loop-s.invariant in
-    let long = followed-long c.args.f c.args.archive.now c.args.room.now c.loop-s.room c.loop-s.s c.loop-s.found c.loop-s.words c.loop-s.invariant c.loop-s-test.true
+    let long = followed-long c.args.f c.args.archive.now c.args.room.now c.loop-s.room c.loop-s.s c.loop-s.found c.loop-s.words
+      c.loop-s.invariant c.loop-s-test.true
     c.checked_record_at-checked.result.record
-    c.checked_record_at-checked.ensures.record_value c.follow-followed.result c.follow-followed.ensures.value c.table_words-stretch.result c.table_words-stretch.ensures c.follow-followed.new.tables
+    c.checked_record_at-checked.ensures.record_value c.follow-followed.result c.follow-followed.ensures.value c.table_words-stretch.result
+      c.table_words-stretch.ensures c.follow-followed.new.tables
     c.follow-followed.ensures.tables_after in
-    let e = record_ends c.args.f c.args.archive.now c.args.room.now c.loop-s.room c.loop-s.s c.loop-s.found c.loop-s.words c.loop-s.invariant c.loop-s-test.true
+    let e = record_ends c.args.f c.args.archive.now c.args.room.now c.loop-s.room c.loop-s.s c.loop-s.found c.loop-s.words
+      c.loop-s.invariant c.loop-s-test.true
     c.checked_record_at-checked.result.record
-    c.checked_record_at-checked.ensures.record_value c.follow-followed.result c.follow-followed.ensures.value c.table_words-stretch.result c.table_words-stretch.ensures c.follow-followed.new.tables
+    c.checked_record_at-checked.ensures.record_value c.follow-followed.result c.follow-followed.ensures.value c.table_words-stretch.result
+      c.table_words-stretch.ensures c.follow-followed.new.tables
     c.follow-followed.ensures.tables_after
     c.if-followed-ne0.false in
-    let recalls = room_recalls c.args.f c.args.archive.now c.args.room.now c.loop-s.room c.loop-s.s c.loop-s.found c.loop-s.words c.loop-s.invariant c.loop-s-test.true
+    let recalls = room_recalls c.args.f c.args.archive.now c.args.room.now c.loop-s.room c.loop-s.s c.loop-s.found c.loop-s.words
+      c.loop-s.invariant c.loop-s-test.true
     c.checked_record_at-checked.result.record
-    c.checked_record_at-checked.ensures.record_value c.follow-followed.result c.follow-followed.ensures.value c.table_words-stretch.result c.table_words-stretch.ensures c.follow-followed.new.tables
+    c.checked_record_at-checked.ensures.record_value c.follow-followed.result c.follow-followed.ensures.value c.table_words-stretch.result
+      c.table_words-stretch.ensures c.follow-followed.new.tables
     c.follow-followed.ensures.tables_after
     c.if-followed-ne0.false c.renew.new.slots (rw part_from at c.renew.ensures) in (
       record { fits = c.requires.0; short = q.0; wide = omega (arith, c.room-in-loop-s-1.given, long, c.loop-s.invariant.wide); low = q.2 },
@@ -117,10 +134,13 @@ overflow_add-words c =
     omega (
       arith,
       (room_state c.args.f c.args.archive.now c.args.room.now c.loop-s.room c.loop-s.s c.loop-s.found c.loop-s.words c.loop-s.invariant).0,
-      room_words_lem c.args.f c.args.archive.now c.args.room.now c.loop-s.room c.loop-s.s c.loop-s.found c.loop-s.words c.loop-s.invariant c.loop-s-test.true c.checked_record_at-checked.result.record
-          c.checked_record_at-checked.ensures.record_value c.follow-followed.result c.follow-followed.ensures.value c.table_words-stretch.result c.table_words-stretch.ensures c.follow-followed.new.tables
+      room_words_lem c.args.f c.args.archive.now c.args.room.now c.loop-s.room c.loop-s.s c.loop-s.found c.loop-s.words c.loop-s.invariant
+        c.loop-s-test.true c.checked_record_at-checked.result.record
+          c.checked_record_at-checked.ensures.record_value c.follow-followed.result c.follow-followed.ensures.value
+            c.table_words-stretch.result c.table_words-stretch.ensures c.follow-followed.new.tables
           c.follow-followed.ensures.tables_after
-          c.if-followed-ne0.false c.renew.new.slots (rw part_from at c.renew.ensures) c.check_record-counted.result c.check_record-counted.ensures.value,
+          c.if-followed-ne0.false c.renew.new.slots (rw part_from at c.renew.ensures) c.check_record-counted.result
+            c.check_record-counted.ensures.value,
     )
 
 pub loop-s-smaller : goal.loop-s-smaller
@@ -128,18 +148,23 @@ loop-s-smaller c =
     omega (
       arith,
       c.loop-s-test.true,
-      record_ends c.args.f c.args.archive.now c.args.room.now c.loop-s.room c.loop-s.s c.loop-s.found c.loop-s.words c.loop-s.invariant c.loop-s-test.true c.checked_record_at-checked.result.record
-          c.checked_record_at-checked.ensures.record_value c.follow-followed.result c.follow-followed.ensures.value c.table_words-stretch.result c.table_words-stretch.ensures c.follow-followed.new.tables
+      record_ends c.args.f c.args.archive.now c.args.room.now c.loop-s.room c.loop-s.s c.loop-s.found c.loop-s.words c.loop-s.invariant
+        c.loop-s-test.true c.checked_record_at-checked.result.record
+          c.checked_record_at-checked.ensures.record_value c.follow-followed.result c.follow-followed.ensures.value
+            c.table_words-stretch.result c.table_words-stretch.ensures c.follow-followed.new.tables
           c.follow-followed.ensures.tables_after
           c.if-followed-ne0.false,
     )
 
 pub loop-s-preserved : goal.loop-s-preserved
 loop-s-preserved c =
-    room_turns c.args.f c.args.archive.now c.args.room.now c.loop-s.room c.loop-s.s c.loop-s.found c.loop-s.words c.loop-s.invariant c.loop-s-test.true c.checked_record_at-checked.result.record
-    c.checked_record_at-checked.ensures.record_value c.follow-followed.result c.follow-followed.ensures.value c.table_words-stretch.result c.table_words-stretch.ensures c.follow-followed.new.tables
+    room_turns c.args.f c.args.archive.now c.args.room.now c.loop-s.room c.loop-s.s c.loop-s.found c.loop-s.words c.loop-s.invariant
+      c.loop-s-test.true c.checked_record_at-checked.result.record
+    c.checked_record_at-checked.ensures.record_value c.follow-followed.result c.follow-followed.ensures.value c.table_words-stretch.result
+      c.table_words-stretch.ensures c.follow-followed.new.tables
     c.follow-followed.ensures.tables_after
-    c.if-followed-ne0.false c.renew.new.slots (rw part_from at c.renew.ensures) c.check_record-counted.result c.check_record-counted.ensures.value c.check_record-counted.new.room
+    c.if-followed-ne0.false c.renew.new.slots (rw part_from at c.renew.ensures) c.check_record-counted.result
+      c.check_record-counted.ensures.value c.check_record-counted.new.room
     c.lowest-found.result
     c.room-in-loop-s-2-1.given c.check_record-counted.ensures.room_after c.lowest-found.ensures
 
@@ -148,5 +173,6 @@ shape_of-room c =
     c.loop-s.invariant.long
 
 pub returns : goal.returns
-returns c = by_clause (rw c.conclude.ensures (room_ends c.args.f c.args.archive.now c.args.room.now c.loop-s.room c.loop-s.s c.loop-s.found c.loop-s.words c.loop-s.invariant
+returns c = by_clause (rw c.conclude.ensures (room_ends c.args.f c.args.archive.now c.args.room.now c.loop-s.room c.loop-s.s
+    c.loop-s.found c.loop-s.words c.loop-s.invariant
     c.loop-s-test.false))

@@ -14,12 +14,13 @@ use borrow.Author.Rules.{rules}
 use Rattle.first_pass.proofs.count_arguments.Goals as goal
 
 -- the clauses, of their product
-by_clause : {A B C : Type 0} → A × B × C → record { good_value : A; words_value : B; room_after : C }
+by_clause : {A B C : Type 0} → A × (B × C) → record { good_value : A; words_value : B; room_after : C }
 by_clause w = record { good_value = w.0; words_value = w.1.0; room_after = w.1.1 }
 
 pub loop-left-init : goal.loop-left-init
 loop-left-init c =
-    record { tables = refl; long = refl; goods = refl; slots = refl; sum = omega arith; inside = refl; behind = c.requires.3; recalls = c.requires.4; few = omega arith; kept = c.requires.5 }
+    record { tables = refl; long = refl; goods = refl; slots = refl; sum = omega arith; inside = refl; behind = c.requires.3; recalls =
+      c.requires.4; few = omega arith; kept = c.requires.5 }
 
 pub texts_of-texts-requires : goal.texts_of-texts-requires
 texts_of-texts-requires c =
@@ -32,15 +33,19 @@ shape_of-room-in-Refused c =
 pub returns-in-Refused : goal.returns-in-Refused
 returns-in-Refused c = by_clause (let all = arguments_read c.args.f c.args.count c.args.part.now c.args.place in
     let end = c.args.place + length c.args.part.now in
-    let none = none_read c.args.f c.args.archive.now c.args.room.now c.args.context c.args.until all end c.loop-left.room c.loop-left.left c.loop-left.rest.now c.loop-left.at
-    c.loop-left.good c.loop-left.words c.args.count c.loop-left.invariant _ c.loop-left-test.true (texts_refused c.args.f c.loop-left.rest.now c.loop-left.at _ (sym
+    let none = none_read c.args.f c.args.archive.now c.args.room.now c.args.context c.args.until all end c.loop-left.room c.loop-left.left
+      c.loop-left.rest.now c.loop-left.at
+    c.loop-left.good c.loop-left.words c.args.count c.loop-left.invariant _ c.loop-left-test.true (texts_refused c.args.f
+      c.loop-left.rest.now c.loop-left.at _ (sym
     c.texts_of-texts.ensures ∙ c.in-Refused.is)) in
-    walk_ends c.args.f c.args.archive.now c.args.room.now c.args.context c.args.until all end c.loop-left.room c.loop-left.left c.loop-left.rest.now c.loop-left.at c.loop-left.good
+    walk_ends c.args.f c.args.archive.now c.args.room.now c.args.context c.args.until all end c.loop-left.room c.loop-left.left
+      c.loop-left.rest.now c.loop-left.at c.loop-left.good
     c.loop-left.words c.args.count c.loop-left.invariant none)
 
 pub count_texts-requires : goal.count_texts-requires
 count_texts-requires c =
-    let k = texts_countable c.args.f c.args.archive.now c.loop-left.rest.now c.loop-left.at c.in-Texts.name c.in-Texts.value c.in-Texts.size c.loop-left.invariant.behind (omega
+    let k = texts_countable c.args.f c.args.archive.now c.loop-left.rest.now c.loop-left.at c.in-Texts.name c.in-Texts.value
+      c.in-Texts.size c.loop-left.invariant.behind (omega
     (arith, c.loop-left.invariant.inside, c.requires.1)) (sym c.texts_of-texts.ensures ∙ c.in-Texts.is) in (
       can_after c.args.f c.args.archive.now c.args.room.now c.args.context c.args.until c.requires.0 c.loop-left.room c.loop-left.invariant.long,
       stands_can c.args.archive.now
@@ -54,7 +59,8 @@ inline_bytes-requires c =
     let all = arguments_read c.args.f c.args.count c.args.part.now c.args.place in
     let end = c.args.place + length c.args.part.now in
     let read = sym c.texts_of-texts.ensures ∙ c.in-Texts.is in
-    let few = turn_few c.args.f c.args.archive.now c.args.room.now c.args.context c.args.until all end c.loop-left.room c.loop-left.left c.loop-left.rest.now c.loop-left.at c.loop-left.good
+    let few = turn_few c.args.f c.args.archive.now c.args.room.now c.args.context c.args.until all end c.loop-left.room c.loop-left.left
+      c.loop-left.rest.now c.loop-left.at c.loop-left.good
     c.loop-left.words c.args.count c.loop-left.invariant c.in-Texts.name c.in-Texts.value c.in-Texts.size c.loop-left-test.true read in
     omega (arith, few.0, few.1, c.loop-left.invariant.inside, c.requires.1, c.requires.0.short)
 
@@ -63,7 +69,8 @@ inline_bytes-requires-in-Texts c =
     let all = arguments_read c.args.f c.args.count c.args.part.now c.args.place in
     let end = c.args.place + length c.args.part.now in
     let read = sym c.texts_of-texts.ensures ∙ c.in-Texts.is in
-    let few = turn_few c.args.f c.args.archive.now c.args.room.now c.args.context c.args.until all end c.loop-left.room c.loop-left.left c.loop-left.rest.now c.loop-left.at c.loop-left.good
+    let few = turn_few c.args.f c.args.archive.now c.args.room.now c.args.context c.args.until all end c.loop-left.room c.loop-left.left
+      c.loop-left.rest.now c.loop-left.at c.loop-left.good
     c.loop-left.words c.args.count c.loop-left.invariant c.in-Texts.name c.in-Texts.value c.in-Texts.size c.loop-left-test.true read in
     omega (arith, few.0, few.1, c.loop-left.invariant.inside, c.requires.1, c.requires.0.short)
 
@@ -72,39 +79,47 @@ overflow_add-spelled c =
     let all = arguments_read c.args.f c.args.count c.args.part.now c.args.place in
     let end = c.args.place + length c.args.part.now in
     let read = sym c.texts_of-texts.ensures ∙ c.in-Texts.is in
-    let few = turn_few c.args.f c.args.archive.now c.args.room.now c.args.context c.args.until all end c.loop-left.room c.loop-left.left c.loop-left.rest.now c.loop-left.at c.loop-left.good
+    let few = turn_few c.args.f c.args.archive.now c.args.room.now c.args.context c.args.until all end c.loop-left.room c.loop-left.left
+      c.loop-left.rest.now c.loop-left.at c.loop-left.good
     c.loop-left.words c.args.count c.loop-left.invariant c.in-Texts.name c.in-Texts.value c.in-Texts.size c.loop-left-test.true read in
-    omega (arith, few.0, few.1, c.loop-left.invariant.inside, c.requires.1, c.requires.0.short, c.inline_bytes.ensures, c.inline_bytes-in-Texts.ensures)
+    omega (arith, few.0, few.1, c.loop-left.invariant.inside, c.requires.1, c.requires.0.short, c.inline_bytes.ensures,
+      c.inline_bytes-in-Texts.ensures)
 
 pub overflow_sub-words : goal.overflow_sub-words
 overflow_sub-words c =
     let all = arguments_read c.args.f c.args.count c.args.part.now c.args.place in
     let end = c.args.place + length c.args.part.now in
     let read = sym c.texts_of-texts.ensures ∙ c.in-Texts.is in
-    let few = turn_few c.args.f c.args.archive.now c.args.room.now c.args.context c.args.until all end c.loop-left.room c.loop-left.left c.loop-left.rest.now c.loop-left.at c.loop-left.good
+    let few = turn_few c.args.f c.args.archive.now c.args.room.now c.args.context c.args.until all end c.loop-left.room c.loop-left.left
+      c.loop-left.rest.now c.loop-left.at c.loop-left.good
     c.loop-left.words c.args.count c.loop-left.invariant c.in-Texts.name c.in-Texts.value c.in-Texts.size c.loop-left-test.true read in
-    omega (arith, few.0, few.1, c.loop-left.invariant.inside, c.requires.1, c.requires.0.short, c.inline_bytes.ensures, c.inline_bytes-in-Texts.ensures)
+    omega (arith, few.0, few.1, c.loop-left.invariant.inside, c.requires.1, c.requires.0.short, c.inline_bytes.ensures,
+      c.inline_bytes-in-Texts.ensures)
 
 pub overflow_add-words : goal.overflow_add-words
 overflow_add-words c =
     let all = arguments_read c.args.f c.args.count c.args.part.now c.args.place in
     let end = c.args.place + length c.args.part.now in
     let read = sym c.texts_of-texts.ensures ∙ c.in-Texts.is in
-    let few = turn_few c.args.f c.args.archive.now c.args.room.now c.args.context c.args.until all end c.loop-left.room c.loop-left.left c.loop-left.rest.now c.loop-left.at c.loop-left.good
+    let few = turn_few c.args.f c.args.archive.now c.args.room.now c.args.context c.args.until all end c.loop-left.room c.loop-left.left
+      c.loop-left.rest.now c.loop-left.at c.loop-left.good
     c.loop-left.words c.args.count c.loop-left.invariant c.in-Texts.name c.in-Texts.value c.in-Texts.size c.loop-left-test.true read in
     omega (arith, few.2, c.loop-left.invariant.few, c.requires.2, c.inline_bytes.ensures, c.inline_bytes-in-Texts.ensures)
 
 pub slice_bounds-rest-count : goal.slice_bounds-rest-count
 slice_bounds-rest-count c =
-    texts_inside c.args.f c.loop-left.rest.now c.loop-left.at c.in-Texts.name c.in-Texts.value c.in-Texts.size (sym c.texts_of-texts.ensures ∙ c.in-Texts.is)
+    texts_inside c.args.f c.loop-left.rest.now c.loop-left.at c.in-Texts.name c.in-Texts.value c.in-Texts.size (sym
+      c.texts_of-texts.ensures ∙ c.in-Texts.is)
 
 pub slice_bounds-rest-start : goal.slice_bounds-rest-start
 slice_bounds-rest-start c =
-    texts_inside c.args.f c.loop-left.rest.now c.loop-left.at c.in-Texts.name c.in-Texts.value c.in-Texts.size (sym c.texts_of-texts.ensures ∙ c.in-Texts.is)
+    texts_inside c.args.f c.loop-left.rest.now c.loop-left.at c.in-Texts.name c.in-Texts.value c.in-Texts.size (sym
+      c.texts_of-texts.ensures ∙ c.in-Texts.is)
 
 pub overflow_add-at : goal.overflow_add-at
 overflow_add-at c =
-    let s = texts_inside c.args.f c.loop-left.rest.now c.loop-left.at c.in-Texts.name c.in-Texts.value c.in-Texts.size (sym c.texts_of-texts.ensures ∙ c.in-Texts.is) in
+    let s = texts_inside c.args.f c.loop-left.rest.now c.loop-left.at c.in-Texts.name c.in-Texts.value c.in-Texts.size (sym
+      c.texts_of-texts.ensures ∙ c.in-Texts.is) in
     omega (arith, s, c.loop-left.invariant.inside, c.requires.1, c.requires.0.short)
 
 pub loop-left-preserved : goal.loop-left-preserved
@@ -113,13 +128,19 @@ loop-left-preserved c =
     let end = c.args.place + length c.args.part.now in
     let long : length c.count_texts.new.room ≡ length c.loop-left.room = search rules in
     let read = sym c.texts_of-texts.ensures ∙ c.in-Texts.is in
-    let k = texts_countable c.args.f c.args.archive.now c.loop-left.rest.now c.loop-left.at c.in-Texts.name c.in-Texts.value c.in-Texts.size c.loop-left.invariant.behind (omega
+    let k = texts_countable c.args.f c.args.archive.now c.loop-left.rest.now c.loop-left.at c.in-Texts.name c.in-Texts.value
+      c.in-Texts.size c.loop-left.invariant.behind (omega
     (arith, c.loop-left.invariant.inside, c.requires.1)) read in
-    let can = can_after c.args.f c.args.archive.now c.args.room.now c.args.context c.args.until c.requires.0 c.loop-left.room c.loop-left.invariant.long in
+    let can = can_after c.args.f c.args.archive.now c.args.room.now c.args.context c.args.until c.requires.0 c.loop-left.room
+      c.loop-left.invariant.long in
     rw (part_from, c.both-good.ensures, c.inline_bytes.ensures, c.inline_bytes-in-Texts.ensures)
-    (walk_turns_texts c.args.f c.args.archive.now c.args.room.now c.args.context c.args.until all end c.loop-left.room c.loop-left.left c.loop-left.rest.now c.loop-left.at c.loop-left.good
-    c.loop-left.words c.args.count c.loop-left.invariant c.in-Texts.name c.in-Texts.value c.in-Texts.size c.count_texts.result c.count_texts.new.room c.loop-left-test.true read (omega
-    (arith, c.loop-left.invariant.long, c.requires.0.wide)) long (c.count_texts.ensures.value, c.count_texts.ensures.room_after) (recalls_after c.args.f c.args.archive.now c.loop-left.room c.args.context c.args.until can c.count_texts.new.room long
+    (walk_turns_texts c.args.f c.args.archive.now c.args.room.now c.args.context c.args.until all end c.loop-left.room c.loop-left.left
+      c.loop-left.rest.now c.loop-left.at c.loop-left.good
+    c.loop-left.words c.args.count c.loop-left.invariant c.in-Texts.name c.in-Texts.value c.in-Texts.size c.count_texts.result
+      c.count_texts.new.room c.loop-left-test.true read (omega
+    (arith, c.loop-left.invariant.long, c.requires.0.wide)) long (c.count_texts.ensures.value,
+      c.count_texts.ensures.room_after) (recalls_after c.args.f c.args.archive.now c.loop-left.room c.args.context c.args.until can
+      c.count_texts.new.room long
     (text_lookup c.in-Texts.name ∷ text_lookup c.in-Texts.value ∷ []) k c.loop-left.invariant.recalls c.count_texts.ensures.room_after))
 
 pub shape_of-room : goal.shape_of-room
@@ -128,7 +149,9 @@ shape_of-room c = c.loop-left.invariant.long
 pub returns : goal.returns
 returns c = by_clause (let all = arguments_read c.args.f c.args.count c.args.part.now c.args.place in
     let end = c.args.place + length c.args.part.now in
-    let none = none_left c.args.f c.args.archive.now c.args.room.now c.args.context c.args.until all end c.loop-left.room c.loop-left.left c.loop-left.rest.now c.loop-left.at
+    let none = none_left c.args.f c.args.archive.now c.args.room.now c.args.context c.args.until all end c.loop-left.room c.loop-left.left
+      c.loop-left.rest.now c.loop-left.at
     c.loop-left.good c.loop-left.words c.args.count c.loop-left.invariant (omega (arith, c.loop-left-test.false)) in
-    walk_ends c.args.f c.args.archive.now c.args.room.now c.args.context c.args.until all end c.loop-left.room c.loop-left.left c.loop-left.rest.now c.loop-left.at c.loop-left.good
+    walk_ends c.args.f c.args.archive.now c.args.room.now c.args.context c.args.until all end c.loop-left.room c.loop-left.left
+      c.loop-left.rest.now c.loop-left.at c.loop-left.good
     c.loop-left.words c.args.count c.loop-left.invariant none)

@@ -16,10 +16,6 @@ use Rattle.first_pass.proofs.Memory.{slot_none, slot_some}
 use borrow.Author.Rules.{rules}
 use Rattle.first_pass.proofs.count_known.Goals as goal
 
--- two facts as one
-both : {A B : Type 0} → A → B → A × B
-both a b = (a, b)
-
 -- the clauses, of their product
 by_clause : {A B : Type 0} → A × B → record { value : A; room_after : B }
 by_clause w = record { value = w.0; room_after = w.1 }
@@ -43,22 +39,30 @@ add_use-slot-requires c =
 
 pub returns-then-slot-eq0 : goal.returns-then-slot-eq0
 unfolding count_good count_slots
-returns-then-slot-eq0 c = by_clause (let used = rw (part_from c.table_words-words.result c.args.room.now) at both c.add_use-slot.ensures.value c.add_use-slot.ensures.slots_after in
-    let twice = lent_twice c.table_words-words.result c.args.room.now c.add_use-slot.new.slots c.note.new.slots (omega (arith, c.table_words-words.ensures, c.requires.0.wide)) in
-    let slot = find_of c.args.archive.now c.table_words-words.result (drop c.table_words-words.result c.args.room.now) (key_of c.args.archive.now c.args.place c.label_of-label.result) in
+returns-then-slot-eq0 c = by_clause (let slot_is = rw (part_from c.table_words-words.result c.args.room.now) at c.add_use-slot.ensures.value in
+    let slots_are = rw (part_from c.table_words-words.result c.args.room.now) at c.add_use-slot.ensures.slots_after in
+    let twice = lent_twice c.table_words-words.result c.args.room.now c.add_use-slot.new.slots c.note.new.slots (omega (arith,
+      c.table_words-words.ensures, c.requires.0.wide)) in
+    let slot = find_of c.args.archive.now c.table_words-words.result (drop c.table_words-words.result c.args.room.now) (key_of
+      c.args.archive.now c.args.place c.label_of-label.result) in
     let noted = rw (part_from, twice.0) at c.note.ensures in
     simp (← c.table_words-words.ensures, ne_eqb _ _ c.if-length-eq0.false, ← c.label_of-label.ensures, ← c.highest_of-highest.ensures) (
-      sym (slot_none c.table_words-words.result (drop c.table_words-words.result c.args.room.now) c.label_of-label.result c.highest_of-highest.result slot (sym used.0.0 ∙ c.if-slot-eq0.true)),
-      twice.1 ∙ ap (λ (l : List ℕ). take c.table_words-words.result c.args.room.now ++ l) (noted ∙ rw (used.1, used.0.0)),
+      sym (slot_none c.table_words-words.result (drop c.table_words-words.result c.args.room.now) c.label_of-label.result
+        c.highest_of-highest.result slot (sym slot_is.0 ∙ c.if-slot-eq0.true)),
+      twice.1 ∙ ap (λ (l : List ℕ). take c.table_words-words.result c.args.room.now ++ l) (noted ∙ rw (slots_are, slot_is.0)),
     ))
 
 pub returns : goal.returns
 unfolding count_good count_slots
-returns c = by_clause (let used = rw (part_from c.table_words-words.result c.args.room.now) at both c.add_use-slot.ensures.value c.add_use-slot.ensures.slots_after in
-    let twice = lent_twice c.table_words-words.result c.args.room.now c.add_use-slot.new.slots c.note.new.slots (omega (arith, c.table_words-words.ensures, c.requires.0.wide)) in
-    let slot = find_of c.args.archive.now c.table_words-words.result (drop c.table_words-words.result c.args.room.now) (key_of c.args.archive.now c.args.place c.label_of-label.result) in
+returns c = by_clause (let slot_is = rw (part_from c.table_words-words.result c.args.room.now) at c.add_use-slot.ensures.value in
+    let slots_are = rw (part_from c.table_words-words.result c.args.room.now) at c.add_use-slot.ensures.slots_after in
+    let twice = lent_twice c.table_words-words.result c.args.room.now c.add_use-slot.new.slots c.note.new.slots (omega (arith,
+      c.table_words-words.ensures, c.requires.0.wide)) in
+    let slot = find_of c.args.archive.now c.table_words-words.result (drop c.table_words-words.result c.args.room.now) (key_of
+      c.args.archive.now c.args.place c.label_of-label.result) in
     let noted = rw (part_from, twice.0) at c.note.ensures in
     simp (← c.table_words-words.ensures, ne_eqb _ _ c.if-length-eq0.false, ← c.label_of-label.ensures, ← c.highest_of-highest.ensures) (
-      sym (slot_some c.table_words-words.result (drop c.table_words-words.result c.args.room.now) c.label_of-label.result c.highest_of-highest.result slot (λ z. c.if-slot-eq0.false (used.0.0 ∙ z))),
-      twice.1 ∙ ap (λ (l : List ℕ). take c.table_words-words.result c.args.room.now ++ l) (noted ∙ rw (used.1, used.0.0)),
+      sym (slot_some c.table_words-words.result (drop c.table_words-words.result c.args.room.now) c.label_of-label.result
+        c.highest_of-highest.result slot (λ z. c.if-slot-eq0.false (slot_is.0 ∙ z))),
+      twice.1 ∙ ap (λ (l : List ℕ). take c.table_words-words.result c.args.room.now ++ l) (noted ∙ rw (slots_are, slot_is.0)),
     ))

@@ -11,10 +11,12 @@ by_clause w = record { value = w.0; room_after = w.1 }
 pub use_again-requires : goal.use_again-requires
 use_again-requires c =
     again_fits c.args.f c.args.archive.now c.args.room.now c.args.context c.args.until
-    (record { table = c.args.table; reference = c.args.reference }) c.table_words-words.result c.recall-known.result c.requires.0 c.requires.4 c.requires.1 c.requires.2
+    (record { table = c.args.table; reference = c.args.reference }) c.table_words-words.result c.recall-known.result c.requires.0
+      c.requires.4 c.requires.1 c.requires.2
     c.table_words-words.ensures c.recall-known.ensures c.if-known-ne0.true
 
 pub returns-then-known-ne0 : goal.returns-then-known-ne0
 returns-then-known-ne0 c = by_clause (again_counts c.args.f c.args.archive.now c.args.room.now c.args.context c.args.until
-    (record { table = c.args.table; reference = c.args.reference }) c.table_words-words.result c.recall-known.result c.requires.0 c.requires.4 c.requires.1 c.requires.2
+    (record { table = c.args.table; reference = c.args.reference }) c.table_words-words.result c.recall-known.result c.requires.0
+      c.requires.4 c.requires.1 c.requires.2
     c.table_words-words.ensures c.recall-known.ensures c.if-known-ne0.true c.use_again.new.slots c.use_again.ensures)

@@ -2,7 +2,6 @@
 use native.Mathlib.Omega.{arith}
 use mathlib.Core.Path.{ap}
 use Rattle.format.specs.Part.{inline_bytes}
-use borrow.Author.Rules.{rules}
 use Rattle.format.proofs.inline_bytes.Goals as goal
 
 pub overflow_mul-result : goal.overflow_mul-result

@@ -1,7 +1,6 @@
 -- `format::record_words` meets its contract: each answer is what the definition gives under the tests that led there. Assumes nothing.
 use borrow.Author.Tests.{eq-eqb, ne_eqb}
 use Rattle.format.specs.Header.{record_words}
-use borrow.Author.Rules.{rules}
 use Rattle.format.proofs.record_words.Goals as goal
 
 pub returns-then-field-eq15 : goal.returns-then-field-eq15

@@ -1,6 +1,5 @@
 -- `format::table_of` meets its contract: each answer is what the definition gives under the tests that led there. Assumes nothing.
 use Rattle.format.specs.Part.{table_of}
-use borrow.Author.Rules.{rules}
 use Rattle.format.proofs.table_of.Goals as goal
 
 pub returns-in-Words : goal.returns-in-Words

@@ -2,7 +2,6 @@
 use mathlib.Core.Path.{subst}
 use Rattle.format.specs.Part.{take_part}
 use Rattle.format.specs.Models.Bounds.{PartFits}
-use borrow.Author.Rules.{rules}
 use Rattle.format.proofs.take_part.Goals as goal
 
 pub take_words-requires : goal.take_words-requires

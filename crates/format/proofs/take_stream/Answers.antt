@@ -1,7 +1,6 @@
 -- `format::take_stream` meets its contract: each answer is what the definition gives under the tests that led there. Assumes nothing.
 use borrow.Author.Tests.{lt-ltb, le-ltb}
 use Rattle.format.specs.Part.{take_stream}
-use borrow.Author.Rules.{rules}
 use Rattle.format.proofs.take_stream.Goals as goal
 
 pub returns-then-f-n : goal.returns-then-f-n

@@ -1,7 +1,6 @@
 -- `format::take_thread` meets its contract: each answer is what the definition gives under the tests that led there. Assumes nothing.
 use borrow.Author.Tests.{eq-eqb, ne_eqb}
 use Rattle.format.specs.Part.{take_thread}
-use borrow.Author.Rules.{rules}
 use Rattle.format.proofs.take_thread.Goals as goal
 
 pub returns-then-reference-eq0 : goal.returns-then-reference-eq0

@@ -1,7 +1,6 @@
 -- `format::take_words` meets its contract: each answer is what the definition gives under the tests that led there. Assumes nothing.
 use borrow.Author.Tests.{lt-ltb, le-ltb}
 use Rattle.format.specs.Part.{take_words}
-use borrow.Author.Rules.{rules}
 use Rattle.format.proofs.take_words.Goals as goal
 
 pub returns-then-start-source : goal.returns-then-start-source

@@ -1,6 +1,5 @@
 -- `hashing::block` meets its contract: the four words are those of the definition. Assumes nothing.
 use Rattle.hashing.specs.Models.Hash.{block_of}
-use Rattle.std.proofs.Common.{rules}
 use Rattle.hashing.proofs.block.Goals as goal
 
 pub returns : goal.returns

@@ -1,5 +1,5 @@
 -- `hashing::few` meets its contract: each answer is what the definition gives for so many bytes. Assumes nothing.
-use Rattle.std.proofs.Common.{rules, le-ltb, lt-ltb, eq-eqb, ne_eqb}
+use Rattle.std.proofs.Common.{le-ltb, lt-ltb, eq-eqb, ne_eqb}
 use Rattle.hashing.specs.Models.Hash.{few_of}
 use Rattle.hashing.proofs.few.Goals as goal
 

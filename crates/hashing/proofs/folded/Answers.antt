@@ -1,5 +1,5 @@
 -- `hashing::folded` meets its contract: the sum of the halves is that of the definition. Assumes nothing.
-use Rattle.std.proofs.Common.{arith, rules}
+use Rattle.std.proofs.Common.{arith}
 use Rattle.hashing.specs.Models.Hash.{folded_of}
 use Rattle.hashing.proofs.folded.Goals as goal
 

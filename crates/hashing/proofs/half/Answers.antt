@@ -1,5 +1,5 @@
 -- `hashing::half` meets its contract: the first four bytes of the part that starts at the place are those there (half_part). Assumes nothing.
-use Rattle.std.proofs.Common.{◌+◌, ◌-◌, ◌∙◌, arith, rules}
+use Rattle.std.proofs.Common.{◌+◌, ◌-◌, ◌∙◌, arith}
 use Rattle.hashing.proofs.Laws.{half_part}
 use Rattle.hashing.proofs.half.Goals as goal
 

@@ -1,5 +1,5 @@
 -- `hashing::hash` meets its contract: each turn takes one block more (blocks_turn), and the last block ends with the bytes. Assumes nothing.
-use Rattle.std.proofs.Common.{◌≡◌, ◌-◌, ◌/◌, ◌≤◌, length, refl, arith, rules, le-ltb, lt-ltb}
+use Rattle.std.proofs.Common.{◌≡◌, ◌-◌, ◌/◌, length, refl, arith, rules, le-ltb, lt-ltb}
 use Rattle.hashing.specs.Models.Hash.{blocks_of, hash_of}
 use Rattle.hashing.proofs.Laws.{blocks_turn}
 use Rattle.hashing.proofs.hash.Goals as goal

@@ -1,6 +1,5 @@
-use Rattle.std.proofs.Common.{◌≡◌, ◌-◌, ◌/◌, ◌≤◌, length, refl, arith, rules, le-ltb, lt-ltb}
-use Rattle.hashing.specs.Models.Hash.{blocks_of, hash_of}
-use Rattle.hashing.proofs.Laws.{blocks_turn}
+use Rattle.std.proofs.Common.{◌≡◌, ◌-◌, ◌≤◌}
+use Rattle.hashing.specs.Models.Hash.{blocks_of}
 use Rattle.hashing.proofs.hash.Given as goal
 
 abbrev pub invariant-loop-i : goal.invariant-loop-i

@@ -1,6 +1,5 @@
 -- `hashing::join` meets its contract: the sums are those of the definition, one by one. Assumes nothing.
 use Rattle.hashing.specs.Models.Hash.{join_of}
-use Rattle.std.proofs.Common.{rules}
 use Rattle.hashing.proofs.join.Goals as goal
 
 pub returns : goal.returns

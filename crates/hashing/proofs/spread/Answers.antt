@@ -1,5 +1,5 @@
 -- `hashing::spread` meets its contract: the halves are fields of the word, and so no product overflows (product_low). Assumes nothing.
-use Rattle.std.proofs.Common.{arith, rules}
+use Rattle.std.proofs.Common.{arith}
 use Rattle.hashing.specs.Models.Hash.{spread_of}
 use Rattle.hashing.proofs.Laws.{product_low}
 use Rattle.hashing.proofs.spread.Goals as goal

@@ -1,6 +1,5 @@
 -- `hashing::swapped` meets its contract: the halves are fields of the word, put together the other way round. Assumes nothing.
 use Rattle.hashing.specs.Models.Hash.{swapped_of}
-use Rattle.std.proofs.Common.{rules}
 use Rattle.hashing.proofs.swapped.Goals as goal
 
 pub returns : goal.returns

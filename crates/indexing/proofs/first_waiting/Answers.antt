@@ -12,7 +12,8 @@ loop-s-init c = (search rules, λ x low. absurd (omega arith))
 
 pub returns-then-uses_in-eq1 : goal.returns-then-uses_in-eq1
 returns-then-uses_in-eq1 c =
-    record { waits = λ low. (search rules, sym c.uses_in.ensures.0 ∙ c.if-uses_in-eq1.true); settled = λ high. absurd (omega (arith, c.requires.some)) }
+    record { waits = λ low. (search rules, sym c.uses_in.ensures.0 ∙ c.if-uses_in-eq1.true); settled = λ high. absurd (omega (arith,
+      c.requires.some)) }
 
 pub loop-s-preserved : goal.loop-s-preserved
 loop-s-preserved c =

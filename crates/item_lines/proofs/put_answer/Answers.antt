@@ -1,7 +1,6 @@
 -- `put_answer` meets its contract: what is put is the definition's for each case of an answer.
 use Rattle.item_lines.specs.Line.{magic_line, answer_line}
 use Rattle.lines.proofs.Puts.{puts_none}
-use borrow.Author.Rules.{rules}
 use Rattle.item_lines.proofs.put_answer.Goals as goal
 
 pub returns-in-End : goal.returns-in-End

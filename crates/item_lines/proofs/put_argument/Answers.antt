@@ -1,7 +1,6 @@
 -- `put_argument` meets its contract: the parts of the line, one behind the other.
 use Rattle.item_lines.specs.Line.{argument_line}
 use Rattle.lines.proofs.Puts.{◌then◌}
-use borrow.Author.Rules.{rules}
 use Rattle.item_lines.proofs.put_argument.Goals as goal
 
 pub returns : goal.returns

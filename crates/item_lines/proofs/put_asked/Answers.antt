@@ -1,6 +1,5 @@
 -- `put_asked` meets its contract: what is put is the definition's for each case.
 use Rattle.item_lines.specs.Line.{asked_line}
-use borrow.Author.Rules.{rules}
 use Rattle.item_lines.proofs.put_asked.Goals as goal
 
 pub returns-in-Refused : goal.returns-in-Refused

@@ -1,7 +1,6 @@
 -- `put_event_start` meets its contract: the parts of the line, one behind the other.
 use Rattle.item_lines.specs.Line.{event_start}
 use Rattle.lines.proofs.Puts.{◌then◌}
-use borrow.Author.Rules.{rules}
 use Rattle.item_lines.proofs.put_event_start.Goals as goal
 
 pub returns : goal.returns

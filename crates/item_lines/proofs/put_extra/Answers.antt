@@ -1,7 +1,6 @@
 -- `put_extra` meets its contract: a number where the type has an extra word, else nothing.
 use Rattle.item_lines.specs.Line.{extra_shown}
 use Rattle.lines.proofs.Puts.{puts_none}
-use borrow.Author.Rules.{rules}
 use Rattle.item_lines.proofs.put_extra.Goals as goal
 
 pub returns-then-has_extra : goal.returns-then-has_extra

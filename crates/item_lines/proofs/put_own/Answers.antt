@@ -1,6 +1,5 @@
 -- `put_own` meets its contract: what is put is the definition's for each kind.
 use Rattle.item_lines.specs.Line.{own_shown}
-use borrow.Author.Rules.{rules}
 use Rattle.item_lines.proofs.put_own.Goals as goal
 
 pub returns-in-Event : goal.returns-in-Event

@@ -1,7 +1,6 @@
 -- `put_referents` meets its contract: the three that are referred to, one behind the other.
 use Rattle.item_lines.specs.Line.{referents_shown}
 use Rattle.lines.proofs.Puts.{◌then◌}
-use borrow.Author.Rules.{rules}
 use Rattle.item_lines.proofs.put_referents.Goals as goal
 
 pub returns : goal.returns

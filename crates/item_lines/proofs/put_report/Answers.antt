@@ -1,7 +1,6 @@
 -- `put_report` meets its contract: what is shown of its kind, and the end of the line.
 use Rattle.item_lines.specs.Line.{report_line}
 use Rattle.lines.proofs.Puts.{◌then◌}
-use borrow.Author.Rules.{rules}
 use Rattle.item_lines.proofs.put_report.Goals as goal
 
 pub returns : goal.returns

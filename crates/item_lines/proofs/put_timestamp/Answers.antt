@@ -1,7 +1,6 @@
 -- `put_timestamp` meets its contract: the provider, the timestamp and the rate, one behind the other.
 use Rattle.item_lines.specs.Line.{timestamp_shown}
 use Rattle.lines.proofs.Puts.{◌then◌}
-use borrow.Author.Rules.{rules}
 use Rattle.item_lines.proofs.put_timestamp.Goals as goal
 
 pub returns : goal.returns

@@ -1,11 +1,7 @@
-use Prim.Native.Nat.{ℕ, ◌≤◌, ◌-◌, ◌+◌}
-use mathlib.Core.Path.{◌≡◌, refl, ap, ◌∙◌}
-use mathlib.Core.List.{List}
-use lib.ListN.{length, set, get_or, take, length-set}
-use native.Mathlib.Omega.{arith}
+use Prim.Native.Nat.{◌≤◌, ◌-◌}
+use mathlib.Core.Path.{◌≡◌}
+use lib.ListN.{length, take}
 use Rattle.words.specs.Stream.{overwritten}
-use Rattle.words.proofs.Streams.{none-overwritten}
-use Rattle.lines.proofs.Puts.{more_copied}
 use Rattle.lines.proofs.copy.Given as goal
 
 abbrev pub invariant-loop-i : goal.invariant-loop-i

@@ -1,6 +1,5 @@
 -- `put_boolean` meets its contract: `1` for true and `0` for false.
 use Rattle.lines.specs.Shown.{boolean_shown}
-use borrow.Author.Rules.{rules}
 use Rattle.lines.proofs.put_boolean.Goals as goal
 
 pub returns-then-value : goal.returns-then-value

@@ -1,6 +1,5 @@
 -- `put_bytes` meets its contract: as many bytes as fit are copied (puts_copied).
 use Rattle.lines.proofs.Puts.{puts_copied}
-use borrow.Author.Rules.{rules}
 use Rattle.lines.proofs.put_bytes.Goals as goal
 
 pub returns : goal.returns

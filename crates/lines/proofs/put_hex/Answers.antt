@@ -1,13 +1,12 @@
 -- `put_hex` meets its contract: each turn puts one byte more (leaves_less).
-use Prim.Native.Nat.{ℕ, ◌≤◌, ◌<◌, ◌-◌, ◌+◌}
+use Prim.Native.Nat.{ℕ, ◌<◌}
 use mathlib.Core.Path.{◌≡◌, refl, ap, ◌∙◌}
-use mathlib.Core.List.{List}
 use lib.ListN.{length, drop}
 use lib.Seq.{drop-cons, drop-length}
 use native.Mathlib.Omega.{arith}
 use native.Mathlib.Numerals.{add-one}
 use Rattle.lines.specs.Shown.{hex_shown}
-use Rattle.lines.proofs.Puts.{Leaves, leaves_all, leaves_less, leaves_none, leaves_same}
+use Rattle.lines.proofs.Puts.{leaves_all, leaves_less, leaves_none, leaves_same}
 use borrow.Author.Rules.{rules}
 use Rattle.lines.proofs.put_hex.Goals as goal
 
@@ -27,4 +26,5 @@ pub returns : goal.returns
 unfolding hex_shown
 returns c =
     let all : c.loop-i.i ≡ length c.args.bytes.now = omega arith in
-    leaves_none (leaves_same c.loop-i.invariant.2 (ap (λ (i : ℕ). hex_shown (drop i c.args.bytes.now)) all ∙ ap hex_shown (drop-length c.args.bytes.now)))
+    let none-left = ap (λ (i : ℕ). hex_shown (drop i c.args.bytes.now)) all ∙ ap hex_shown (drop-length c.args.bytes.now) in
+    leaves_none (leaves_same c.loop-i.invariant.2 none-left)

@@ -3,9 +3,8 @@ use mathlib.Core.Path.{◌∙◌}
 use native.Mathlib.Omega.{arith}
 use Rattle.lines.proofs.Numbers.{hex_digits}
 use Rattle.lines.proofs.Puts.{puts_same}
-use borrow.Author.Rules.{rules}
 use Rattle.lines.proofs.put_hex_byte.Goals as goal
 
 pub returns : goal.returns
 returns c =
-    puts_same c.put_bytes.ensures (c.hex-k.ensures.1.1 ∙ hex_digits 2 c.hex-k.result c.args.byte (omega arith) c.hex-k.ensures.len)
+    puts_same c.put_bytes.ensures (c.hex-k.ensures.digits ∙ hex_digits 2 c.hex-k.result c.args.byte (omega arith) c.hex-k.ensures.len)

@@ -1,7 +1,6 @@
 -- `put_negative` meets its contract: a space and `-`, then the digits of the magnitude.
 use Rattle.lines.specs.Shown.{signed_shown}
 use Rattle.lines.proofs.Puts.{◌then◌}
-use borrow.Author.Rules.{rules}
 use Rattle.lines.proofs.put_negative.Goals as goal
 
 pub returns : goal.returns

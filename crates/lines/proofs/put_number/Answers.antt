@@ -1,7 +1,6 @@
 -- `put_number` meets its contract: a space, then the digits.
 use Rattle.lines.specs.Shown.{number_shown}
 use Rattle.lines.proofs.Puts.{◌then◌}
-use borrow.Author.Rules.{rules}
 use Rattle.lines.proofs.put_number.Goals as goal
 
 pub returns : goal.returns

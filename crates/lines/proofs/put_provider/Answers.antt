@@ -1,6 +1,5 @@
 -- `put_provider` meets its contract: what is put is the definition's for each case of a provider.
 use Rattle.lines.specs.Shown.{provider_shown}
-use borrow.Author.Rules.{rules}
 use Rattle.lines.proofs.put_provider.Goals as goal
 
 pub returns-in-None : goal.returns-in-None

@@ -1,6 +1,5 @@
 -- `put_referent` meets its contract: what is put is the definition's for each case of what is referred to.
 use Rattle.lines.specs.Shown.{referent_shown}
-use borrow.Author.Rules.{rules}
 use Rattle.lines.proofs.put_referent.Goals as goal
 
 pub returns-in-Text : goal.returns-in-Text

@@ -4,7 +4,6 @@ use mir.Syntax.{w32, w64}
 use Rattle.lines.proofs.Puts.{puts_same}
 use Rattle.lines.proofs.Signs.{handed_on}
 use Rattle.lines.specs.Shown.{scalar_shown}
-use borrow.Author.Rules.{rules}
 use Rattle.lines.proofs.put_scalar.Goals as goal
 
 pub returns-in-Null : goal.returns-in-Null

@@ -9,7 +9,6 @@ use Prim.Native.Nat.{◌<◌, ◌^◌}
 use native.Mathlib.Omega.{arith}
 use mir.Syntax.{w64}
 use mir.Val.{Fits}
-use borrow.Author.Rules.{rules}
 use Rattle.lines.proofs.put_signed.Goals as goal
 
 pub overflow_sub-n : goal.overflow_sub-n

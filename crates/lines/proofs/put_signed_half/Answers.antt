@@ -7,7 +7,6 @@ use mathlib.Core.Path.{subst⁻¹}
 use mir.Val.{SFits}
 use mir.Syntax.{w64}
 use mir.Facts.{to_z-of_z, sfits_widen}
-use borrow.Author.Rules.{rules}
 use Rattle.lines.proofs.put_signed_half.Goals as goal
 
 pub overflow_cast-n : goal.overflow_cast-n

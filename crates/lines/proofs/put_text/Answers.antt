@@ -1,6 +1,5 @@
 -- `put_text` meets its contract: what is put is the definition's for each case of a text.
 use Rattle.lines.specs.Shown.{text_shown}
-use borrow.Author.Rules.{rules}
 use Rattle.lines.proofs.put_text.Goals as goal
 
 pub returns-in-At : goal.returns-in-At

@@ -1,7 +1,6 @@
 -- `put_text_bytes` meets its contract: the length, a colon, the bytes.
 use Rattle.lines.specs.Shown.{bytes_shown}
 use Rattle.lines.proofs.Puts.{◌then◌}
-use borrow.Author.Rules.{rules}
 use Rattle.lines.proofs.put_text_bytes.Goals as goal
 
 pub returns : goal.returns

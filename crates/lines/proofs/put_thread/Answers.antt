@@ -1,6 +1,5 @@
 -- `put_thread` meets its contract: what is put is the definition's for each case of a thread.
 use Rattle.lines.specs.Shown.{thread_shown}
-use borrow.Author.Rules.{rules}
 use Rattle.lines.proofs.put_thread.Goals as goal
 
 pub returns-in-Words : goal.returns-in-Words

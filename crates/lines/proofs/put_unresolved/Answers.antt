@@ -1,7 +1,6 @@
 -- `put_unresolved` meets its contract: a space and `?`, then the digits of the index.
 use Rattle.lines.specs.Shown.{unresolved_shown}
 use Rattle.lines.proofs.Puts.{◌then◌}
-use borrow.Author.Rules.{rules}
 use Rattle.lines.proofs.put_unresolved.Goals as goal
 
 pub returns : goal.returns

@@ -1,6 +1,5 @@
 -- `put_value` meets its contract: what is put is the definition's for each case of a value.
 use Rattle.lines.specs.Shown.{value_shown}
-use borrow.Author.Rules.{rules}
 use Rattle.lines.proofs.put_value.Goals as goal
 
 pub returns-in-Scalar : goal.returns-in-Scalar

@@ -1,6 +1,5 @@
 -- `put_words` meets its contract: one number, then the other.
 use Rattle.lines.proofs.Puts.{◌then◌}
-use borrow.Author.Rules.{rules}
 use Rattle.lines.proofs.put_words.Goals as goal
 
 pub returns : goal.returns

@@ -1,6 +1,5 @@
 -- `value_type` meets its contract for each case of a value.
 use Rattle.lines.specs.Shown.{value_type}
-use borrow.Author.Rules.{rules}
 use Rattle.lines.proofs.value_type.Goals as goal
 
 pub returns-in-Scalar : goal.returns-in-Scalar

@@ -1,6 +1,5 @@
 -- `is_end` meets its contract for each case of an answer.
 use Rattle.listings.specs.Listing.{is_end}
-use borrow.Author.Rules.{rules}
 use Rattle.listings.proofs.is_end.Goals as goal
 
 pub returns-in-End : goal.returns-in-End

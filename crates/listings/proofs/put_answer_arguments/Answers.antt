@@ -1,7 +1,6 @@
 -- `put_answer_arguments` meets its contract: a report's arguments, and nothing for any other answer.
 use Rattle.listings.specs.Listing.{answer_arguments}
 use Rattle.lines.proofs.Puts.{puts_none}
-use borrow.Author.Rules.{rules}
 use Rattle.listings.proofs.put_answer_arguments.Goals as goal
 
 pub returns-in-Report : goal.returns-in-Report

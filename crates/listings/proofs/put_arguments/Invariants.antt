@@ -1,13 +1,9 @@
-use Prim.Native.Nat.{ℕ, ◌≤◌, ◌<◌, ◌-◌, ◌+◌}
-use mathlib.Core.Path.{◌≡◌, refl, ap, ◌∙◌}
-use mathlib.Core.List.{List}
-use native.Mathlib.Omega.{arith}
+use Prim.Native.Nat.{◌≤◌, ◌-◌}
+use mathlib.Core.Path.{◌≡◌}
 use lib.ListN.{length}
 use Rattle.format.specs.Limits.{small_format}
-use Rattle.item_lines.specs.Line.{asked_line}
 use Rattle.listings.specs.Listing.{argument_lines}
-use Rattle.lines.proofs.Puts.{puts_same, Leaves, leaves_all, leaves_less, leaves_none, leaves_same}
-use Rattle.listings.proofs.Turns.{arguments_turn}
+use Rattle.lines.proofs.Puts.{Leaves}
 use Rattle.listings.proofs.put_arguments.Given as goal
 
 abbrev pub invariant-loop-number : goal.invariant-loop-number

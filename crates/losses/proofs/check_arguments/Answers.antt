@@ -55,5 +55,6 @@ loop-left-preserved c =
 
 pub returns : goal.returns
 returns c =
-    rw c.both-keeps-2.ensures (sym (c.loop-left.invariant.0 ∙ check_end c.args.f c.loop-left.keeps c.loop-left.left c.loop-left.rest.now c.loop-left.at c.args.extra
+    rw c.both-keeps-2.ensures (sym (c.loop-left.invariant.0 ∙ check_end c.args.f c.loop-left.keeps c.loop-left.left c.loop-left.rest.now
+      c.loop-left.at c.args.extra
     (omega (arith, c.loop-left-test.false))))

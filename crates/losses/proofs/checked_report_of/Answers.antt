@@ -104,7 +104,8 @@ pub returns-in-End : goal.returns-in-End
 returns-in-End c =
     let is = checked_report c.args.f c.args.source.now c.args.place c.layout_of-layout.result c.in-Fields.first c.in-Fields.second
     c.in-Fields.third c.in-Fields.stream c.in-Fields.next c.in-End.at c.in-End.keeps
-    c.requires.0 (sym (c.layout_of-layout.ensures ∙ ap layout_of c.word.ensures)) (sym c.take_fields-fields.ensures ∙ c.in-Fields.is) (simp part_from at (sym
+    c.requires.0 (sym (c.layout_of-layout.ensures ∙ ap layout_of c.word.ensures)) (sym c.take_fields-fields.ensures
+      ∙ c.in-Fields.is) (simp part_from at (sym
     c.check_arguments-end.ensures ∙ c.in-End.is)) in
     rw (c.both.ensures, c.report_with.ensures, c.fields_keep-kept.ensures, c.last_word-last.ensures)
     (sym is.0, sym is.1)

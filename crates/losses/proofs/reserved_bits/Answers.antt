@@ -10,17 +10,21 @@ returns-then-variant-eq6 c = simp (← c.field.ensures, eq-eqb _ _ c.if-variant-
 
 pub returns-then-variant-eq9 : goal.returns-then-variant-eq9
 unfolding reserved_bits
-returns-then-variant-eq9 c = simp (← c.field-then-variant-eq9.ensures, eq-eqb _ _ c.if-variant-eq9.true, ne_eqb _ _ c.if-variant-eq6.false, ← c.field-variant.ensures)
+returns-then-variant-eq9 c = simp (← c.field-then-variant-eq9.ensures, eq-eqb _ _ c.if-variant-eq9.true, ne_eqb _ _ c.if-variant-eq6.false,
+    ← c.field-variant.ensures)
 
 pub returns-then-variant-eq1 : goal.returns-then-variant-eq1
 unfolding reserved_bits
-returns-then-variant-eq1 c = simp (eq-eqb _ _ c.if-variant-eq1.true, ne_eqb _ _ c.if-variant-eq9.false, ne_eqb _ _ c.if-variant-eq6.false, ← c.field-variant.ensures)
+returns-then-variant-eq1 c = simp (eq-eqb _ _ c.if-variant-eq1.true, ne_eqb _ _ c.if-variant-eq9.false, ne_eqb _ _ c.if-variant-eq6.false,
+    ← c.field-variant.ensures)
 
 pub returns-then-variant-eq2 : goal.returns-then-variant-eq2
 unfolding reserved_bits
-returns-then-variant-eq2 c = simp (eq-eqb _ _ c.if-variant-eq2.true, ne_eqb _ _ c.if-variant-eq1.false, ne_eqb _ _ c.if-variant-eq9.false, ne_eqb _ _ c.if-variant-eq6.false, ← c.field-variant.ensures)
+returns-then-variant-eq2 c = simp (eq-eqb _ _ c.if-variant-eq2.true, ne_eqb _ _ c.if-variant-eq1.false, ne_eqb _ _ c.if-variant-eq9.false,
+    ne_eqb _ _ c.if-variant-eq6.false, ← c.field-variant.ensures)
 
 pub returns : goal.returns
 unfolding reserved_bits
 returns c =
-    simp (← c.field-2.ensures, ne_eqb _ _ c.if-variant-eq2.false, ne_eqb _ _ c.if-variant-eq1.false, ne_eqb _ _ c.if-variant-eq9.false, ne_eqb _ _ c.if-variant-eq6.false, ← c.field-variant.ensures)
+    simp (← c.field-2.ensures, ne_eqb _ _ c.if-variant-eq2.false, ne_eqb _ _ c.if-variant-eq1.false, ne_eqb _ _ c.if-variant-eq9.false,
+      ne_eqb _ _ c.if-variant-eq6.false, ← c.field-variant.ensures)

@@ -12,7 +12,7 @@ by_clause : {A B : Type 0} → A × B → record { f_value : A; f_in_bounds : B 
 by_clause w = record { f_value = w.0; f_in_bounds = w.1 }
 
 -- the clauses, of their product
-by_clauses_of_value_output_after_room_len_unchanged : {A B C : Type 0} → A × B × C → record { value : A; output_after : B; room_len_unchanged : C }
+by_clauses_of_value_output_after_room_len_unchanged : {A B C : Type 0} → A × (B × C) → record { value : A; output_after : B; room_len_unchanged : C }
 by_clauses_of_value_output_after_room_len_unchanged w = record { value = w.0; output_after = w.1.0; room_len_unchanged = w.1.1 }
 
 pub table_words-stretch-requires : goal.table_words-stretch-requires
@@ -65,4 +65,6 @@ returns-in-Words c = by_clauses_of_value_output_after_room_len_unchanged (let n 
     let m =
     lent_measured c.args.f c.args.archive.now c.count_all-count.new.room c.in-Words.fixed c.measure-keys.result c.table_words-stretch.result
     c.requires.0 (λ i. omega (arith, c.type_inv.archive i)) c.requires.1 n.0 tallies n.1 c.table_words-stretch.ensures c.measure-keys.ensures.0 in
-    rw (n.0, ← m.0) (c.write.ensures.value, (c.write.ensures.output_after, (c.write.ensures.room_len_unchanged.0 ∙ c.count_all-count.ensures.room_len_unchanged.0, c.write.ensures.room_len_unchanged.1 ∙ c.count_all-count.ensures.room_len_unchanged.1))))
+    rw (n.0, ← m.0) (c.write.ensures.value, (c.write.ensures.output_after, (c.write.ensures.room_len_unchanged.0
+      ∙ c.count_all-count.ensures.room_len_unchanged.0, c.write.ensures.room_len_unchanged.1
+      ∙ c.count_all-count.ensures.room_len_unchanged.1))))

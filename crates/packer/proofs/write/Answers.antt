@@ -9,7 +9,7 @@ use borrow.Author.Rules.{rules}
 use Rattle.packer.proofs.write.Goals as goal
 
 -- the clauses, of their product
-by_clause : {A B C : Type 0} → A × B × C → record { value : A; output_after : B; room_len_unchanged : C }
+by_clause : {A B C : Type 0} → A × (B × C) → record { value : A; output_after : B; room_len_unchanged : C }
 by_clause w = record { value = w.0; output_after = w.1.0; room_len_unchanged = w.1.1 }
 
 -- the clauses, of their product
@@ -26,15 +26,19 @@ table_words-stretch-requires c =
 
 pub write_all-requires : goal.write_all-requires
 write_all-requires c = by_clauses_of_asks_chosen (let r =
-    choices_ready c.args.f c.args.archive.now c.args.room.now c.clear.new.tables c.choose.new.slots c.clear-2.new.tables c.table_words-stretch.result c.table_words-stretch.ensures
+    choices_ready c.args.f c.args.archive.now c.args.room.now c.clear.new.tables c.choose.new.slots c.clear-2.new.tables
+      c.table_words-stretch.result c.table_words-stretch.ensures
     c.requires.f_in_bounds.0 c.requires.f_in_bounds.1 c.clear.ensures c.choose.ensures c.clear-2.ensures in (
-      (c.requires.f_value.0, c.requires.f_value.1, c.requires.f_value.2, omega (arith, r.same_length, c.requires.f_in_bounds.0), r.zeros, omega (arith, c.requires.f_value.3, c.if-output-long.false), r.forgets),
+      (c.requires.f_value.0, c.requires.f_value.1, c.requires.f_value.2, omega (arith, r.same_length, c.requires.f_in_bounds.0), r.zeros,
+        omega (arith, c.requires.f_value.3, c.if-output-long.false), r.forgets),
       r.chosen,
     ))
 
 pub returns : goal.returns
 unfolding written_reply
 returns c = by_clause (let r =
-    choices_ready c.args.f c.args.archive.now c.args.room.now c.clear.new.tables c.choose.new.slots c.clear-2.new.tables c.table_words-stretch.result c.table_words-stretch.ensures
+    choices_ready c.args.f c.args.archive.now c.args.room.now c.clear.new.tables c.choose.new.slots c.clear-2.new.tables
+      c.table_words-stretch.result c.table_words-stretch.ensures
     c.requires.f_in_bounds.0 c.requires.f_in_bounds.1 c.clear.ensures c.choose.ensures c.clear-2.ensures in
-    rw (le-ltb _ _ c.if-output-long.false) (refl, (c.write_all.ensures.out_after, (c.write_all.ensures.room_len_unchanged.0 ∙ r.same_length, c.write_all.ensures.room_len_unchanged.1 ∙ r.behind))))
+    rw (le-ltb _ _ c.if-output-long.false) (refl, (c.write_all.ensures.out_after, (c.write_all.ensures.room_len_unchanged.0
+      ∙ r.same_length, c.write_all.ensures.room_len_unchanged.1 ∙ r.behind))))

@@ -26,7 +26,8 @@ remember-requires c =
 pub returns-in-Register : goal.returns-in-Register
 unfolding renewed_by
 returns-in-Register c =
-    simp (← c.effect_of-effect.ensures, c.in-Register.is, ← c.position_of-entry.ensures, ← c.registered_slot-slot.ensures.0, ← c.table_words.ensures) c.remember.ensures
+    simp (← c.effect_of-effect.ensures, c.in-Register.is, ← c.position_of-entry.ensures, ← c.registered_slot-slot.ensures.0,
+      ← c.table_words.ensures) c.remember.ensures
 
 pub returns-in-Stop : goal.returns-in-Stop
 unfolding renewed_by

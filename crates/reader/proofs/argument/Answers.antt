@@ -30,8 +30,10 @@ ask_place-requires c =
 pub returns-then-belongs : goal.returns-then-belongs
 unfolding argument_reply
 returns-then-belongs c =
-    simp (← c.ask_place.ensures, c.if-belongs.true, ← c.belongs.ensures, eq-eqb _ _ c.if-refused-ne0.false, ← c.opening_number-refused.ensures, ← c.small_format-f.ensures)
+    simp (← c.ask_place.ensures, c.if-belongs.true, ← c.belongs.ensures, eq-eqb _ _ c.if-refused-ne0.false,
+      ← c.opening_number-refused.ensures, ← c.small_format-f.ensures)
 
 pub returns : goal.returns
 unfolding argument_reply
-returns c = simp (c.if-belongs.false, ← c.belongs.ensures, eq-eqb _ _ c.if-refused-ne0.false, ← c.opening_number-refused.ensures, ← c.small_format-f.ensures)
+returns c = simp (c.if-belongs.false, ← c.belongs.ensures, eq-eqb _ _ c.if-refused-ne0.false, ← c.opening_number-refused.ensures,
+    ← c.small_format-f.ensures)

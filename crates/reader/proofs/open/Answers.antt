@@ -19,16 +19,20 @@ pub opening_number-number-requires : goal.opening_number-number-requires
 opening_number-number-requires c = rw c.small_format-f.ensures small_fits
 
 pub returns-then-number-ne0 : goal.returns-then-number-ne0
-returns-then-number-ne0 c = by_clause (simp (ne_eqb _ _ c.if-number-ne0.true, ← c.opening_number-number.ensures, ← c.opening_state-state.ensures, ← c.small_format-f.ensures) (refl, refl))
+returns-then-number-ne0 c = by_clause (simp (ne_eqb _ _ c.if-number-ne0.true, ← c.opening_number-number.ensures,
+    ← c.opening_state-state.ensures, ← c.small_format-f.ensures) (refl, refl))
 
 pub table_words-requires : goal.table_words-requires
 table_words-requires c = rw c.small_format-f.ensures small_fits
 
 pub clear-requires : goal.clear-requires
 clear-requires c =
-    let a = admitted c.small_format-f.result c.args.archive.now (length c.args.tables.now) (sym c.opening_number-number.ensures ∙ c.if-number-ne0.false) in omega (arith, c.table_words.ensures, a.enough)
+    let a = admitted c.small_format-f.result c.args.archive.now (length c.args.tables.now) (sym c.opening_number-number.ensures
+      ∙ c.if-number-ne0.false) in omega (arith, c.table_words.ensures, a.enough)
 
 pub returns : goal.returns
-returns c = by_clause (let d : opening_number small_format c.args.archive.now (length c.args.tables.now) ≡ 0 = subst (λ f. opening_number f c.args.archive.now
-    (length c.args.tables.now) ≡ 0) c.small_format-f.ensures (sym c.opening_number-number.ensures ∙ c.if-number-ne0.false) in let w : c.table_words.result ≡ 6912 = c.table_words.ensures
+returns c = by_clause (let d : opening_number small_format c.args.archive.now (length c.args.tables.now) ≡ 0 = subst (λ f. opening_number
+    f c.args.archive.now
+    (length c.args.tables.now) ≡ 0) c.small_format-f.ensures (sym c.opening_number-number.ensures ∙ c.if-number-ne0.false) in
+      let w : c.table_words.result ≡ 6912 = c.table_words.ensures
     ∙ ap table_words c.small_format-f.ensures in (simp (d, c.opening_state-state.ensures), c.clear.ensures ∙ simp (d, w)))

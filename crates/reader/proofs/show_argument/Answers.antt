@@ -11,7 +11,8 @@ returns-then-is_bad c = simp (c.if-is_bad.true, ← c.is_bad.ensures, ← c.reso
 pub returns-then-is_bad-2 : goal.returns-then-is_bad-2
 unfolding none_bad shown_value is_bad resolved
 returns-then-is_bad-2 c =
-    simp (c.if-is_bad-2.true, ← c.is_bad-in-Text.ensures, ← c.resolve-held.ensures, c.in-Text.is, c.if-is_bad.false, ← c.is_bad.ensures, ← c.resolve-named.ensures)
+    simp (c.if-is_bad-2.true, ← c.is_bad-in-Text.ensures, ← c.resolve-held.ensures, c.in-Text.is, c.if-is_bad.false, ← c.is_bad.ensures,
+      ← c.resolve-named.ensures)
 
 pub returns-in-Scalar : goal.returns-in-Scalar
 unfolding none_bad shown_value is_bad resolved
@@ -21,4 +22,5 @@ returns-in-Scalar c =
 pub returns-else-is_bad-2 : goal.returns-else-is_bad-2
 unfolding none_bad shown_value is_bad resolved
 returns-else-is_bad-2 c =
-    simp (← c.shown_text-in-Text-2.ensures, ← c.shown_text-in-Text.ensures, c.if-is_bad-2.false, ← c.is_bad-in-Text.ensures, ← c.resolve-held.ensures, c.in-Text.is, c.if-is_bad.false, ← c.is_bad.ensures, ← c.resolve-named.ensures)
+    simp (← c.shown_text-in-Text-2.ensures, ← c.shown_text-in-Text.ensures, c.if-is_bad-2.false, ← c.is_bad-in-Text.ensures,
+      ← c.resolve-held.ensures, c.in-Text.is, c.if-is_bad.false, ← c.is_bad.ensures, ← c.resolve-named.ensures)

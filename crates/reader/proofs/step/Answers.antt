@@ -19,17 +19,21 @@ opening_number-number-requires c = rw c.small_format-f.ensures small_fits
 
 pub returns-then-number-ne0 : goal.returns-then-number-ne0
 unfolding decision_of stopping changed
-returns-then-number-ne0 c = by_clause (simp (← c.small_format-f.ensures, ← c.opening_number-number.ensures, ne_eqb _ _ c.if-number-ne0.true) (c.stop.ensures, refl))
+returns-then-number-ne0 c = by_clause (simp (← c.small_format-f.ensures, ← c.opening_number-number.ensures,
+    ne_eqb _ _ c.if-number-ne0.true) (c.stop.ensures, refl))
 
 pub step_place-requires : goal.step_place-requires
 step_place-requires c =
-    let a = admitted c.small_format-f.result c.args.archive.now (length c.args.tables.now) (sym c.opening_number-number.ensures ∙ c.if-number-ne0.false) in
+    let a = admitted c.small_format-f.result c.args.archive.now (length c.args.tables.now) (sym c.opening_number-number.ensures
+      ∙ c.if-number-ne0.false) in
     (rw c.small_format-f.ensures small_fits, omega (arith, a.short), a.enough, sym c.belongs.ensures ∙ c.if-belongs.true)
 
 pub returns-then-belongs : goal.returns-then-belongs
 unfolding decision_of
-returns-then-belongs c = by_clause (simp (← c.small_format-f.ensures, ← c.opening_number-number.ensures, eq-eqb _ _ c.if-number-ne0.false, ← c.belongs.ensures, c.if-belongs.true) (c.step_place.ensures.value, c.step_place.ensures.tables_after))
+returns-then-belongs c = by_clause (simp (← c.small_format-f.ensures, ← c.opening_number-number.ensures, eq-eqb _ _ c.if-number-ne0.false,
+    ← c.belongs.ensures, c.if-belongs.true) (c.step_place.ensures.value, c.step_place.ensures.tables_after))
 
 pub returns : goal.returns
 unfolding decision_of stopping changed
-returns c = by_clause (simp (← c.small_format-f.ensures, ← c.opening_number-number.ensures, eq-eqb _ _ c.if-number-ne0.false, ← c.belongs.ensures, c.if-belongs.false) (c.stop-2.ensures, refl))
+returns c = by_clause (simp (← c.small_format-f.ensures, ← c.opening_number-number.ensures, eq-eqb _ _ c.if-number-ne0.false,
+    ← c.belongs.ensures, c.if-belongs.false) (c.stop-2.ensures, refl))

@@ -39,12 +39,14 @@ step_record-requires c =
     let h = source_here c.args.f c.args.archive.now c.args.s.place c.in-Bytes.size e in
     let b = belongs_facts c.args.s (length c.args.archive.now) c.requires.3 in
     simp (part_from, h.long)
-    (c.requires.0, c.requires.1, c.requires.2, b.few, omega (arith, b.few, b.known), (b.inside, h.some, omega (arith, h.inside, b.inside), (h.is, refl)))
+    (c.requires.0, c.requires.1, c.requires.2, b.few, omega (arith, b.few, b.known), (b.inside, h.some, omega (arith, h.inside, b.inside),
+      (h.is, refl)))
 
 pub returns-in-Refused : goal.returns-in-Refused
 unfolding place_decision stopping changed
 returns-in-Refused c = by_clause (let e = simp part_from at (sym c.extent_of-extent.ensures ∙ c.in-Refused.is) in
-    simp (ne_eqb _ _ c.if-place-archive.false, cut_decides c.args.f c.args.archive.now c.args.tables.now c.args.s c.in-Refused.number e) (c.stop-in-Refused.ensures, refl))
+    simp (ne_eqb _ _ c.if-place-archive.false, cut_decides c.args.f c.args.archive.now c.args.tables.now c.args.s c.in-Refused.number e)
+      (c.stop-in-Refused.ensures, refl))
 
 pub returns-in-Bytes : goal.returns-in-Bytes
 unfolding place_decision

@@ -12,7 +12,8 @@ by_clause w = record { value = w.0; tables_after = w.1 }
 
 pub returns-then-number-ne0 : goal.returns-then-number-ne0
 unfolding effect_decision stopping changed
-returns-then-number-ne0 c = by_clause (simp (ne_eqb _ _ c.if-number-ne0.true, ← c.follow-followed.ensures, ← c.effect_of-effect.ensures) (c.stop.ensures, refl))
+returns-then-number-ne0 c = by_clause (simp (ne_eqb _ _ c.if-number-ne0.true, ← c.follow-followed.ensures,
+    ← c.effect_of-effect.ensures) (c.stop.ensures, refl))
 
 pub change_of-requires : goal.change_of-requires
 change_of-requires c =
@@ -20,4 +21,5 @@ change_of-requires c =
 
 pub returns : goal.returns
 unfolding effect_decision
-returns c = by_clause (simp (eq-eqb _ _ c.if-number-ne0.false, ← c.follow-followed.ensures, ← c.effect_of-effect.ensures, ← c.change_of.ensures, ← c.plain_answer.ensures) (refl, c.apply.ensures))
+returns c = by_clause (simp (eq-eqb _ _ c.if-number-ne0.false, ← c.follow-followed.ensures, ← c.effect_of-effect.ensures,
+    ← c.change_of.ensures, ← c.plain_answer.ensures) (refl, c.apply.ensures))

@@ -6,4 +6,5 @@ use Rattle.records.proofs.event_layout.Goals as goal
 pub returns : goal.returns
 unfolding event_layout
 returns c =
-    simp (← c.is_event.ensures, ← c.extra_words.ensures, ← c.field-5.ensures, ← c.field-4.ensures, ← c.field-3.ensures, ← c.field-2.ensures, ← c.field.ensures)
+    simp (← c.is_event.ensures, ← c.extra_words.ensures, ← c.field-5.ensures, ← c.field-4.ensures, ← c.field-3.ensures,
+      ← c.field-2.ensures, ← c.field.ensures)

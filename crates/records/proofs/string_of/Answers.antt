@@ -17,9 +17,11 @@ returns-then-f-index c =
 pub returns-in-Refused : goal.returns-in-Refused
 unfolding string_of take_parts take_part
 returns-in-Refused c =
-    simp (c.in-Refused.is, ← c.take_stream-stream.ensures, le-ltb _ _ c.if-f-index.false, ne_eqb _ _ c.if-index-eq0.false, ← c.field-length.ensures, ← c.field-index.ensures, ← c.word-header.ensures)
+    simp (c.in-Refused.is, ← c.take_stream-stream.ensures, le-ltb _ _ c.if-f-index.false, ne_eqb _ _ c.if-index-eq0.false,
+      ← c.field-length.ensures, ← c.field-index.ensures, ← c.word-header.ensures)
 
 pub returns-in-Part : goal.returns-in-Part
 unfolding string_of take_parts take_part
 returns-in-Part c =
-    simp (c.in-Part.is, ← c.take_stream-stream.ensures, le-ltb _ _ c.if-f-index.false, ne_eqb _ _ c.if-index-eq0.false, ← c.field-length.ensures, ← c.field-index.ensures, ← c.word-header.ensures)
+    simp (c.in-Part.is, ← c.take_stream-stream.ensures, le-ltb _ _ c.if-f-index.false, ne_eqb _ _ c.if-index-eq0.false,
+      ← c.field-length.ensures, ← c.field-index.ensures, ← c.word-header.ensures)

@@ -11,15 +11,19 @@ take_words-leading-requires c = (c.requires.0.words, omega (arith, c.requires.1,
 
 pub take_pair-pair-requires : goal.take_pair-pair-requires
 take_pair-pair-requires c =
-    let moved = words_taken c.args.f c.args.layout.words (c.args.place + 8) c.args.source.now c.args.place c.in-Part.reference c.in-Part.start (omega (arith, c.requires.1))
+    let moved = words_taken c.args.f c.args.layout.words (c.args.place + 8) c.args.source.now c.args.place c.in-Part.reference
+      c.in-Part.start (omega (arith, c.requires.1))
     (sym c.take_words-leading.ensures ∙ c.in-Part.is) in
-    (reference-fits c.args.layout.first c.requires.0.first, reference-fits c.args.layout.second c.requires.0.second, omega (arith, moved.1), c.requires.2)
+    (reference-fits c.args.layout.first c.requires.0.first, reference-fits c.args.layout.second c.requires.0.second, omega (arith,
+      moved.1), c.requires.2)
 
 pub take_tail-rest-requires : goal.take_tail-rest-requires
 take_tail-rest-requires c =
-    let moved = words_taken c.args.f c.args.layout.words (c.args.place + 8) c.args.source.now c.args.place c.in-Part.reference c.in-Part.start (omega (arith, c.requires.1))
+    let moved = words_taken c.args.f c.args.layout.words (c.args.place + 8) c.args.source.now c.args.place c.in-Part.reference
+      c.in-Part.start (omega (arith, c.requires.1))
     (sym c.take_words-leading.ensures ∙ c.in-Part.is) in
-    let behind = pair_moves c.args.f c.args.layout.first c.args.layout.second c.in-Part.start c.args.source.now c.args.place c.in-Pair.first c.in-Pair.second c.in-Pair.middle
+    let behind = pair_moves c.args.f c.args.layout.first c.args.layout.second c.in-Part.start c.args.source.now c.args.place
+      c.in-Pair.first c.in-Pair.second c.in-Pair.middle
     (omega (arith, moved.1)) (sym c.take_pair-pair.ensures ∙ c.in-Pair.is) in
     (reference-fits c.args.layout.third c.requires.0.third, c.requires.0.stream, behind, c.requires.2)
 

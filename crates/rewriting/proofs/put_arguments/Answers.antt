@@ -24,7 +24,8 @@ pub loop-left-init : goal.loop-left-init
 loop-left-init c =
     (
       walk_starts c.args.f c.args.archive.now (tables_in c.args.f c.args.room.now) (slots_in c.args.f c.args.room.now) c.args.context c.args.until
-          (arguments_read c.args.f c.args.count c.args.part.now c.args.place) c.args.out.now c.args.start c.requires.room_fits.1 c.requires.part_bound.1,
+          (arguments_read c.args.f c.args.count c.args.part.now c.args.place) c.args.out.now c.args.start c.requires.room_fits.1
+            c.requires.part_bound.1,
       refl,
     )
 
@@ -37,32 +38,38 @@ shape_of-out-in-Refused c =
     c.loop-left.invariant.0.long
 
 pub returns-in-Refused : goal.returns-in-Refused
-returns-in-Refused c = by_clause (let none = argument_refused c.args.f c.loop-left.left c.loop-left.rest.now c.loop-left.from _ c.loop-left-test.true (sym c.argument_of-argued.ensures ∙ c.in-Refused.is) in
+returns-in-Refused c = by_clause (let none = argument_refused c.args.f c.loop-left.left c.loop-left.rest.now c.loop-left.from _
+    c.loop-left-test.true (sym c.argument_of-argued.ensures ∙ c.in-Refused.is) in
     walk_ends _ _ _ _ _ _ (walk_as _ _ _ _ _ _ none c.loop-left.invariant.0))
 
 pub put_argument-at-requires : goal.put_argument-at-requires
 put_argument-at-requires c = by_clauses_of_room_fits_argument_in_bounds (let read = sym c.argument_of-argued.ensures ∙ c.in-Argument.is in
-    let turn = argument_first c.args.f c.loop-left.left c.loop-left.rest.now c.loop-left.from c.in-Argument.argument c.in-Argument.size c.loop-left-test.true read in
+    let turn = argument_first c.args.f c.loop-left.left c.loop-left.rest.now c.loop-left.from c.in-Argument.argument c.in-Argument.size
+      c.loop-left-test.true read in
     let w = walk_as _ _ _ _ _ _ turn c.loop-left.invariant.0 in
     ((c.requires.room_fits.0, w.fit.0, c.requires.room_fits.2), walk_fits _ _ _ _ _ _ w))
 
 pub slice_bounds-rest-count : goal.slice_bounds-rest-count
 slice_bounds-rest-count c =
-    (argument_read c.args.f c.loop-left.rest.now c.loop-left.from c.in-Argument.argument c.in-Argument.size (sym c.argument_of-argued.ensures ∙ c.in-Argument.is)).inside
+    (argument_read c.args.f c.loop-left.rest.now c.loop-left.from c.in-Argument.argument c.in-Argument.size (sym
+      c.argument_of-argued.ensures ∙ c.in-Argument.is)).inside
 
 pub slice_bounds-rest-start : goal.slice_bounds-rest-start
 slice_bounds-rest-start c =
-    (argument_read c.args.f c.loop-left.rest.now c.loop-left.from c.in-Argument.argument c.in-Argument.size (sym c.argument_of-argued.ensures ∙ c.in-Argument.is)).inside
+    (argument_read c.args.f c.loop-left.rest.now c.loop-left.from c.in-Argument.argument c.in-Argument.size (sym
+      c.argument_of-argued.ensures ∙ c.in-Argument.is)).inside
 
 pub overflow_add-from : goal.overflow_add-from
 overflow_add-from c =
-    let read = argument_read c.args.f c.loop-left.rest.now c.loop-left.from c.in-Argument.argument c.in-Argument.size (sym c.argument_of-argued.ensures ∙ c.in-Argument.is) in
+    let read = argument_read c.args.f c.loop-left.rest.now c.loop-left.from c.in-Argument.argument c.in-Argument.size (sym
+      c.argument_of-argued.ensures ∙ c.in-Argument.is) in
     omega (arith, read.inside, c.loop-left.invariant.1, c.requires.part_bound.0)
 
 pub loop-left-preserved : goal.loop-left-preserved
 loop-left-preserved c =
     let read = sym c.argument_of-argued.ensures ∙ c.in-Argument.is in
-    let turn = argument_first c.args.f c.loop-left.left c.loop-left.rest.now c.loop-left.from c.in-Argument.argument c.in-Argument.size c.loop-left-test.true read in
+    let turn = argument_first c.args.f c.loop-left.left c.loop-left.rest.now c.loop-left.from c.in-Argument.argument c.in-Argument.size
+      c.loop-left-test.true read in
     let w = walk_as _ _ _ _ _ _ turn c.loop-left.invariant.0 in
     let inside = (argument_read c.args.f c.loop-left.rest.now c.loop-left.from c.in-Argument.argument c.in-Argument.size read).inside in
     rw (part_from c.in-Argument.size c.loop-left.rest.now) (

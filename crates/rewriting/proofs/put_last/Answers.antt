@@ -14,16 +14,19 @@ by_clause : {A B : Type 0} → A × B → record { out_after : A; value : B }
 by_clause w = record { out_after = w.0; value = w.1 }
 
 pub returns-then-own_behind-eq0 : goal.returns-then-own_behind-eq0
-returns-then-own_behind-eq0 c = by_clause (rw (last_none c.args.f (own_layout c.args.report.own).behind c.args.report.last (sym c.own_behind.ensures ∙ c.if-own_behind-eq0.true))
+returns-then-own_behind-eq0 c = by_clause (rw (last_none c.args.f (own_layout c.args.report.own).behind c.args.report.last (sym
+    c.own_behind.ensures ∙ c.if-own_behind-eq0.true))
     (nothing_written c.args.out.now c.args.at, omega arith))
 
 pub put_word-requires : goal.put_word-requires
 put_word-requires c =
-    let one = last_word c.args.f (own_layout c.args.report.own).behind c.args.report.last (λ z. c.if-own_behind-eq0.false (c.own_behind.ensures ∙ z)) in
+    let one = last_word c.args.f (own_layout c.args.report.own).behind c.args.report.last (λ z. c.if-own_behind-eq0.false
+      (c.own_behind.ensures ∙ z)) in
     omega (arith, ap length one, length-word_bytes c.args.f.order c.args.report.last, c.requires.1)
 
 pub returns : goal.returns
-returns c = by_clause (rw (last_word c.args.f (own_layout c.args.report.own).behind c.args.report.last (λ z. c.if-own_behind-eq0.false (c.own_behind.ensures ∙ z)))
+returns c = by_clause (rw (last_word c.args.f (own_layout c.args.report.own).behind c.args.report.last (λ z. c.if-own_behind-eq0.false
+    (c.own_behind.ensures ∙ z)))
     (c.put_word.ensures, omega (arith, length-word_bytes c.args.f.order c.args.report.last)))
 
 pub own_behind-requires : goal.own_behind-requires

@@ -9,10 +9,6 @@ use Rattle.encoding.proofs.Parts.{nothing_written}
 use borrow.Author.Rules.{rules}
 use Rattle.rewriting.proofs.put_plain.Goals as goal
 
--- two facts as one
-both : {A B : Type 0} → A → B → A × B
-both a b = (a, b)
-
 -- the clauses, of their product
 by_clause : {A B : Type 0} → A × B → record { out_after : A; value : B }
 by_clause w = record { out_after = w.0; value = w.1 }
@@ -49,7 +45,8 @@ returns-in-Magic c = by_clause (rw (c.in-Magic.is, magic_record c.args.f (λ key
 
 pub returns-in-ProviderInfo : goal.returns-in-ProviderInfo
 unfolding plain_item
-returns-in-ProviderInfo c = by_clause (rw c.in-ProviderInfo.is (rw c.text.ensures at both c.put_provider_info.ensures.out_after c.put_provider_info.ensures.value))
+returns-in-ProviderInfo c = by_clause (rw c.in-ProviderInfo.is (rw c.text.ensures at c.put_provider_info.ensures.out_after,
+    rw c.text.ensures at c.put_provider_info.ensures.value))
 
 pub returns-in-Section : goal.returns-in-Section
 unfolding plain_item

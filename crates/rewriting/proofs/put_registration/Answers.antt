@@ -25,12 +25,14 @@ word-requires-then-table-eq3 c =
 
 pub put_thread_record-requires : goal.put_thread_record-requires
 put_thread_record-requires c =
-    let is = registration_thread c.args.f c.args.table c.args.index c.args.bytes.now c.word.result c.word-then-table-eq3.result c.if-index-eq0.false c.if-table-eq3.true
+    let is = registration_thread c.args.f c.args.table c.args.index c.args.bytes.now c.word.result c.word-then-table-eq3.result
+      c.if-index-eq0.false c.if-table-eq3.true
     c.word.ensures c.word-then-table-eq3.ensures in
     omega (arith, c.requires.registration_fits.thread-low c.if-table-eq3.true, c.requires.bytes_in_bounds, ap length is)
 
 pub returns-then-table-eq3 : goal.returns-then-table-eq3
-returns-then-table-eq3 c = by_clause (rw (registration_thread c.args.f c.args.table c.args.index c.args.bytes.now c.word.result c.word-then-table-eq3.result c.if-index-eq0.false c.if-table-eq3.true
+returns-then-table-eq3 c = by_clause (rw (registration_thread c.args.f c.args.table c.args.index c.args.bytes.now c.word.result
+    c.word-then-table-eq3.result c.if-index-eq0.false c.if-table-eq3.true
     c.word.ensures c.word-then-table-eq3.ensures) (c.put_thread_record.ensures.out_after, c.put_thread_record.ensures.value))
 
 pub put_string_record-requires : goal.put_string_record-requires
@@ -44,4 +46,5 @@ put_string_record-requires c =
     )
 
 pub returns : goal.returns
-returns c = by_clause (rw (registration_text c.args.f c.args.table c.args.index c.args.bytes.now c.if-index-eq0.false c.if-table-eq3.false) (c.put_string_record.ensures.out_after, c.put_string_record.ensures.value))
+returns c = by_clause (rw (registration_text c.args.f c.args.table c.args.index c.args.bytes.now c.if-index-eq0.false
+    c.if-table-eq3.false) (c.put_string_record.ensures.out_after, c.put_string_record.ensures.value))

@@ -11,7 +11,8 @@ use Rattle.rewriting.proofs.Registering.{Registering, registering-starts, regist
 use Rattle.rewriting.proofs.register_arguments.Given as goal
 
 abbrev pub invariant-loop-left : goal.invariant-loop-left
-invariant-loop-left l = Registering l.f l.archive l.context l.until (argument_lookups (arguments_read l.f l.count l.part l.place)) l.initial.room l.initial.out l.start
+invariant-loop-left l = Registering l.f l.archive l.context l.until (argument_lookups (arguments_read l.f l.count l.part l.place))
+    l.initial.room l.initial.out l.start
     (argument_lookups (arguments_read l.f l.left l.rest l.from)) l.room l.out l.at
     × (l.from + length l.rest ≡ l.place + length l.part)
 

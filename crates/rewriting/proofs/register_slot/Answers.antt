@@ -15,16 +15,12 @@ use Rattle.rewriting.proofs.Spelling.{slots_wide}
 use borrow.Author.Rules.{rules}
 use Rattle.rewriting.proofs.register_slot.Goals as goal
 
--- two facts as one
-both : {A B : Type 0} → A → B → A × B
-both a b = (a, b)
-
 -- the clauses, of their product
 by_clause : {A B : Type 0} → A × B → record { registration_fits : A; bytes_in_bounds : B }
 by_clause w = record { registration_fits = w.0; bytes_in_bounds = w.1 }
 
 -- the clauses, of their product
-by_clauses_of_room_after_out_after_value : {A B C : Type 0} → A × B × C → record { room_after : A; out_after : B; value : C }
+by_clauses_of_room_after_out_after_value : {A B C : Type 0} → A × (B × C) → record { room_after : A; out_after : B; value : C }
 by_clauses_of_room_after_out_after_value w = record { room_after = w.0; out_after = w.1.0; value = w.1.1 }
 
 pub give_index_at-index-requires : goal.give_index_at-index-requires
@@ -44,7 +40,8 @@ put_registration-requires c = by_clause (let slots = slots_in c.args.f c.args.ro
     let index : c.give_index_at-index.result ≡ slot_index (table_words c.args.f) slots c.args.s =
     rw (part_from c.table_words-words.result c.args.room.now, c.table_words-words.ensures, label) at c.give_index_at-index.ensures.value in
     let bytes : c.text.result.now ≡ slot_bytes c.args.archive.now (table_words c.args.f) slots c.args.s =
-    c.text.ensures ∙ rw (c.place_in.ensures, label, (slot_words c.table_words-words.result c.args.room.now c.args.s).0, c.table_words-words.ensures) in
+    c.text.ensures ∙ rw (c.place_in.ensures, label, (slot_words c.table_words-words.result c.args.room.now c.args.s).0,
+      c.table_words-words.ensures) in
     rw (index, bytes) (c.requires.format_fits.2.fits, c.requires.s_in_bounds))
 
 pub returns : goal.returns
@@ -55,12 +52,13 @@ returns c = by_clauses_of_room_after_out_after_value (let slots = slots_in c.arg
     let index : c.give_index_at-index.result ≡ slot_index (table_words c.args.f) slots c.args.s =
     rw (part_from c.table_words-words.result c.args.room.now, c.table_words-words.ensures, label) at c.give_index_at-index.ensures.value in
     let bytes : c.text.result.now ≡ slot_bytes c.args.archive.now (table_words c.args.f) slots c.args.s =
-    c.text.ensures ∙ rw (c.place_in.ensures, label, (slot_words c.table_words-words.result c.args.room.now c.args.s).0, c.table_words-words.ensures) in
+    c.text.ensures ∙ rw (c.place_in.ensures, label, (slot_words c.table_words-words.result c.args.room.now c.args.s).0,
+      c.table_words-words.ensures) in
     let changed : c.give_index_at-index.new.slots ≡ slot_given_slots c.args.f slots c.args.s =
     rw (part_from c.table_words-words.result c.args.room.now, c.table_words-words.ensures, label) at c.give_index_at-index.ensures.slots_after in
-    let put = rw (index, bytes) at both c.put_registration.ensures.out_after c.put_registration.ensures.value in (
+    (
       slots_back c.table_words-words.result c.args.room.now c.give_index_at-index.new.slots
           ∙ ap (λ (m : ℕ). take m c.args.room.now ++ c.give_index_at-index.new.slots) c.table_words-words.ensures
           ∙ ap (λ x. take (table_words c.args.f) c.args.room.now ++ x) changed,
-      put,
+      (rw (index, bytes) at c.put_registration.ensures.out_after, rw (index, bytes) at c.put_registration.ensures.value),
     ))

@@ -1,11 +1,7 @@
 -- `breach_from` meets its contract: each turn leaves the entries behind a good one (bad_later). Assumes nothing.
-use Prim.Native.Nat.{◌≤◌, ◌-◌}
-use mathlib.Core.Path.{◌≡◌, refl, sym, ◌∙◌}
-use lib.ListN.{length}
+use mathlib.Core.Path.{refl, sym, ◌∙◌}
 use native.Mathlib.Omega.{arith}
-use Rattle.sheets.specs.Sheet.{first_bad, starts_from}
 use Rattle.sheets.proofs.Turns.{good_ends, bad_here, bad_later, bad_none}
-use borrow.Author.Rules.{rules}
 use Rattle.sheets.proofs.breach_from.Goals as goal
 
 pub loop-at-init : goal.loop-at-init
@@ -30,7 +26,8 @@ overflow_add-at-then-is_good-2 c =
 pub loop-at-preserved : goal.loop-at-preserved
 loop-at-preserved c =
     let g = good_ends _ _ _ _ c.is_good.ensures c.if-is_good.true in
-    let later = bad_later c.args.sheet.now c.args.longest c.loop-at.before c.loop-at.at c.loop-at-test.true (sym c.is_good.ensures ∙ c.if-is_good.true) in (
+    let later = bad_later c.args.sheet.now c.args.longest c.loop-at.before c.loop-at.at c.loop-at-test.true (sym c.is_good.ensures
+    ∙ c.if-is_good.true) in (
       omega (arith, g, c.number.ensures.0),
       c.loop-at.invariant.1 ∙ later ∙ rw (← c.number-before.ensures.0, ← c.number.ensures.0),
     )

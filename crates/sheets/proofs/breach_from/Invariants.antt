@@ -1,13 +1,12 @@
 use Prim.Native.Nat.{◌≤◌, ◌-◌}
-use mathlib.Core.Path.{◌≡◌, refl, sym, ◌∙◌}
+use mathlib.Core.Path.{◌≡◌}
 use lib.ListN.{length}
-use native.Mathlib.Omega.{arith}
 use Rattle.sheets.specs.Sheet.{first_bad, starts_from}
-use Rattle.sheets.proofs.Turns.{good_ends, bad_here, bad_later, bad_none}
 use Rattle.sheets.proofs.breach_from.Given as goal
 
 abbrev pub invariant-loop-at : goal.invariant-loop-at
-invariant-loop-at l = (l.at ≤ length l.sheet) × (first_bad l.sheet l.longest l.last (starts_from l.sheet l.start) ≡ first_bad l.sheet l.longest l.before (starts_from l.sheet l.at))
+invariant-loop-at l = (l.at ≤ length l.sheet) × (first_bad l.sheet l.longest l.last (starts_from l.sheet l.start) ≡ first_bad l.sheet
+    l.longest l.before (starts_from l.sheet l.at))
 
 abbrev pub decreases-loop-at : goal.decreases-loop-at
 decreases-loop-at l = length l.sheet - l.at

@@ -1,10 +1,7 @@
 use Prim.Native.Nat.{◌-◌}
-use mathlib.Core.Path.{◌≡◌, refl, sym, ◌∙◌}
+use mathlib.Core.Path.{◌≡◌}
 use lib.ListN.{length}
-use native.Mathlib.Omega.{arith}
-use borrow.Author.Tests.{eq-eqb, ne_eqb}
 use Rattle.sheets.specs.Sheet.{find_of, find_in, starts_from}
-use Rattle.sheets.proofs.Turns.{whole_told, find_here, find_later, find_none, find_cut}
 use Rattle.sheets.proofs.find.Given as goal
 
 abbrev pub invariant-loop-at : goal.invariant-loop-at

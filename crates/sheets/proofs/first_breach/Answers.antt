@@ -2,7 +2,6 @@
 use mathlib.Core.Path.{sym, ◌∙◌}
 use Rattle.sheets.specs.Sheet.{breach_of}
 use Rattle.sheets.proofs.Turns.{has_bytes}
-use borrow.Author.Rules.{rules}
 use Rattle.sheets.proofs.first_breach.Goals as goal
 
 pub breach_from-requires : goal.breach_from-requires

@@ -2,7 +2,6 @@
 use mathlib.Core.Path.{sym, refl}
 use Rattle.sheets.specs.Sheet.{has_version}
 use Rattle.sheets.proofs.Turns.{no_bytes}
-use borrow.Author.Rules.{rules}
 use Rattle.sheets.proofs.has_version.Goals as goal
 
 pub returns-then-sheet-eq0 : goal.returns-then-sheet-eq0

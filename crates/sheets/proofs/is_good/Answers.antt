@@ -3,7 +3,6 @@ use native.Mathlib.Omega.{arith}
 use Rattle.sheets.proofs.Turns.{whole_told}
 use borrow.Author.Tests.{lt-ltb, lt-leb, le-ltb, le-leb}
 use Rattle.sheets.specs.Sheet.{is_good}
-use borrow.Author.Rules.{rules}
 use Rattle.sheets.proofs.is_good.Goals as goal
 
 pub number-requires : goal.number-requires

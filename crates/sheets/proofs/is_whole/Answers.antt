@@ -3,7 +3,6 @@ use native.Mathlib.Omega.{arith}
 use borrow.Author.Tests.{le-leb, lt-leb}
 use lib.ListN.{length}
 use Rattle.sheets.specs.Sheet.{is_whole, end_at}
-use borrow.Author.Rules.{rules}
 use Rattle.sheets.proofs.is_whole.Goals as goal
 
 pub returns-then-left-lt4 : goal.returns-then-left-lt4

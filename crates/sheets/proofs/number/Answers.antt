@@ -1,9 +1,7 @@
 -- `number` meets its contract: the elements of a byte slice are below 256. Assumes nothing.
 use Prim.Native.Nat.{◌+◌}
-use mathlib.Core.Path.{refl}
 use native.Mathlib.Omega.{arith}
 use Rattle.sheets.specs.Sheet.{number_at}
-use borrow.Author.Rules.{rules}
 use Rattle.sheets.proofs.number.Goals as goal
 
 pub overflow_cast-high : goal.overflow_cast-high

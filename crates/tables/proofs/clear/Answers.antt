@@ -12,7 +12,8 @@ pub loop-i-init : goal.loop-i-init
 loop-i-init c = (search rules, refl, refl)
 
 pub loop-i-preserved : goal.loop-i-preserved
-loop-i-preserved c = (omega arith, simp length-set c.loop-i.invariant.1, ap (λ (l : List ℕ). set l c.loop-i.i 0) c.loop-i.invariant.2 ∙ fill_more c.loop-i.i 0 c.args.tables.now (omega arith))
+loop-i-preserved c = (omega arith, simp length-set c.loop-i.invariant.1, ap (λ (l : List ℕ). set l c.loop-i.i 0) c.loop-i.invariant.2
+    ∙ fill_more c.loop-i.i 0 c.args.tables.now (omega arith))
 
 pub returns : goal.returns
 returns c = let e : c.loop-i.i ≡ c.args.n = omega arith in c.loop-i.invariant.2 ∙ rw e

@@ -13,7 +13,8 @@ returns-then-own-index c =
     let held : HeaderHeld c.args.f c.args.table c.args.header c.if-table-eq3.own c.if-table-eq3.length c.if-table-eq3.longest =
         elim c.if-table-eq3.branch [
             then-table-eq3 w ↦ rw (w.own-is, w.length-is, w.longest-is) (thread_held _ _ _ _ w.if-table-eq3.true w.field-own-then-table-eq3.ensures)
-            | else-table-eq3 w ↦ rw (w.own-is, w.length-is, w.longest-is) (string_held _ _ _ _ _ w.if-table-eq3.false c.field-own.ensures c.field-length.ensures) ] in
+            | else-table-eq3 w ↦ rw (w.own-is, w.length-is, w.longest-is) (string_held _ _ _ _ _ w.if-table-eq3.false c.field-own.ensures
+              c.field-length.ensures) ] in
     simp (← held.0, ne_eqb _ _ c.if-own-index.true)
 
 pub returns-then-longest-length : goal.returns-then-longest-length
@@ -22,7 +23,8 @@ returns-then-longest-length c =
     let held : HeaderHeld c.args.f c.args.table c.args.header c.if-table-eq3.own c.if-table-eq3.length c.if-table-eq3.longest =
         elim c.if-table-eq3.branch [
             then-table-eq3 w ↦ rw (w.own-is, w.length-is, w.longest-is) (thread_held _ _ _ _ w.if-table-eq3.true w.field-own-then-table-eq3.ensures)
-            | else-table-eq3 w ↦ rw (w.own-is, w.length-is, w.longest-is) (string_held _ _ _ _ _ w.if-table-eq3.false c.field-own.ensures c.field-length.ensures) ] in
+            | else-table-eq3 w ↦ rw (w.own-is, w.length-is, w.longest-is) (string_held _ _ _ _ _ w.if-table-eq3.false c.field-own.ensures
+              c.field-length.ensures) ] in
     simp (← held.0, ← held.1, ← held.2, eq-eqb _ _ c.if-own-index.false, lt-ltb _ _ c.if-longest-length.true)
 
 pub returns-then-field-stream_words : goal.returns-then-field-stream_words
@@ -31,7 +33,8 @@ returns-then-field-stream_words c =
     let held : HeaderHeld c.args.f c.args.table c.args.header c.if-table-eq3.own c.if-table-eq3.length c.if-table-eq3.longest =
         elim c.if-table-eq3.branch [
             then-table-eq3 w ↦ rw (w.own-is, w.length-is, w.longest-is) (thread_held _ _ _ _ w.if-table-eq3.true w.field-own-then-table-eq3.ensures)
-            | else-table-eq3 w ↦ rw (w.own-is, w.length-is, w.longest-is) (string_held _ _ _ _ _ w.if-table-eq3.false c.field-own.ensures c.field-length.ensures) ] in
+            | else-table-eq3 w ↦ rw (w.own-is, w.length-is, w.longest-is) (string_held _ _ _ _ _ w.if-table-eq3.false c.field-own.ensures
+              c.field-length.ensures) ] in
     simp (
       ← held.0,
       ← held.1,
@@ -49,7 +52,8 @@ returns c =
     let held : HeaderHeld c.args.f c.args.table c.args.header c.if-table-eq3.own c.if-table-eq3.length c.if-table-eq3.longest =
         elim c.if-table-eq3.branch [
             then-table-eq3 w ↦ rw (w.own-is, w.length-is, w.longest-is) (thread_held _ _ _ _ w.if-table-eq3.true w.field-own-then-table-eq3.ensures)
-            | else-table-eq3 w ↦ rw (w.own-is, w.length-is, w.longest-is) (string_held _ _ _ _ _ w.if-table-eq3.false c.field-own.ensures c.field-length.ensures) ] in
+            | else-table-eq3 w ↦ rw (w.own-is, w.length-is, w.longest-is) (string_held _ _ _ _ _ w.if-table-eq3.false c.field-own.ensures
+              c.field-length.ensures) ] in
     simp (
       ← held.0,
       ← held.1,

@@ -26,7 +26,8 @@ returns-then-table-eq3 c = simp (eq-eqb _ _ c.if-table-eq3.true)
 
 pub overflow_add-result-2 : goal.overflow_add-result-2
 unfolding highest_of
-overflow_add-result-2 c = let i = simp (ne_eqb _ _ c.if-table-eq3.false) at c.requires.2 in omega (arith, i, c.requires.0.indexes, mul-le-mul_right (c.args.f.highest + 257) c.requires.1)
+overflow_add-result-2 c = let i = simp (ne_eqb _ _ c.if-table-eq3.false) at c.requires.2 in omega (arith, i, c.requires.0.indexes,
+    mul-le-mul_right (c.args.f.highest + 257) c.requires.1)
 
 pub returns : goal.returns
 unfolding position

@@ -40,4 +40,5 @@ returns-in-Inline c = simp c.in-Inline.is
 pub returns-else-entry-eq0 : goal.returns-else-entry-eq0
 unfolding resolved
 returns-else-entry-eq0 c =
-    simp (← c.entry_at.ensures, ne_eqb _ _ c.if-entry-eq0.false, ← c.position_of-at.ensures, le-ltb _ _ c.if-highest_of-index.false, ← c.highest_of.ensures, c.in-Index.is)
+    simp (← c.entry_at.ensures, ne_eqb _ _ c.if-entry-eq0.false, ← c.position_of-at.ensures, le-ltb _ _ c.if-highest_of-index.false,
+      ← c.highest_of.ensures, c.in-Index.is)

@@ -15,14 +15,17 @@ loop-left-init c =
 pub returns-then-p-eq0 : goal.returns-then-p-eq0
 unfolding find_of
 returns-then-p-eq0 c =
-    sym (rw (← c.first_slot-s.ensures) (c.loop-left.invariant.1 ∙ seek-free c.args.archive.now c.args.stretch c.args.slots.now (key_of c.args.archive.now c.args.place
+    sym (rw (← c.first_slot-s.ensures) (c.loop-left.invariant.1 ∙ seek-free c.args.archive.now c.args.stretch c.args.slots.now (key_of
+      c.args.archive.now c.args.place
     c.args.label) c.loop-left.left c.loop-left.s c.loop-left-test.true (sym c.place_in-p.ensures ∙ c.if-p-eq0.true)))
 
 pub returns-then-same_key : goal.returns-then-same_key
 unfolding find_of
 returns-then-same_key c =
-    sym (rw (← c.first_slot-s.ensures) (c.loop-left.invariant.1 ∙ seek_here c.args.archive.now c.args.stretch c.args.slots.now (key_of c.args.archive.now
-    c.args.place c.args.label) c.loop-left.left c.loop-left.s c.loop-left-test.true (λ z. c.if-p-eq0.false (c.place_in-p.ensures ∙ z)) (rw (← c.place_in-p.ensures, ← c.label_in-own.ensures) (sym
+    sym (rw (← c.first_slot-s.ensures) (c.loop-left.invariant.1 ∙ seek_here c.args.archive.now c.args.stretch c.args.slots.now (key_of
+      c.args.archive.now
+    c.args.place c.args.label) c.loop-left.left c.loop-left.s c.loop-left-test.true (λ z. c.if-p-eq0.false (c.place_in-p.ensures
+      ∙ z)) (rw (← c.place_in-p.ensures, ← c.label_in-own.ensures) (sym
     c.same_key.ensures ∙ c.if-same_key.true))))
 
 pub loop-left-preserved : goal.loop-left-preserved
@@ -30,7 +33,8 @@ loop-left-preserved c =
     (
       rw c.next_slot-s.ensures (next_low (c.args.stretch - 18) c.loop-left.s c.loop-left.invariant.0),
       c.loop-left.invariant.1 ∙ seek-on c.args.archive.now c.args.stretch
-          c.args.slots.now (key_of c.args.archive.now c.args.place c.args.label) c.loop-left.left c.loop-left.s c.loop-left-test.true (λ z. c.if-p-eq0.false (c.place_in-p.ensures ∙ z)) (rw
+          c.args.slots.now (key_of c.args.archive.now c.args.place c.args.label) c.loop-left.left c.loop-left.s c.loop-left-test.true (λ
+            z. c.if-p-eq0.false (c.place_in-p.ensures ∙ z)) (rw
           (← c.place_in-p.ensures, ← c.label_in-own.ensures) (sym c.same_key.ensures ∙ c.if-same_key.false))
           c.next_slot-s.result c.next_slot-s.ensures,
     )

@@ -11,7 +11,8 @@ overflow_add-result c =
 
 pub returns-in-Here : goal.returns-in-Here
 returns-in-Here c =
-    let low = here_below _ _ c.requires.0 c.find-slot.ensures c.in-Here.is in simp (← c.find-slot.ensures, c.in-Here.is) (refl, omega (arith, low, c.requires.0.low))
+    let low = here_below _ _ c.requires.0 c.find-slot.ensures c.in-Here.is in simp (← c.find-slot.ensures, c.in-Here.is) (refl,
+      omega (arith, low, c.requires.0.low))
 
 pub returns-in-Free : goal.returns-in-Free
 returns-in-Free c = simp (← c.find-slot.ensures, c.in-Free.is) (refl, omega arith)

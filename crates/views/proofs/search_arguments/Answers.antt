@@ -27,20 +27,24 @@ returns-in-Refused c =
 
 pub slice_bounds-rest-count : goal.slice_bounds-rest-count
 slice_bounds-rest-count c =
-    texts_inside c.args.f c.loop-left.rest.now c.loop-left.at c.in-Texts.name c.in-Texts.value c.in-Texts.size (sym c.texts_of-texts.ensures ∙ c.in-Texts.is)
+    texts_inside c.args.f c.loop-left.rest.now c.loop-left.at c.in-Texts.name c.in-Texts.value c.in-Texts.size (sym
+      c.texts_of-texts.ensures ∙ c.in-Texts.is)
 
 pub slice_bounds-rest-start : goal.slice_bounds-rest-start
 slice_bounds-rest-start c =
-    texts_inside c.args.f c.loop-left.rest.now c.loop-left.at c.in-Texts.name c.in-Texts.value c.in-Texts.size (sym c.texts_of-texts.ensures ∙ c.in-Texts.is)
+    texts_inside c.args.f c.loop-left.rest.now c.loop-left.at c.in-Texts.name c.in-Texts.value c.in-Texts.size (sym
+      c.texts_of-texts.ensures ∙ c.in-Texts.is)
 
 pub overflow_add-at : goal.overflow_add-at
 overflow_add-at c =
-    let s = texts_inside c.args.f c.loop-left.rest.now c.loop-left.at c.in-Texts.name c.in-Texts.value c.in-Texts.size (sym c.texts_of-texts.ensures ∙ c.in-Texts.is) in
+    let s = texts_inside c.args.f c.loop-left.rest.now c.loop-left.at c.in-Texts.name c.in-Texts.value c.in-Texts.size (sym
+      c.texts_of-texts.ensures ∙ c.in-Texts.is) in
     omega (arith, s, c.loop-left.invariant.1, c.requires.4)
 
 pub loop-left-preserved : goal.loop-left-preserved
 loop-left-preserved c =
-    let s = texts_inside c.args.f c.loop-left.rest.now c.loop-left.at c.in-Texts.name c.in-Texts.value c.in-Texts.size (sym c.texts_of-texts.ensures ∙ c.in-Texts.is) in
+    let s = texts_inside c.args.f c.loop-left.rest.now c.loop-left.at c.in-Texts.name c.in-Texts.value c.in-Texts.size (sym
+      c.texts_of-texts.ensures ∙ c.in-Texts.is) in
     let one : c.if-is_bad.found ≡ pick c.is_bad.result false c.loop-left.found =
         marked (λ t. t) (λ e. e) (elim c.if-is_bad.branch [
             then-is_bad w ↦ inl (w.if-is_bad.true, w.found-is) | else-is_bad w ↦ inr (w.if-is_bad.false, w.found-is) ]) in

@@ -14,7 +14,8 @@ returns-then-is_bad c =
 pub returns-then-is_bad-2 : goal.returns-then-is_bad-2
 unfolding seen_found none_bad
 returns-then-is_bad-2 c =
-    simp (c.if-is_bad-2.true, ← c.is_bad-2.ensures, c.if-is_bad.false, ← c.is_bad.ensures, ← c.resolve-c.ensures, ← c.resolve-b.ensures, ← c.resolve-a.ensures)
+    simp (c.if-is_bad-2.true, ← c.is_bad-2.ensures, c.if-is_bad.false, ← c.is_bad.ensures, ← c.resolve-c.ensures, ← c.resolve-b.ensures,
+      ← c.resolve-a.ensures)
 
 pub returns-then-is_bad-3 : goal.returns-then-is_bad-3
 unfolding seen_found none_bad
@@ -33,7 +34,8 @@ returns-then-is_bad-3 c =
 
 pub shown_report-requires : goal.shown_report-requires
 shown_report-requires c =
-    let i = referents_inside c.args.f c.args.archive.now c.args.tables.now c.args.context c.args.place c.args.place c.args.report c.requires.4 c.requires.4 c.requires.5 in
+    let i = referents_inside c.args.f c.args.archive.now c.args.tables.now c.args.context c.args.place c.args.place c.args.report
+      c.requires.4 c.requires.4 c.requires.5 in
     rw (c.resolve-a.ensures, c.resolve-b.ensures, c.resolve-c.ensures) (i.0, i.1, i.2)
 
 pub returns-then-found : goal.returns-then-found

@@ -33,33 +33,40 @@ slice_bounds-seek-start c =
 
 pub seek-sought-requires : goal.seek-sought-requires
 seek-sought-requires c =
-    let s = fields_read c.args.f c.args.layout c.args.source.now c.args.at _ _ _ _ _ c.requires.2 (sym c.take_fields-fields.ensures ∙ c.in-Fields.is) in
+    let s = fields_read c.args.f c.args.layout c.args.source.now c.args.at _ _ _ _ _ c.requires.2 (sym c.take_fields-fields.ensures
+      ∙ c.in-Fields.is) in
     (simp part_from (omega (arith, c.requires.3, s.starts, s.ends, length-drop (c.in-Fields.next - c.args.at) c.args.source.now)), c.requires.1)
 
 pub last_word-more-requires : goal.last_word-more-requires
 last_word-more-requires c =
-    let i = sought_stands c.args.f c.args.layout c.args.source.now c.args.at c.args.number c.requires.2 (sym c.take_fields-fields.ensures ∙ c.in-Fields.is)
+    let i = sought_stands c.args.f c.args.layout c.args.source.now c.args.at c.args.number c.requires.2 (sym c.take_fields-fields.ensures
+      ∙ c.in-Fields.is)
     (simp part_from at (sym c.seek-sought.ensures ∙ c.in-End.is)) in
-    let b : c.args.layout.behind ≤ 1 = rw c.requires.0 (layout_fits _).behind in (omega (arith, i.begins, i.behind), i.ends, omega (arith, c.requires.3), b)
+    let b : c.args.layout.behind ≤ 1 = rw c.requires.0 (layout_fits _).behind in (omega (arith, i.begins, i.behind), i.ends, omega (arith,
+      c.requires.3), b)
 
 pub overflow_sub-before : goal.overflow_sub-before
 overflow_sub-before c =
-    let i = sought_stands c.args.f c.args.layout c.args.source.now c.args.at c.args.number c.requires.2 (sym c.take_fields-fields.ensures ∙ c.in-Fields.is)
+    let i = sought_stands c.args.f c.args.layout c.args.source.now c.args.at c.args.number c.requires.2 (sym c.take_fields-fields.ensures
+      ∙ c.in-Fields.is)
     (simp part_from at (sym c.seek-sought.ensures ∙ c.in-End.is)) in omega (arith, i.begins, i.starts)
 
 pub slice_bounds-argument_of-count : goal.slice_bounds-argument_of-count
 slice_bounds-argument_of-count c =
-    let i = sought_stands c.args.f c.args.layout c.args.source.now c.args.at c.args.number c.requires.2 (sym c.take_fields-fields.ensures ∙ c.in-Fields.is)
+    let i = sought_stands c.args.f c.args.layout c.args.source.now c.args.at c.args.number c.requires.2 (sym c.take_fields-fields.ensures
+      ∙ c.in-Fields.is)
     (simp part_from at (sym c.seek-sought.ensures ∙ c.in-End.is)) in omega (arith, i.begins, i.starts, i.inside)
 
 pub slice_bounds-argument_of-start : goal.slice_bounds-argument_of-start
 slice_bounds-argument_of-start c =
-    let i = sought_stands c.args.f c.args.layout c.args.source.now c.args.at c.args.number c.requires.2 (sym c.take_fields-fields.ensures ∙ c.in-Fields.is)
+    let i = sought_stands c.args.f c.args.layout c.args.source.now c.args.at c.args.number c.requires.2 (sym c.take_fields-fields.ensures
+      ∙ c.in-Fields.is)
     (simp part_from at (sym c.seek-sought.ensures ∙ c.in-End.is)) in omega (arith, i.begins, i.starts, i.inside)
 
 pub argument_of-requires : goal.argument_of-requires
 argument_of-requires c =
-    let i = sought_stands c.args.f c.args.layout c.args.source.now c.args.at c.args.number c.requires.2 (sym c.take_fields-fields.ensures ∙ c.in-Fields.is)
+    let i = sought_stands c.args.f c.args.layout c.args.source.now c.args.at c.args.number c.requires.2 (sym c.take_fields-fields.ensures
+      ∙ c.in-Fields.is)
     (simp part_from at (sym c.seek-sought.ensures ∙ c.in-End.is)) in simp part_from (omega (
       arith,
       c.requires.3,
@@ -92,5 +99,6 @@ returns-in-Refused-more c =
 pub returns-in-Word : goal.returns-in-Word
 returns-in-Word c =
     simp part_from at c.argument_of.ensures ∙ sym (argument_sought c.args.f c.args.layout c.args.source.now c.args.at c.args.number c.requires.2 (sym
-    c.requires.0) c.requires.1 (sym c.take_fields-fields.ensures ∙ c.in-Fields.is) (simp part_from at (sym c.seek-sought.ensures ∙ c.in-End.is)) (sym c.last_word-more.ensures
+    c.requires.0) c.requires.1 (sym c.take_fields-fields.ensures ∙ c.in-Fields.is) (simp part_from at (sym c.seek-sought.ensures
+      ∙ c.in-End.is)) (sym c.last_word-more.ensures
     ∙ c.in-Word.is))

@@ -1,10 +1,8 @@
 -- `all_zero` meets its contract: each turn tests one byte and leaves the bytes behind it (zero_turn).
-use Prim.Native.Nat.{◌≤◌, ◌-◌}
-use mathlib.Core.Path.{◌≡◌, refl, sym, ◌∙◌}
-use lib.ListN.{length, drop, drop_of_length-le}
+use mathlib.Core.Path.{refl, sym, ◌∙◌}
+use lib.ListN.{drop_of_length-le}
 use native.Mathlib.Omega.{arith}
 use borrow.Author.Tests.{eq-eqb, ne_eqb}
-use Rattle.words.specs.Stream.{all_zero}
 use Rattle.words.proofs.Same.{zero_turn}
 use borrow.Author.Rules.{rules}
 use Rattle.words.proofs.all_zero.Goals as goal

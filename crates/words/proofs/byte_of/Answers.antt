@@ -4,7 +4,6 @@ use mathlib.Core.Path.{◌≡◌}
 use native.Mathlib.Omega.{arith}
 use lib.Bits.{mask_lt}
 use Rattle.words.proofs.Fields.{taken}
-use borrow.Author.Rules.{rules}
 use Rattle.words.proofs.byte_of.Goals as goal
 
 pub overflow_cast-result-2 : goal.overflow_cast-result-2

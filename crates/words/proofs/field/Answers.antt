@@ -4,7 +4,6 @@ use native.Mathlib.Numerals.{add-one}
 use native.Mathlib.Omega.{arith}
 use lib.Pow.{pow_pos}
 use Rattle.words.proofs.Fields.{mask, taken}
-use borrow.Author.Rules.{rules}
 use Rattle.words.proofs.field.Goals as goal
 
 pub overflow_sub-result-2 : goal.overflow_sub-result-2

@@ -1,10 +1,9 @@
 -- `fill_zero` meets its contract: each turn writes one byte more (more_written), of a list of zeros.
-use Prim.Native.Nat.{ℕ, ◌≤◌, ◌-◌, ◌+◌}
+use Prim.Native.Nat.{ℕ, ◌+◌}
 use mathlib.Core.Path.{◌≡◌, refl, sym, ◌∙◌}
 use mathlib.Core.List.{List}
-use lib.ListN.{length, set, take, replicate, length-set, length-replicate, get_or-replicate}
+use lib.ListN.{length, set, replicate, length-set, length-replicate, get_or-replicate}
 use native.Mathlib.Omega.{arith}
-use Rattle.words.specs.Stream.{overwritten}
 use Rattle.words.proofs.Streams.{none-overwritten, more_written, all_written}
 use borrow.Author.Rules.{rules}
 use Rattle.words.proofs.fill_zero.Goals as goal

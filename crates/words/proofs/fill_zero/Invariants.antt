@@ -1,10 +1,7 @@
-use Prim.Native.Nat.{ℕ, ◌≤◌, ◌-◌, ◌+◌}
-use mathlib.Core.Path.{◌≡◌, refl, sym, ◌∙◌}
-use mathlib.Core.List.{List}
-use lib.ListN.{length, set, take, replicate, length-set, length-replicate, get_or-replicate}
-use native.Mathlib.Omega.{arith}
+use Prim.Native.Nat.{◌≤◌, ◌-◌}
+use mathlib.Core.Path.{◌≡◌}
+use lib.ListN.{length, take, replicate}
 use Rattle.words.specs.Stream.{overwritten}
-use Rattle.words.proofs.Streams.{none-overwritten, more_written, all_written}
 use Rattle.words.proofs.fill_zero.Given as goal
 
 abbrev pub invariant-loop-i : goal.invariant-loop-i

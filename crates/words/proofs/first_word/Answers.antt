@@ -3,7 +3,6 @@ use mathlib.Core.Path.{refl, ◌∙◌}
 use lib.Dec.{lit≤}
 use Rattle.words.proofs.Fields.{joined}
 use Rattle.words.proofs.Words.{little-sum}
-use borrow.Author.Rules.{rules}
 use Rattle.words.proofs.first_word.Goals as goal
 
 pub returns : goal.returns
@@ -15,4 +14,14 @@ returns c =
     let s5 = joined 8 40 (lit≤ tt) s4.0 s4.1 c.byte-6.ensures.1 in
     let s6 = joined 8 48 (lit≤ tt) s5.0 s5.1 c.byte-7.ensures.1 in
     let s7 = joined 8 56 (lit≤ tt) s6.0 s6.1 c.byte-8.ensures.1 in
-    s7.0 ∙ simp (little-sum, ← c.byte.ensures.0, ← c.byte-2.ensures.0, ← c.byte-3.ensures.0, ← c.byte-4.ensures.0, ← c.byte-5.ensures.0, ← c.byte-6.ensures.0, ← c.byte-7.ensures.0, ← c.byte-8.ensures.0)
+    s7.0 ∙ simp (
+      little-sum,
+      ← c.byte.ensures.0,
+      ← c.byte-2.ensures.0,
+      ← c.byte-3.ensures.0,
+      ← c.byte-4.ensures.0,
+      ← c.byte-5.ensures.0,
+      ← c.byte-6.ensures.0,
+      ← c.byte-7.ensures.0,
+      ← c.byte-8.ensures.0,
+    )

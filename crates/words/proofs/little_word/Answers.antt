@@ -5,7 +5,6 @@ use native.Mathlib.Nat.{add-zero}
 use native.Mathlib.Omega.{arith}
 use lib.ListN.{drop}
 use Rattle.words.proofs.Words.{little_at-take, little_at-drop}
-use borrow.Author.Rules.{rules}
 use Rattle.words.proofs.little_word.Goals as goal
 
 pub returns : goal.returns

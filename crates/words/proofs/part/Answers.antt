@@ -2,7 +2,6 @@
 use borrow.Author.Tests.{lt-leb, le-leb}
 use native.Mathlib.Nat.{add-sub_cancel_left}
 use Rattle.words.specs.Stream.{part_of}
-use borrow.Author.Rules.{rules}
 use Rattle.words.proofs.part.Goals as goal
 
 pub returns-then-length-bytes : goal.returns-then-length-bytes

@@ -7,7 +7,6 @@ use lib.Seq.{sets}
 use Rattle.words.specs.Word.{bytes_of}
 use Rattle.words.proofs.Words.{length-bytes_of, bytes_of-fields}
 use Rattle.words.proofs.Streams.{stores_written}
-use borrow.Author.Rules.{rules}
 use Rattle.words.proofs.put_little.Goals as goal
 
 pub returns : goal.returns

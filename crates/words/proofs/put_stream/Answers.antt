@@ -6,7 +6,6 @@ use native.Mathlib.Omega.{arith}
 use lib.ListN.{length, replicate}
 use Rattle.words.specs.Stream.{padding_of, overwritten}
 use Rattle.words.proofs.Streams.{overwritten_twice}
-use borrow.Author.Rules.{rules}
 use Rattle.words.proofs.put_stream.Goals as goal
 
 pub returns : goal.returns

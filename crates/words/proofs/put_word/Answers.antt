@@ -1,6 +1,5 @@
 -- `put_word` meets its contract: a word is written in its order (bytes_little).
 use Rattle.words.proofs.Words.{bytes_little}
-use borrow.Author.Rules.{rules}
 use Rattle.words.proofs.put_word.Goals as goal
 
 pub returns : goal.returns

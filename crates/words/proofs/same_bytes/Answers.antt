@@ -1,9 +1,8 @@
 -- `same_bytes` meets its contract: each turn compares one word and leaves the bytes behind it (words_same), and behind the turns the last word decides (last_decides).
-use Prim.Native.Nat.{◌≤◌, ◌+◌, ◌-◌}
-use mathlib.Core.Path.{◌≡◌, refl, sym, ◌∙◌}
+use Prim.Native.Nat.{◌-◌}
+use mathlib.Core.Path.{refl, sym, ◌∙◌}
 use native.Mathlib.Omega.{arith}
-use lib.ListN.{length, drop}
-use Rattle.words.specs.Stream.{same_bytes}
+use lib.ListN.{length}
 use Rattle.words.proofs.Words.{AllBytes}
 use Rattle.words.proofs.Same.{same_length, words_same, words_differ, last_decides}
 use borrow.Author.Rules.{rules}
@@ -21,7 +20,8 @@ loop-i-init c = (search rules, refl)
 
 pub returns-then-little_word : goal.returns-then-little_word
 returns-then-little_word c =
-    sym (words_differ c.args.a.now c.args.b.now c.loop-i.i (λ e. c.if-little_word.true (c.little_word.ensures ∙ e ∙ sym c.little_word-in-loop-i.ensures)))
+    sym (words_differ c.args.a.now c.args.b.now c.loop-i.i (λ e. c.if-little_word.true (c.little_word.ensures ∙ e
+    ∙ sym c.little_word-in-loop-i.ensures)))
 
 pub loop-i-preserved : goal.loop-i-preserved
 loop-i-preserved c =

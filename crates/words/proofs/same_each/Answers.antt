@@ -1,10 +1,8 @@
 -- `same_each` meets its contract: each turn compares one byte and leaves the bytes behind it (same_turn).
-use Prim.Native.Nat.{◌≤◌, ◌-◌}
-use mathlib.Core.Path.{◌≡◌, refl, sym, ◌∙◌}
-use lib.ListN.{length, drop, drop_of_length-le}
+use mathlib.Core.Path.{refl, sym, ◌∙◌}
+use lib.ListN.{drop_of_length-le}
 use native.Mathlib.Omega.{arith}
 use borrow.Author.Tests.{eq-eqb, ne_eqb}
-use Rattle.words.specs.Stream.{same_bytes}
 use Rattle.words.proofs.Same.{same_turn}
 use borrow.Author.Rules.{rules}
 use Rattle.words.proofs.same_each.Goals as goal
@@ -22,4 +20,7 @@ loop-i-preserved c =
 
 pub returns : goal.returns
 returns c =
-    sym (c.loop-i.invariant.1 ∙ rw (drop_of_length-le c.args.a.now {i = c.loop-i.i} (omega arith), drop_of_length-le c.args.b.now {i = c.loop-i.i} (omega arith)))
+    sym (c.loop-i.invariant.1 ∙ rw (
+      drop_of_length-le c.args.a.now {i = c.loop-i.i} (omega arith),
+      drop_of_length-le c.args.b.now {i = c.loop-i.i} (omega arith),
+    ))

@@ -5,7 +5,6 @@ use native.Mathlib.Omega.{arith}
 use borrow.Author.Tests.{lt-ltb, le-ltb}
 use mir.Syntax.{w32}
 use Rattle.words.proofs.Signs.{down_fits, down_is}
-use borrow.Author.Rules.{rules}
 use Rattle.words.proofs.signed_half.Goals as goal
 
 pub overflow_sub-result-else-half-lt2147483648 : goal.overflow_sub-result-else-half-lt2147483648

@@ -5,7 +5,6 @@ use lib.ListN.{take, length-take}
 use lib.Seq.{length-take-le}
 use Rattle.words.specs.Stream.{magic, starts_with_magic}
 use Rattle.words.proofs.Same.{same_length}
-use borrow.Author.Rules.{rules}
 use Rattle.words.proofs.starts_with_magic.Goals as goal
 
 pub returns-then-archive-lt8 : goal.returns-then-archive-lt8

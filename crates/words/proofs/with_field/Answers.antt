@@ -2,7 +2,6 @@
 use Prim.Native.Nat.{◌+◌, ◌-◌}
 use native.Mathlib.Omega.{arith}
 use Rattle.words.proofs.Fields.{placed}
-use borrow.Author.Rules.{rules}
 use Rattle.words.proofs.with_field.Goals as goal
 
 pub returns : goal.returns

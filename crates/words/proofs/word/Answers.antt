@@ -1,7 +1,6 @@
 -- `word` meets its contract: a word is read in its order (word-little).
 use mathlib.Core.Path.{sym, ◌∙◌}
 use Rattle.words.proofs.Words.{word-little}
-use borrow.Author.Rules.{rules}
 use Rattle.words.proofs.word.Goals as goal
 
 pub returns : goal.returns
