@@ -7,9 +7,11 @@
 ghost use Rattle.std.specs.Prelude.{◌≡◌, length};
 
 use files::input::Outcome;
-use libc::{STDERR_FILENO, STDOUT_FILENO};
 use lines::{put_bytes, put_number};
 use packer::Packed;
+use std::fs::File;
+use std::io;
+use std::io::Read;
 
 // The length of a case's archive, none at the file's end, that the case has a sheet or another size, or that its header could
 // not be read.
@@ -22,8 +24,8 @@ enum Length {
 }
 
 // Says why the cases are not all shown, and answers that they do not go on.
-fn fail(sentence: &[u8]) -> bool {
-    io::write_all(STDERR_FILENO, sentence);
+fn fail(rt: &impl Eprint, sentence: &str) -> bool {
+    let _ = rt.eprintln(sentence);
     false
 }
 
@@ -38,9 +40,9 @@ fn length_of(first: u64, second: u64) -> Length {
     Length::Bytes(words::field(first, 0, 31) as usize)
 }
 
-fn read_length(fd: i32) -> Length {
+fn read_length<F: Read>(file: &mut F) -> Length {
     let mut header = [0u8; 16];
-    let outcome = files::input::read_bytes(fd, &mut header, 16);
+    let outcome = files::input::read_bytes(file, &mut header, 16);
     match outcome {
         Outcome::All => length_of(
             words::little_word(&header, 0),
@@ -87,48 +89,64 @@ fn put_case(out: &mut [u8], case: u64, archive: &[u8], room: &mut [u32]) -> usiz
 }
 
 // Writes the n bytes of a case, and answers whether they were all written. What fills the buffer may have been cut.
-fn write_case(out: &[u8], n: usize) -> bool {
+fn write_case(rt: &(impl Print + Eprint), out: &[u8], n: usize) -> bool {
     if out.len() <= n {
-        return fail(b"corpus: what a case shows is too long\n");
+        return fail(rt, "corpus: what a case shows is too long");
     }
-    if files::output::write(STDOUT_FILENO, out, n) {
+    if files::output::write(&mut io::writer(rt), out, n) {
         return true;
     }
-    fail(b"corpus: standard output could not be written\n")
+    fail(rt, "corpus: standard output could not be written")
 }
 
 // Shows the next case, whose archive has n bytes, and answers whether the cases go on.
-fn show_case(fd: i32, case: u64, n: usize, room: &mut [u32], out: &mut [u8]) -> bool {
+fn show_case<F: Read>(
+    rt: &(impl Print + Eprint),
+    file: &mut F,
+    case: u64,
+    n: usize,
+    room: &mut [u32],
+    out: &mut [u8],
+) -> bool {
     let mut archive = [0u8; 32768];
-    let outcome = files::input::read_bytes(fd, &mut archive, n);
+    let outcome = files::input::read_bytes(file, &mut archive, n);
     match outcome {
         Outcome::All => {
             let last = put_case(out, case, reader::text(&archive, 0, n), room);
-            write_case(out, last)
+            write_case(rt, out, last)
         }
-        Outcome::End => fail(b"corpus: corpus.bin ends inside a case\n"),
-        Outcome::Failed => fail(b"corpus: corpus.bin could not be read to the end of a case\n"),
+        Outcome::End => fail(rt, "corpus: corpus.bin ends inside a case"),
+        Outcome::Failed => fail(
+            rt,
+            "corpus: corpus.bin could not be read to the end of a case",
+        ),
     }
 }
 
 // Shows the next case, and answers whether the cases go on.
-fn next_case(fd: i32, case: u64, room: &mut [u32], out: &mut [u8]) -> bool {
-    let length = read_length(fd);
+fn next_case<F: Read>(
+    rt: &(impl Print + Eprint),
+    file: &mut F,
+    case: u64,
+    room: &mut [u32],
+    out: &mut [u8],
+) -> bool {
+    let length = read_length(file);
     match length {
-        Length::Bytes(n) => show_case(fd, case, n, room, out),
+        Length::Bytes(n) => show_case(rt, file, case, n, room, out),
         Length::None => false,
-        Length::Other => fail(b"corpus: a case has a sheet or another size\n"),
-        Length::Failed => fail(b"corpus: corpus.bin could not be read to the end of a case\n"),
+        Length::Other => fail(rt, "corpus: a case has a sheet or another size"),
+        Length::Failed => fail(
+            rt,
+            "corpus: corpus.bin could not be read to the end of a case",
+        ),
     }
 }
 
 // Nothing says that a file ends, so the cases are counted, up to a number that no file reaches.
-fn show_cases(fd: i32, room: &mut [u32], out: &mut [u8]) {
-    let mut case = 0;
-    while case < 1000000 {
-        if next_case(fd, case, room, out) {
-            case += 1;
-        } else {
+fn show_cases<F: Read>(rt: &(impl Print + Eprint), file: &mut F, room: &mut [u32], out: &mut [u8]) {
+    for case in 0..1000000 {
+        if !next_case(rt, file, case, room, out) {
             return;
         }
     }
@@ -142,14 +160,13 @@ fn buffer() -> [u8; 2228480]
     [0; 2228480]
 }
 
-fn main() {
-    let fd = os::open_read(b"corpus.bin");
-    if fd < 0 {
-        os::fail(b"corpus.bin");
-        return;
+fn main(rt: HostRuntime) {
+    match File::open(&rt, "corpus.bin") {
+        Ok(mut file) => {
+            let mut room = [0u32; 27648];
+            let mut out = buffer();
+            show_cases(&rt, &mut file, &mut room, &mut out);
+        }
+        Err(error) => files::failure::fail(&mut rt.stderr(), b"corpus.bin", &error),
     }
-    let mut room = [0u32; 27648];
-    let mut out = buffer();
-    show_cases(fd, &mut room, &mut out);
-    libc::close(fd);
 }

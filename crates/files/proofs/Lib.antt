@@ -1,1 +1,1 @@
-pub mod Inputs
+mod Known

@@ -1,7 +1,9 @@
-// Reading from a descriptor into a lent buffer. What a read that failed has in common with the end of the input, that no
+// Reading from a reader into a lent buffer. What a read that failed has in common with the end of the input, that no
 // byte came, is told apart.
 ghost use Rattle.std.specs.Prelude.{◌≡◌};
-ghost use Rattle.files.specs.Input.{Reads, ReadsBytes};
+ghost use Rattle.files.specs.Input.{Reads, ReadsBytes, Takes, TakesBytes};
+
+use std::io::Read;
 
 // How many bytes came until the buffer was full or the input ended.
 #[derive(Clone, Copy)]
@@ -18,33 +20,31 @@ pub enum Outcome {
     Failed,
 }
 
-// Reads until the buffer is full or the input ends.
-pub fn read(fd: i32, buffer: &mut [u8]) -> Input
-    ensures { Reads buffer.old result buffer.new }
+// Reads until the buffer is full or the input ends. A read that a signal interrupts is one that failed.
+pub fn read<R: Read>(reader: &mut R, buffer: &mut [u8]) -> Input
+    ensures reads { Reads buffer.old result buffer.new }
+    ensures takes { Takes (R.remaining reader.old) (R.remaining reader.new) result buffer.new }
 {
     let mut n = 0;
     while n < buffer.len() {
-        let got = libc::read(fd, &mut buffer[n..]);
-        if got < 0 {
-            return Input::Failed;
+        match reader.read(&mut buffer[n..]) {
+            Ok(0) => return Input::Bytes(n),
+            Ok(more) => n += more,
+            Err(_) => return Input::Failed,
         }
-        let more = io::count(got, &buffer[n..]);
-        if more == 0 {
-            return Input::Bytes(n);
-        }
-        n += more;
     }
     Input::Bytes(n)
 }
 
 // Reads n bytes to the start of a buffer.
-pub fn read_bytes(fd: i32, buffer: &mut [u8], n: usize) -> Outcome
-    ensures { ReadsBytes buffer.old n result buffer.new }
+pub fn read_bytes<R: Read>(reader: &mut R, buffer: &mut [u8], n: usize) -> Outcome
+    ensures reads { ReadsBytes buffer.old n result buffer.new }
+    ensures takes { TakesBytes (R.remaining reader.old) (R.remaining reader.new) n result buffer.new }
 {
     if buffer.len() < n {
         return Outcome::Failed; // the buffer is not touched
     }
-    let input = read(fd, &mut buffer[..n]);
+    let input = read(reader, &mut buffer[..n]);
     let Input::Bytes(came) = input else {
         return Outcome::Failed;
     };

@@ -1,5 +1,6 @@
-// Reading from a descriptor into a lent buffer, and writing to one. Nothing here asks anything of its caller.
+// Reading from a reader into a lent buffer, and writing one to a writer. Nothing here asks anything of its caller.
 #![tactic(auto)]
 
+pub mod failure;
 pub mod input;
 pub mod output;

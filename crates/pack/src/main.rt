@@ -4,47 +4,49 @@
 #![tactic(auto)]
 
 use files::input::Input;
-use libc::{STDERR_FILENO, STDIN_FILENO, STDOUT_FILENO};
 use packer::Packed;
+use std::io::Write;
 
 // Says why there is no repacked trace.
-fn fail(sentence: &[u8]) {
-    io::write_all(STDERR_FILENO, sentence);
+fn fail<E: Write>(errors: &mut E, sentence: &[u8]) {
+    files::output::write(errors, sentence, sentence.len());
 }
 
 // The line of a refusal.
-fn refuse(number: u8, place: usize) {
+fn refuse<E: Write>(errors: &mut E, number: u8, place: usize) {
     let mut line = [0u8; 64];
     let n = item_lines::put_end(&mut line, 0, number, place);
-    files::output::write(STDERR_FILENO, &line, n);
+    files::output::write(errors, &line, n);
 }
 
-fn write_packed(output: &[u8], n: usize) {
-    if files::output::write(STDOUT_FILENO, output, n) {
+fn write_packed<O: Write, E: Write>(output: &mut O, errors: &mut E, packed: &[u8], n: usize) {
+    if files::output::write(output, packed, n) {
         return;
     }
-    fail(b"pack: standard output could not be written\n");
+    fail(errors, b"pack: standard output could not be written\n");
 }
 
-fn pack(input: &[u8]) {
+fn pack<O: Write, E: Write>(output: &mut O, errors: &mut E, input: &[u8]) {
     if 32768 < input.len() {
-        refuse(2, 0);
+        refuse(errors, 2, 0);
         return;
     }
     let mut room = [0u32; 27648];
-    let mut output = [0u8; 32768];
-    let packed = packer::repack(input, &mut room, &mut output);
+    let mut bytes = [0u8; 32768];
+    let packed = packer::repack(input, &mut room, &mut bytes);
     match packed {
-        Packed::Refused { number, place } => refuse(number, place),
-        Packed::Written { length } => write_packed(&output, length),
+        Packed::Refused { number, place } => refuse(errors, number, place),
+        Packed::Written { length } => write_packed(output, errors, &bytes, length),
     }
 }
 
-fn main() {
+fn main(rt: HostRuntime) {
     let mut buffer = [0u8; 32769];
-    let input = files::input::read(STDIN_FILENO, &mut buffer);
+    let mut output = rt.stdout();
+    let mut errors = rt.stderr();
+    let input = files::input::read(&mut rt.stdin(), &mut buffer);
     match input {
-        Input::Bytes(n) => pack(reader::text(&buffer, 0, n)),
-        Input::Failed => fail(b"pack: standard input could not be read\n"),
+        Input::Bytes(n) => pack(&mut output, &mut errors, reader::text(&buffer, 0, n)),
+        Input::Failed => fail(&mut errors, b"pack: standard input could not be read\n"),
     }
 }

@@ -8,9 +8,11 @@ ghost use Rattle.std.specs.Prelude.{◌≡◌, ◌<◌, length};
 
 use contexts::State;
 use files::input::Outcome;
-use libc::{STDERR_FILENO, STDOUT_FILENO};
 use lines::{put_bytes, put_number};
 use reader::Answer;
+use std::fs::File;
+use std::io;
+use std::io::Read;
 
 // The word of this number, from 0, of a header.
 fn word(header: &[u8; 176], n: usize) -> u64
@@ -65,8 +67,8 @@ fn is_read(header: &[u8; 176]) -> bool {
 }
 
 // Says why the calls are not all made, and answers that they do not go on.
-fn fail(sentence: &[u8]) -> bool {
-    io::write_all(STDERR_FILENO, sentence);
+fn fail(rt: &impl Eprint, sentence: &str) -> bool {
+    let _ = rt.eprintln(sentence);
     false
 }
 
@@ -76,20 +78,16 @@ fn put_half(out: &mut [u8], at: usize, n: u32) -> usize {
 
 fn put_ids(out: &mut [u8], at: usize, ids: [u32; 8]) -> usize {
     let mut last = at;
-    let mut i = 0;
-    while i < 8 {
-        last = put_half(out, last, ids[i]);
-        i += 1;
+    for id in &ids {
+        last = put_half(out, last, *id);
     }
     last
 }
 
 fn put_rates(out: &mut [u8], at: usize, rates: [u64; 9]) -> usize {
     let mut last = at;
-    let mut i = 0;
-    while i < 9 {
-        last = put_number(out, last, rates[i]);
-        i += 1;
+    for rate in &rates {
+        last = put_number(out, last, *rate);
     }
     last
 }
@@ -129,10 +127,8 @@ fn put_change(out: &mut [u8], at: usize, before: &[u32], after: &[u32], position
 
 fn put_changes(out: &mut [u8], at: usize, before: &[u32], after: &[u32]) -> usize {
     let mut last = at;
-    let mut i = 0;
-    while i < before.len() {
+    for i in 0..before.len() {
         last = put_change(out, last, before, after, i);
-        i += 1;
     }
     last
 }
@@ -174,9 +170,9 @@ fn put_argument(
 }
 
 // Sets one table entry from the file, and answers whether it could be read.
-fn read_entry(fd: i32, tables: &mut [u32]) -> bool {
+fn read_entry<F: Read>(file: &mut F, tables: &mut [u32]) -> bool {
     let mut bytes = [0u8; 8];
-    let outcome = files::input::read_bytes(fd, &mut bytes, 8);
+    let outcome = files::input::read_bytes(file, &mut bytes, 8);
     let Outcome::All = outcome else {
         return false;
     };
@@ -189,12 +185,9 @@ fn read_entry(fd: i32, tables: &mut [u32]) -> bool {
 }
 
 // Sets so many table entries, and answers whether they could all be read.
-fn read_entries(fd: i32, tables: &mut [u32], count: u32) -> bool {
-    let mut left = count;
-    while 0 < left {
-        if read_entry(fd, tables) {
-            left -= 1;
-        } else {
+fn read_entries<F: Read>(file: &mut F, tables: &mut [u32], count: u32) -> bool {
+    for _ in 0..count {
+        if !read_entry(file, tables) {
             return false;
         }
     }
@@ -227,19 +220,20 @@ fn put_call(
 }
 
 // Writes the n bytes that a call shows, and answers whether they were all written. What fills the buffer may have been cut.
-fn write_call(out: &[u8], n: usize) -> bool {
+fn write_call(rt: &(impl Print + Eprint), out: &[u8], n: usize) -> bool {
     if out.len() <= n {
-        return fail(b"probes: what a call shows is too long\n");
+        return fail(rt, "probes: what a call shows is too long");
     }
-    if files::output::write(STDOUT_FILENO, out, n) {
+    if files::output::write(&mut io::writer(rt), out, n) {
         return true;
     }
-    fail(b"probes: standard output could not be written\n")
+    fail(rt, "probes: standard output could not be written")
 }
 
 // Makes the call of a header, whose archive comes next in the file, and answers whether the calls go on.
-fn show_call(
-    fd: i32,
+fn show_call<F: Read>(
+    rt: &(impl Print + Eprint),
+    file: &mut F,
     probe: u64,
     header: &[u8; 176],
     before: &[u32],
@@ -248,9 +242,12 @@ fn show_call(
 ) -> bool {
     let length = high_half(word(header, 0)) as usize;
     let mut archive = [0u8; 4096];
-    let outcome = files::input::read_bytes(fd, &mut archive, length);
+    let outcome = files::input::read_bytes(file, &mut archive, length);
     let Outcome::All = outcome else {
-        return fail(b"probes: probes.bin could not be read to the end of a call\n");
+        return fail(
+            rt,
+            "probes: probes.bin could not be read to the end of a call",
+        );
     };
     let first = put_bytes(out, 0, b"probe");
     let second = put_number(out, first, probe);
@@ -263,46 +260,68 @@ fn show_call(
         before,
         tables,
     );
-    write_call(out, last)
+    write_call(rt, out, last)
 }
 
 // Makes the call of a header, whose table entries come next in the file, and answers whether the calls go on.
-fn show_probe(fd: i32, probe: u64, header: &[u8; 176], out: &mut [u8]) -> bool {
+fn show_probe<F: Read>(
+    rt: &(impl Print + Eprint),
+    file: &mut F,
+    probe: u64,
+    header: &[u8; 176],
+    out: &mut [u8],
+) -> bool {
     let room = low_half(word(header, 19)) as usize;
     let mut tables = [0u32; 7000];
     if 7000 < room {
-        return fail(b"probes: a call has tables of more than 7,000 words\n");
+        return fail(rt, "probes: a call has tables of more than 7,000 words");
     }
-    if read_entries(fd, &mut tables, high_half(word(header, 19))) {
+    if read_entries(file, &mut tables, high_half(word(header, 19))) {
         let before = tables;
-        return show_call(fd, probe, header, &before[..room], &mut tables[..room], out);
+        return show_call(
+            rt,
+            file,
+            probe,
+            header,
+            &before[..room],
+            &mut tables[..room],
+            out,
+        );
     }
-    fail(b"probes: probes.bin could not be read to the end of a call\n")
+    fail(
+        rt,
+        "probes: probes.bin could not be read to the end of a call",
+    )
 }
 
 // Makes the next call, and answers whether the calls go on.
-fn next_probe(fd: i32, probe: u64, out: &mut [u8]) -> bool {
+fn next_probe<F: Read>(
+    rt: &(impl Print + Eprint),
+    file: &mut F,
+    probe: u64,
+    out: &mut [u8],
+) -> bool {
     let mut header = [0u8; 176];
-    let outcome = files::input::read_bytes(fd, &mut header, 176);
+    let outcome = files::input::read_bytes(file, &mut header, 176);
     match outcome {
         Outcome::All => {
             if is_read(&header) {
-                return show_probe(fd, probe, &header, out);
+                return show_probe(rt, file, probe, &header, out);
             }
-            fail(b"probes: a call has a sheet, another size or marks\n")
+            fail(rt, "probes: a call has a sheet, another size or marks")
         }
         Outcome::End => false,
-        Outcome::Failed => fail(b"probes: probes.bin could not be read to the end of a call\n"),
+        Outcome::Failed => fail(
+            rt,
+            "probes: probes.bin could not be read to the end of a call",
+        ),
     }
 }
 
 // Nothing says that a file ends, so the calls are counted, up to a number that no file reaches.
-fn show_probes(fd: i32, out: &mut [u8]) {
-    let mut probe = 0;
-    while probe < 1000000 {
-        if next_probe(fd, probe, out) {
-            probe += 1;
-        } else {
+fn show_probes<F: Read>(rt: &(impl Print + Eprint), file: &mut F, out: &mut [u8]) {
+    for probe in 0..1000000 {
+        if !next_probe(rt, file, probe, out) {
             return;
         }
     }
@@ -315,13 +334,12 @@ fn buffer() -> [u8; 262144]
     [0; 262144]
 }
 
-fn main() {
-    let fd = os::open_read(b"probes.bin");
-    if fd < 0 {
-        os::fail(b"probes.bin");
-        return;
+fn main(rt: HostRuntime) {
+    match File::open(&rt, "probes.bin") {
+        Ok(mut file) => {
+            let mut out = buffer();
+            show_probes(&rt, &mut file, &mut out);
+        }
+        Err(error) => files::failure::fail(&mut rt.stderr(), b"probes.bin", &error),
     }
-    let mut out = buffer();
-    show_probes(fd, &mut out);
-    libc::close(fd);
 }

@@ -5,9 +5,11 @@
 #![tactic(auto)]
 
 use files::input::Outcome;
-use libc::{STDERR_FILENO, STDOUT_FILENO};
 use lines::{put_bytes, put_number};
 use packer::Packed;
+use std::fs::File;
+use std::io;
+use std::io::Read;
 
 // What stands before a call in a word of the room and in a byte of the output, by its position. None is 0.
 fn word_before(position: usize) -> u32 {
@@ -19,41 +21,33 @@ fn byte_before(position: usize) -> u8 {
 }
 
 fn fill_words(words: &mut [u32]) {
-    let mut i = 0;
-    while i < words.len() {
+    for i in 0..words.len() {
         words[i] = word_before(i);
-        i += 1;
     }
 }
 
 fn fill_bytes(bytes: &mut [u8]) {
-    let mut i = 0;
-    while i < bytes.len() {
+    for i in 0..bytes.len() {
         bytes[i] = byte_before(i);
-        i += 1;
     }
 }
 
 // Whether the words from a position on are as they were.
 fn words_kept(words: &[u32], from: usize) -> bool {
-    let mut i = from;
-    while i < words.len() {
+    for i in from..words.len() {
         if words[i] != word_before(i) {
             return false;
         }
-        i += 1;
     }
     true
 }
 
 // Whether the bytes from a position on are as they were.
 fn bytes_kept(bytes: &[u8], from: usize) -> bool {
-    let mut i = from;
-    while i < bytes.len() {
+    for i in from..bytes.len() {
         if bytes[i] != byte_before(i) {
             return false;
         }
-        i += 1;
     }
     true
 }
@@ -63,19 +57,17 @@ fn words_zero(words: &[u32], to: usize) -> bool {
     if words.len() < to {
         return false;
     }
-    let mut i = 0;
-    while i < to {
+    for i in 0..to {
         if words[i] != 0 {
             return false;
         }
-        i += 1;
     }
     true
 }
 
 // Says why the archives are not all shown, and answers that they do not go on.
-fn fail(sentence: &[u8]) -> bool {
-    io::write_all(STDERR_FILENO, sentence);
+fn fail(rt: &impl Eprint, sentence: &str) -> bool {
+    let _ = rt.eprintln(sentence);
     false
 }
 
@@ -243,57 +235,57 @@ fn put_archive(out: &mut [u8], archive: &[u8]) -> usize {
 
 // Writes the n bytes that an archive shows, and answers whether they were all written. What fills the buffer may have
 // been cut.
-fn write_archive(out: &[u8], n: usize) -> bool {
+fn write_archive(rt: &(impl Print + Eprint), out: &[u8], n: usize) -> bool {
     if out.len() <= n {
-        return fail(b"rooms: what an archive shows is too long\n");
+        return fail(rt, "rooms: what an archive shows is too long");
     }
-    if files::output::write(STDOUT_FILENO, out, n) {
+    if files::output::write(&mut io::writer(rt), out, n) {
         return true;
     }
-    fail(b"rooms: standard output could not be written\n")
+    fail(rt, "rooms: standard output could not be written")
 }
 
 // Shows the next archive, of n bytes, and answers whether the archives go on.
-fn show_archive(fd: i32, n: usize) -> bool {
+fn show_archive<F: Read>(rt: &(impl Print + Eprint), file: &mut F, n: usize) -> bool {
     let mut archive = [0u8; 256];
     let mut out = [0u8; 8192];
-    let outcome = files::input::read_bytes(fd, &mut archive, n);
+    let outcome = files::input::read_bytes(file, &mut archive, n);
     let Outcome::All = outcome else {
-        return fail(b"rooms: rooms.bin could not be read to the end of an archive\n");
+        return fail(
+            rt,
+            "rooms: rooms.bin could not be read to the end of an archive",
+        );
     };
     let last = put_archive(&mut out, reader::text(&archive, 0, n));
-    write_archive(&out, last)
+    write_archive(rt, &out, last)
 }
 
 // Shows the next archive, and answers whether the archives go on.
-fn next_archive(fd: i32) -> bool {
+fn next_archive<F: Read>(rt: &(impl Print + Eprint), file: &mut F) -> bool {
     let mut header = [0u8; 8];
-    let outcome = files::input::read_bytes(fd, &mut header, 4);
+    let outcome = files::input::read_bytes(file, &mut header, 4);
     match outcome {
-        Outcome::All => show_archive(fd, words::little_word(&header, 0) as usize),
+        Outcome::All => show_archive(rt, file, words::little_word(&header, 0) as usize),
         Outcome::End => false,
-        Outcome::Failed => fail(b"rooms: rooms.bin could not be read to the end of an archive\n"),
+        Outcome::Failed => fail(
+            rt,
+            "rooms: rooms.bin could not be read to the end of an archive",
+        ),
     }
 }
 
 // Nothing says that a file ends, so the archives are counted, up to a number that no file reaches.
-fn show_archives(fd: i32) {
-    let mut left = 1000000u64;
-    while 0 < left {
-        if next_archive(fd) {
-            left -= 1;
-        } else {
+fn show_archives<F: Read>(rt: &(impl Print + Eprint), file: &mut F) {
+    for _ in 0..1000000u64 {
+        if !next_archive(rt, file) {
             return;
         }
     }
 }
 
-fn main() {
-    let fd = os::open_read(b"rooms.bin");
-    if fd < 0 {
-        os::fail(b"rooms.bin");
-        return;
+fn main(rt: HostRuntime) {
+    match File::open(&rt, "rooms.bin") {
+        Ok(mut file) => show_archives(&rt, &mut file),
+        Err(error) => files::failure::fail(&mut rt.stderr(), b"rooms.bin", &error),
     }
-    show_archives(fd);
-    libc::close(fd);
 }

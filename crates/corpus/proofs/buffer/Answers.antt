@@ -1,7 +1,6 @@
--- `buffer` meets its contract: a list of so many zeros is so long. The list is not written out.
-use Prim.Native.Nat.{ℕ}
-use mathlib.Core.Path.{sym}
-use lib.ListN.{length-replicate}
+-- A list of so many zeros is so long. The list is not written out.
+use Rattle.std.proofs.Common.{ℕ, sym}
+use Rattle.std.proofs.lemmas.List.{length-replicate}
 use Rattle.corpus.proofs.buffer.Goals as goal
 
 pub returns : goal.returns

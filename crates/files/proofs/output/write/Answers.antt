@@ -1,16 +1,8 @@
--- `write` meets its contract: a buffer that is too short is not written.
-use native.Mathlib.Omega.{arith}
-use mathlib.Core.Path.{◌≡◌, sym}
-use Prim.Native.Nat.{ℕ}
-use lib.Seq.{length-take-le}
-use borrow.Author.Rules.{rules}
+-- The loop's invariant holds after a write: its bytes stand behind those that were taken before (more_appended).
+use Rattle.std.proofs.Common.{rules}
+use Rattle.files.proofs.Known.{more_appended}
 use Rattle.files.proofs.output.write.Goals as goal
 
-pub returns-then-buffer-n : goal.returns-then-buffer-n
-returns-then-buffer-n c = λ e. let z : ◌≡◌ {A = ℕ} 0 1 = cc in absurd (omega arith)
-
-pub slice_bounds-write_all-end : goal.slice_bounds-write_all-end
-slice_bounds-write_all-end c = sym (length-take-le _ _ (omega arith))
-
-pub returns : goal.returns
-returns c = λ e. omega arith
+pub loop-done-preserved : goal.loop-done-preserved
+loop-done-preserved g c =
+    (search rules, more_appended _ _ _ _ _ _ _ (search rules) c.loop-done.invariant.1 c.in-Ok.ensures.bytes)
