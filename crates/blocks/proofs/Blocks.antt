@@ -4,8 +4,7 @@ use Prim.Native.Nat.{ℕ, suc, ◌+◌, ◌<◌, ◌≤◌}
 use mathlib.Core.Path.{◌≡◌, refl, ap, ◌∙◌}
 use mathlib.Core.List.{List, ◌++◌, append_assoc}
 use native.Mathlib.Omega.{arith}
-use lib.ListN.{length, get_or, take, length-append, length-replicate}
-use lib.Seq.{get_or-take}
+use lib.ListN.{length, length-append, length-replicate}
 use borrow.Author.Tests.{lt-ltb, le-ltb}
 use Rattle.words.specs.Stream.{overwritten}
 use Rattle.words.proofs.Streams.{overwritten_twice}
@@ -28,7 +27,7 @@ use Rattle.reader.specs.declared.Asked.TheVariants.{Refused, Argument as Argumen
 use Rattle.reader.specs.declared.Answer.{Answer}
 use Rattle.reader.specs.declared.Answer.TheVariants.{End, Nothing, Magic, ProviderInfo, Section, ProviderEvent, Initialization, Report, Skipped}
 use Rattle.reader.specs.Numbers.{text_values, thread_values, referent_values, provider_values, value_values, report_values, answer_values, asked_values}
-use Rattle.blocks.specs.Block.{block, answer_numbers, asked_numbers, state_numbers, given_state, put_numbers}
+use Rattle.blocks.specs.Block.{block, answer_numbers, asked_numbers, state_numbers, put_numbers}
 
 -- a block is as long as it is said to be, where its values fit
 length-block : (n : ℕ) (values : List ℕ) → length values ≤ n → length (block n values) ≡ n

@@ -1,6 +1,6 @@
 -- What a reference that was read stands for, where it is known: its place and its length fit a word and a label, and its bytes stand in the archive.
 -- Assumes nothing.
-use Prim.Native.Nat.{ℕ, ◌+◌, ◌-◌, ◌≤◌, ◌<◌}
+use Prim.Native.Nat.{ℕ, ◌+◌, ◌≤◌, ◌<◌}
 use mathlib.Core.Path.{◌≡◌, refl, ap}
 use mathlib.Core.List.{[], List, ◌∷◌}
 use mathlib.Core.Logic.{◌⊎◌, inl, inr}

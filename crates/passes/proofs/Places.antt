@@ -24,7 +24,7 @@ use Rattle.arguments.specs.declared.Value.{Value}
 use Rattle.arguments.specs.declared.Value.TheVariants.{Scalar as ScalarValue, Text as TextValue}
 use Rattle.arguments.specs.declared.Argued.{Argued}
 use Rattle.arguments.specs.declared.Argued.TheVariants.{Refused as ArgumentRefused, Argument as ArgumentRead}
-use Rattle.arguments.specs.Argument.{argument_of, arguments, on_argued, text_in, arguments_read}
+use Rattle.arguments.specs.Argument.{argument_of, on_argued, text_in, arguments_read}
 use Rattle.arguments.specs.Models.Bounds.{ValueInside}
 use Rattle.arguments.proofs.Arguments.{argument_read}
 use Rattle.records.specs.declared.Report.{Report}

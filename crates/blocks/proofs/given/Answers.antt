@@ -1,7 +1,6 @@
 -- `given` meets its contract: behind the end of a list there is 0 (get_or-eq_default).
 use mathlib.Core.Path.{sym}
 use lib.ListN.{get_or-eq_default}
-use borrow.Author.Rules.{rules}
 use Rattle.blocks.proofs.given.Goals as goal
 
 pub returns : goal.returns

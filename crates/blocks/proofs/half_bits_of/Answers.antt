@@ -6,7 +6,6 @@ use mir.Val.{SFits, to_z, of_z}
 use mir.Facts.{sfits_widen, to_z-of_z}
 use Rattle.words.specs.Word.{unsigned}
 use Rattle.encoding.proofs.Signs.{handed_on}
-use borrow.Author.Rules.{rules}
 use Rattle.blocks.proofs.half_bits_of.Goals as goal
 
 pub overflow_cast-v : goal.overflow_cast-v

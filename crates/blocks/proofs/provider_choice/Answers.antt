@@ -1,5 +1,4 @@
 -- `provider_choice` meets its contract, case by case.
-use borrow.Author.Rules.{rules}
 use Rattle.blocks.proofs.provider_choice.Goals as goal
 
 pub returns-in-None : goal.returns-in-None

@@ -1,6 +1,5 @@
 -- `put_answer` meets its contract: each case is a short block, or a report's.
 use Rattle.blocks.specs.Block.{answer_numbers}
-use borrow.Author.Rules.{rules}
 use Rattle.blocks.proofs.put_answer.Goals as goal
 
 pub returns-in-End : goal.returns-in-End

@@ -12,7 +12,6 @@ use Rattle.reader.specs.declared.Asked.TheVariants.{Argument}
 use Rattle.reader.specs.Numbers.{text_values, value_values}
 use Rattle.blocks.specs.Block.{asked_numbers}
 use Rattle.blocks.proofs.Blocks.{length-value, twenty}
-use borrow.Author.Rules.{rules}
 use Rattle.blocks.proofs.put_argument.Goals as goal
 
 abbrev zeros : List ℕ
@@ -30,7 +29,7 @@ pub returns : goal.returns
 returns c =
     let name : List ℕ = 10 ∷ c.text_choice-name.result.tag ∷ c.text_choice-name.result.first ∷ c.text_choice-name.result.second ∷ [] in
     twenty c.args.out.now 0 name (value_values c.args.argument.value) zeros zeros zeros (omega arith) refl (length-value
-      c.args.argument.value) refl refl
+    c.args.argument.value) refl refl
     c.put_four.ensures c.put_value.ensures c.put_four-2.ensures
     c.put_four-3.ensures c.put_four-4.ensures
     ∙ ap (overwritten c.args.out.now 0) (argument_numbers c.args.argument.name c.args.argument.value _ _ _ c.text_choice-name.ensures)

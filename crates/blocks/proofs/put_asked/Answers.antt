@@ -7,7 +7,6 @@ use borrow.Author.Tests.{lt-ltb, le-ltb}
 use Rattle.reader.specs.declared.Asked.TheVariants.{Refused, Argument}
 use Rattle.blocks.specs.Block.{asked_numbers}
 use Rattle.blocks.proofs.Blocks.{length_asked, put-none, put_all}
-use borrow.Author.Rules.{rules}
 use Rattle.blocks.proofs.put_asked.Goals as goal
 
 -- the clauses, of their product

@@ -9,7 +9,6 @@ use Rattle.views.specs.declared.ShownReport.{ShownReport}
 use Rattle.reader.specs.Numbers.{referent_values, provider_values, event_values}
 use Rattle.blocks.specs.Block.{block}
 use Rattle.blocks.proofs.Blocks.{twenty}
-use borrow.Author.Rules.{rules}
 use Rattle.blocks.proofs.put_event.Goals as goal
 
 -- an event's numbers, with those of its provider and of what it refers to written out
@@ -29,12 +28,12 @@ returns c =
     let one : List ℕ = 8 ∷ c.args.report.place ∷ c.provider_choice-provider.result.tag ∷ c.provider_choice-provider.result.first ∷ [] in
     let two : List ℕ = c.args.event.variant ∷ c.args.event.timestamp ∷ c.args.report.rate ∷ c.referent_choice-first.result.tag ∷ [] in
     let three : List ℕ = c.referent_choice-first.result.first ∷ c.referent_choice-first.result.second ∷
-      c.referent_choice-second.result.tag ∷ c.referent_choice-second.result.first ∷ [] in
+    c.referent_choice-second.result.tag ∷ c.referent_choice-second.result.first ∷ [] in
     let four : List ℕ = c.referent_choice-second.result.second ∷ c.referent_choice-third.result.tag ∷ c.referent_choice-third.result.first
-      ∷ c.referent_choice-third.result.second ∷ [] in
+    ∷ c.referent_choice-third.result.second ∷ [] in
     let five : List ℕ = c.args.report.count ∷ c.args.report.last ∷ 0 ∷ 0 ∷ [] in
     twenty c.args.out.now 0 one two three four five (omega arith) refl refl refl refl
     c.put_four.ensures c.put_four-2.ensures c.put_four-3.ensures
     c.put_four-4.ensures c.put_four-5.ensures
     ∙ ap (overwritten c.args.out.now 0) (event-numbers c.args.event c.args.report _ _ _ _ _ _ _ _ _ _ _ c.provider_choice-provider.ensures
-      c.referent_choice-first.ensures c.referent_choice-second.ensures c.referent_choice-third.ensures)
+    c.referent_choice-first.ensures c.referent_choice-second.ensures c.referent_choice-third.ensures)

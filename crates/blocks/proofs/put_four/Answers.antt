@@ -4,7 +4,6 @@ use mathlib.Core.List.{[], ◌∷◌}
 use native.Mathlib.Numerals.{towards_suc}
 use native.Mathlib.Omega.{arith}
 use Rattle.words.proofs.Streams.{stores_written}
-use borrow.Author.Rules.{rules}
 use Rattle.blocks.proofs.put_four.Goals as goal
 
 pub returns : goal.returns

@@ -9,7 +9,6 @@ use Rattle.views.specs.declared.ShownReport.{ShownReport}
 use Rattle.reader.specs.Numbers.{referent_values, provider_values, log_values}
 use Rattle.blocks.specs.Block.{block}
 use Rattle.blocks.proofs.Blocks.{twenty}
-use borrow.Author.Rules.{rules}
 use Rattle.blocks.proofs.put_log.Goals as goal
 
 abbrev zeros : List ℕ
@@ -31,4 +30,4 @@ returns c =
     c.put_four.ensures c.put_four-2.ensures c.put_four-3.ensures
     c.put_four-4.ensures c.put_four-5.ensures
     ∙ ap (overwritten c.args.out.now 0) (log-numbers c.args.log c.args.report _ _ _ _ _ c.provider_choice-provider.ensures
-      c.referent_choice-thread.ensures)
+    c.referent_choice-thread.ensures)

@@ -7,7 +7,6 @@ use native.Mathlib.Omega.{arith}
 use borrow.Author.Tests.{lt-ltb, le-ltb}
 use Rattle.blocks.specs.Block.{answer_numbers, state_numbers}
 use Rattle.blocks.proofs.Blocks.{length-answer, length_reply, onward, put-none, put_all}
-use borrow.Author.Rules.{rules}
 use Rattle.blocks.proofs.put_reply.Goals as goal
 
 -- the clauses, of their product

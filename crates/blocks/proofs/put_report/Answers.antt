@@ -1,6 +1,5 @@
 -- `put_report` meets its contract: the block of each kind is the one that the definition has for it.
 use Rattle.blocks.specs.Block.{answer_numbers}
-use borrow.Author.Rules.{rules}
 use Rattle.blocks.proofs.put_report.Goals as goal
 
 pub returns-in-Event : goal.returns-in-Event

@@ -4,7 +4,6 @@ use native.Mathlib.Omega.{arith}
 use mathlib.Core.Path.{refl}
 use mathlib.Core.List.{List, [], ◌∷◌}
 use Rattle.blocks.proofs.Blocks.{twenty}
-use borrow.Author.Rules.{rules}
 use Rattle.blocks.proofs.put_short.Goals as goal
 
 pub returns : goal.returns

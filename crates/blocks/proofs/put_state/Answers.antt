@@ -1,14 +1,13 @@
 -- `put_state` meets its contract: five times four numbers are one writing (twenty), and they are the state's (state-numbers).
 use Prim.Native.Nat.{ℕ}
 use mathlib.Core.Path.{◌≡◌, refl, ap, ◌∙◌}
-use mathlib.Core.List.{List, [], ◌∷◌, ◌++◌}
+use mathlib.Core.List.{List, [], ◌∷◌}
 use native.Mathlib.Omega.{arith}
 use lib.ListN.{get_or}
 use Rattle.words.specs.Stream.{overwritten}
 use Rattle.contexts.specs.declared.State.{State}
 use Rattle.blocks.specs.Block.{state_numbers}
 use Rattle.blocks.proofs.Blocks.{twenty}
-use borrow.Author.Rules.{rules}
 use Rattle.blocks.proofs.put_state.Goals as goal
 
 -- a state's numbers, with its ids written out

@@ -1,5 +1,4 @@
 -- `put_value` meets its contract: a value that is no text, or a text, by its numbers.
-use borrow.Author.Rules.{rules}
 use Rattle.blocks.proofs.put_value.Goals as goal
 
 pub returns-in-Scalar : goal.returns-in-Scalar

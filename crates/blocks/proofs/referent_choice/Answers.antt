@@ -1,5 +1,4 @@
 -- `referent_choice` meets its contract: a text or a thread, by its numbers.
-use borrow.Author.Rules.{rules}
 use Rattle.blocks.proofs.referent_choice.Goals as goal
 
 pub returns-in-Text : goal.returns-in-Text

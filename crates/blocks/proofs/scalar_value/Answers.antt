@@ -2,7 +2,6 @@
 use native.Mathlib.Omega.{arith}
 use mir.Syntax.{w32, w64}
 use Rattle.encoding.proofs.Signs.{handed_on}
-use borrow.Author.Rules.{rules}
 use Rattle.blocks.proofs.scalar_value.Goals as goal
 
 pub returns-in-Signed32 : goal.returns-in-Signed32

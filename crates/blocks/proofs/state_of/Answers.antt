@@ -1,6 +1,5 @@
 -- `state_of` meets its contract: each number is the one that the definition names.
 use Rattle.blocks.specs.Block.{given_state}
-use borrow.Author.Rules.{rules}
 use Rattle.blocks.proofs.state_of.Goals as goal
 
 pub returns : goal.returns

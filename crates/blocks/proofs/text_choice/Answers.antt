@@ -1,5 +1,4 @@
 -- `text_choice` meets its contract, case by case.
-use borrow.Author.Rules.{rules}
 use Rattle.blocks.proofs.text_choice.Goals as goal
 
 pub returns-in-At : goal.returns-in-At

@@ -1,5 +1,4 @@
 -- `thread_choice` meets its contract, case by case.
-use borrow.Author.Rules.{rules}
 use Rattle.blocks.proofs.thread_choice.Goals as goal
 
 pub returns-in-Words : goal.returns-in-Words

@@ -1,6 +1,5 @@
 -- `whole_state` meets its contract: each number is the one that the definition names.
 use Rattle.blocks.specs.Block.{given_state}
-use borrow.Author.Rules.{rules}
 use Rattle.blocks.proofs.whole_state.Goals as goal
 
 pub returns : goal.returns

@@ -1,13 +1,9 @@
 use Prim.Native.Nat.{◌+◌}
-use mathlib.Core.Path.{◌≡◌, refl, sym, ◌∙◌}
-use lib.ListN.{length, length-drop}
-use native.Mathlib.Omega.{arith}
-use Rattle.format.proofs.Headers.{part_from}
+use mathlib.Core.Path.{◌≡◌}
+use lib.ListN.{length}
 use Rattle.arguments.specs.Argument.{arguments_read}
-use Rattle.arguments.proofs.Arguments.{texts_inside}
 use Rattle.records.specs.Lookups.{argument_lookups}
 use Rattle.first_pass.specs.Models.Count.{any_unresolved}
-use Rattle.first_pass.proofs.Laws.{unresolved_turn}
 use Rattle.first_pass.proofs.arguments_unresolved.Given as goal
 
 abbrev pub invariant-loop-left : goal.invariant-loop-left

@@ -8,7 +8,6 @@ use Rattle.records.proofs.Lookups.{other_arm}
 use Rattle.tables.specs.Table.{table_words}
 use Rattle.first_pass.specs.Models.Count.{tables_in, slots_in, counts, plain_words, report_checked, report_slots, keeps_to, record_checked, checked_slots}
 use Rattle.words.specs.Word.{pick}
-use borrow.Author.Rules.{rules}
 use borrow.Enum.Refused.{opened}
 use Rattle.first_pass.proofs.check_record.Goals as goal
 
@@ -33,8 +32,10 @@ check_report-requires c =
 
 pub returns-in-Report : goal.returns-in-Report
 unfolding record_checked checked_slots
-returns-in-Report c = by_clause (rw (← c.requires.2, c.if-keeps.true, c.in-Report.is) (c.check_report.ensures.value,
-    c.check_report.ensures.room_after))
+returns-in-Report c = by_clause (rw (← c.requires.2, c.if-keeps.true, c.in-Report.is) (
+  c.check_report.ensures.value,
+  c.check_report.ensures.room_after,
+))
 
 pub returns-in_default : goal.returns-in_default
 unfolding record_checked checked_slots
@@ -44,7 +45,7 @@ returns-in_default c = by_clause (let tables = tables_in c.args.f c.args.room.no
     (λ r. report_checked c.args.f c.args.archive.now tables slots c.args.s r c.args.next c.args.clean) (opened c.in_default.in_default-own.keys2) in
     let stay = other_arm c.args.content slots
     (λ r. pick c.args.clean (report_slots c.args.f c.args.archive.now tables slots c.args.s r c.args.next) slots) (opened
-      c.in_default.in_default-own.keys2) in
+    c.in_default.in_default-own.keys2) in
     rw (← c.requires.2, c.if-keeps.true, c.plain_words.ensures, found, stay) (
       refl,
       sym (take-append-drop (table_words c.args.f)

@@ -1,15 +1,13 @@
 -- `first_pass::count_all` meets its contract: the loop keeps what holds of the room before each record, and the measure is the rest of the archive.
 -- Assumes nothing.
-use Prim.Native.Nat.{◌-◌}
 use mathlib.Core.Path.{sym}
 use native.Mathlib.Omega.{arith}
-use lib.ListN.{length, length-drop}
+use lib.ListN.{length-drop}
 use lib.Seq.{length-take-le}
 use Rattle.format.proofs.Headers.{part_from}
 use Rattle.passes.proofs.Turns.{record_index}
 use Rattle.passes.proofs.Memory.{record_renews}
-use Rattle.first_pass.proofs.Rooms.{RoomCounting, room_starts, room_state, room_wide, room_ends, followed-long, room_stops, record_ends, room_recalls, room_words_lem, room_turns}
-use borrow.Author.Rules.{rules}
+use Rattle.first_pass.proofs.Rooms.{room_starts, room_state, room_wide, room_ends, followed-long, room_stops, record_ends, room_recalls, room_words_lem, room_turns}
 use Rattle.first_pass.proofs.count_all.Goals as goal
 
 -- the clauses, of their product
@@ -28,8 +26,12 @@ checked_record_at-checked-requires c =
 
 pub slice_bounds-follow-end : goal.slice_bounds-follow-end
 slice_bounds-follow-end c =
-    omega (arith, c.table_words-stretch.ensures, room_wide c.args.f c.args.archive.now c.args.room.now c.loop-s.room c.loop-s.s
-      c.loop-s.found c.loop-s.words c.loop-s.invariant)
+    omega (
+      arith,
+      c.table_words-stretch.ensures,
+      room_wide c.args.f c.args.archive.now c.args.room.now c.loop-s.room c.loop-s.s
+          c.loop-s.found c.loop-s.words c.loop-s.invariant,
+    )
 
 pub slice_bounds-follow-end-in-loop-s : goal.slice_bounds-follow-end-in-loop-s
 slice_bounds-follow-end-in-loop-s c =
@@ -44,36 +46,36 @@ follow-followed-requires c =
 pub shape_of-room-then-followed-ne0 : goal.shape_of-room-then-followed-ne0
 shape_of-room-then-followed-ne0 c =
     followed-long c.args.f c.args.archive.now c.args.room.now c.loop-s.room c.loop-s.s c.loop-s.found c.loop-s.words c.loop-s.invariant
-      c.loop-s-test.true c.checked_record_at-checked.result.record
+    c.loop-s-test.true c.checked_record_at-checked.result.record
     c.checked_record_at-checked.ensures.record_value c.follow-followed.result c.follow-followed.ensures.value c.table_words-stretch.result
-      c.table_words-stretch.ensures c.follow-followed.new.tables
+    c.table_words-stretch.ensures c.follow-followed.new.tables
     c.follow-followed.ensures.tables_after
 
 pub returns-then-followed-ne0 : goal.returns-then-followed-ne0
 returns-then-followed-ne0 c = by_clause (room_stops c.args.f c.args.archive.now c.args.room.now c.loop-s.room c.loop-s.s c.loop-s.found
     c.loop-s.words c.loop-s.invariant c.loop-s-test.true c.checked_record_at-checked.result.record
     c.checked_record_at-checked.ensures.record_value c.follow-followed.result c.follow-followed.ensures.value c.table_words-stretch.result
-      c.table_words-stretch.ensures c.follow-followed.new.tables
+    c.table_words-stretch.ensures c.follow-followed.new.tables
     c.follow-followed.ensures.tables_after
     c.if-followed-ne0.true)
 
 pub slice_bounds-renew-count : goal.slice_bounds-renew-count
 slice_bounds-renew-count c =
     let long = followed-long c.args.f c.args.archive.now c.args.room.now c.loop-s.room c.loop-s.s c.loop-s.found c.loop-s.words
-      c.loop-s.invariant c.loop-s-test.true
+    c.loop-s.invariant c.loop-s-test.true
     c.checked_record_at-checked.result.record
     c.checked_record_at-checked.ensures.record_value c.follow-followed.result c.follow-followed.ensures.value c.table_words-stretch.result
-      c.table_words-stretch.ensures c.follow-followed.new.tables
+    c.table_words-stretch.ensures c.follow-followed.new.tables
     c.follow-followed.ensures.tables_after in
     omega (arith, long, c.table_words-stretch.ensures, c.loop-s.invariant.wide)
 
 pub slice_bounds-renew-start : goal.slice_bounds-renew-start
 slice_bounds-renew-start c =
     let long = followed-long c.args.f c.args.archive.now c.args.room.now c.loop-s.room c.loop-s.s c.loop-s.found c.loop-s.words
-      c.loop-s.invariant c.loop-s-test.true
+    c.loop-s.invariant c.loop-s-test.true
     c.checked_record_at-checked.result.record
     c.checked_record_at-checked.ensures.record_value c.follow-followed.result c.follow-followed.ensures.value c.table_words-stretch.result
-      c.table_words-stretch.ensures c.follow-followed.new.tables
+    c.table_words-stretch.ensures c.follow-followed.new.tables
     c.follow-followed.ensures.tables_after in
     omega (arith, long, c.table_words-stretch.ensures, c.loop-s.invariant.wide)
 
@@ -81,10 +83,10 @@ pub renew-requires : goal.renew-requires
 renew-requires c =
     let q = room_state c.args.f c.args.archive.now c.args.room.now c.loop-s.room c.loop-s.s c.loop-s.found c.loop-s.words c.loop-s.invariant in
     let long = followed-long c.args.f c.args.archive.now c.args.room.now c.loop-s.room c.loop-s.s c.loop-s.found c.loop-s.words
-      c.loop-s.invariant c.loop-s-test.true
+    c.loop-s.invariant c.loop-s-test.true
     c.checked_record_at-checked.result.record
     c.checked_record_at-checked.ensures.record_value c.follow-followed.result c.follow-followed.ensures.value c.table_words-stretch.result
-      c.table_words-stretch.ensures c.follow-followed.new.tables
+    c.table_words-stretch.ensures c.follow-followed.new.tables
     c.follow-followed.ensures.tables_after in (
       c.requires.0,
       record {
@@ -100,23 +102,23 @@ pub check_record-counted-requires : goal.check_record-counted-requires
 check_record-counted-requires c =
     let q = room_state c.args.f c.args.archive.now c.args.room.now c.loop-s.room c.loop-s.s c.loop-s.found c.loop-s.words c.loop-s.invariant in
     let long = followed-long c.args.f c.args.archive.now c.args.room.now c.loop-s.room c.loop-s.s c.loop-s.found c.loop-s.words
-      c.loop-s.invariant c.loop-s-test.true
+    c.loop-s.invariant c.loop-s-test.true
     c.checked_record_at-checked.result.record
     c.checked_record_at-checked.ensures.record_value c.follow-followed.result c.follow-followed.ensures.value c.table_words-stretch.result
-      c.table_words-stretch.ensures c.follow-followed.new.tables
+    c.table_words-stretch.ensures c.follow-followed.new.tables
     c.follow-followed.ensures.tables_after in
     let e = record_ends c.args.f c.args.archive.now c.args.room.now c.loop-s.room c.loop-s.s c.loop-s.found c.loop-s.words
-      c.loop-s.invariant c.loop-s-test.true
+    c.loop-s.invariant c.loop-s-test.true
     c.checked_record_at-checked.result.record
     c.checked_record_at-checked.ensures.record_value c.follow-followed.result c.follow-followed.ensures.value c.table_words-stretch.result
-      c.table_words-stretch.ensures c.follow-followed.new.tables
+    c.table_words-stretch.ensures c.follow-followed.new.tables
     c.follow-followed.ensures.tables_after
     c.if-followed-ne0.false in
     let recalls = room_recalls c.args.f c.args.archive.now c.args.room.now c.loop-s.room c.loop-s.s c.loop-s.found c.loop-s.words
-      c.loop-s.invariant c.loop-s-test.true
+    c.loop-s.invariant c.loop-s-test.true
     c.checked_record_at-checked.result.record
     c.checked_record_at-checked.ensures.record_value c.follow-followed.result c.follow-followed.ensures.value c.table_words-stretch.result
-      c.table_words-stretch.ensures c.follow-followed.new.tables
+    c.table_words-stretch.ensures c.follow-followed.new.tables
     c.follow-followed.ensures.tables_after
     c.if-followed-ne0.false c.renew.new.slots (rw part_from at c.renew.ensures) in (
       record { fits = c.requires.0; short = q.0; wide = omega (arith, c.room-in-loop-s-1.given, long, c.loop-s.invariant.wide); low = q.2 },
@@ -135,12 +137,12 @@ overflow_add-words c =
       arith,
       (room_state c.args.f c.args.archive.now c.args.room.now c.loop-s.room c.loop-s.s c.loop-s.found c.loop-s.words c.loop-s.invariant).0,
       room_words_lem c.args.f c.args.archive.now c.args.room.now c.loop-s.room c.loop-s.s c.loop-s.found c.loop-s.words c.loop-s.invariant
-        c.loop-s-test.true c.checked_record_at-checked.result.record
+          c.loop-s-test.true c.checked_record_at-checked.result.record
           c.checked_record_at-checked.ensures.record_value c.follow-followed.result c.follow-followed.ensures.value
-            c.table_words-stretch.result c.table_words-stretch.ensures c.follow-followed.new.tables
+          c.table_words-stretch.result c.table_words-stretch.ensures c.follow-followed.new.tables
           c.follow-followed.ensures.tables_after
           c.if-followed-ne0.false c.renew.new.slots (rw part_from at c.renew.ensures) c.check_record-counted.result
-            c.check_record-counted.ensures.value,
+          c.check_record-counted.ensures.value,
     )
 
 pub loop-s-smaller : goal.loop-s-smaller
@@ -149,9 +151,9 @@ loop-s-smaller c =
       arith,
       c.loop-s-test.true,
       record_ends c.args.f c.args.archive.now c.args.room.now c.loop-s.room c.loop-s.s c.loop-s.found c.loop-s.words c.loop-s.invariant
-        c.loop-s-test.true c.checked_record_at-checked.result.record
+          c.loop-s-test.true c.checked_record_at-checked.result.record
           c.checked_record_at-checked.ensures.record_value c.follow-followed.result c.follow-followed.ensures.value
-            c.table_words-stretch.result c.table_words-stretch.ensures c.follow-followed.new.tables
+          c.table_words-stretch.result c.table_words-stretch.ensures c.follow-followed.new.tables
           c.follow-followed.ensures.tables_after
           c.if-followed-ne0.false,
     )
@@ -159,12 +161,12 @@ loop-s-smaller c =
 pub loop-s-preserved : goal.loop-s-preserved
 loop-s-preserved c =
     room_turns c.args.f c.args.archive.now c.args.room.now c.loop-s.room c.loop-s.s c.loop-s.found c.loop-s.words c.loop-s.invariant
-      c.loop-s-test.true c.checked_record_at-checked.result.record
+    c.loop-s-test.true c.checked_record_at-checked.result.record
     c.checked_record_at-checked.ensures.record_value c.follow-followed.result c.follow-followed.ensures.value c.table_words-stretch.result
-      c.table_words-stretch.ensures c.follow-followed.new.tables
+    c.table_words-stretch.ensures c.follow-followed.new.tables
     c.follow-followed.ensures.tables_after
     c.if-followed-ne0.false c.renew.new.slots (rw part_from at c.renew.ensures) c.check_record-counted.result
-      c.check_record-counted.ensures.value c.check_record-counted.new.room
+    c.check_record-counted.ensures.value c.check_record-counted.new.room
     c.lowest-found.result
     c.room-in-loop-s-2-1.given c.check_record-counted.ensures.room_after c.lowest-found.ensures
 

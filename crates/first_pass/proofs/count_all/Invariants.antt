@@ -1,12 +1,6 @@
 use Prim.Native.Nat.{◌-◌}
-use mathlib.Core.Path.{sym}
-use native.Mathlib.Omega.{arith}
-use lib.ListN.{length, length-drop}
-use lib.Seq.{length-take-le}
-use Rattle.format.proofs.Headers.{part_from}
-use Rattle.passes.proofs.Turns.{record_index}
-use Rattle.passes.proofs.Memory.{record_renews}
-use Rattle.first_pass.proofs.Rooms.{RoomCounting, room_starts, room_state, room_wide, room_ends, followed-long, room_stops, record_ends, room_recalls, room_words_lem, room_turns}
+use lib.ListN.{length}
+use Rattle.first_pass.proofs.Rooms.{RoomCounting}
 use Rattle.first_pass.proofs.count_all.Given as goal
 
 abbrev pub invariant-loop-s : goal.invariant-loop-s

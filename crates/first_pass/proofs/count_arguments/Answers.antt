@@ -9,7 +9,7 @@ use Rattle.arguments.specs.Argument.{arguments_read}
 use Rattle.arguments.proofs.Arguments.{texts_inside, texts_refused}
 use Rattle.records.specs.Lookups.{text_lookup}
 use Rattle.first_pass.proofs.Memory.{stands_can}
-use Rattle.first_pass.proofs.Laws.{Walk, walk_ends, none_left, none_read, walk_turns_texts, turn_few, texts_countable, can_after, recalls_after}
+use Rattle.first_pass.proofs.Laws.{walk_ends, none_left, none_read, walk_turns_texts, turn_few, texts_countable, can_after, recalls_after}
 use borrow.Author.Rules.{rules}
 use Rattle.first_pass.proofs.count_arguments.Goals as goal
 
@@ -19,8 +19,19 @@ by_clause w = record { good_value = w.0; words_value = w.1.0; room_after = w.1.1
 
 pub loop-left-init : goal.loop-left-init
 loop-left-init c =
-    record { tables = refl; long = refl; goods = refl; slots = refl; sum = omega arith; inside = refl; behind = c.requires.3; recalls =
-      c.requires.4; few = omega arith; kept = c.requires.5 }
+    record {
+      tables = refl;
+      long = refl;
+      goods = refl;
+      slots = refl;
+      sum = omega arith;
+      inside = refl;
+      behind = c.requires.3;
+      recalls =
+          c.requires.4;
+      few = omega arith;
+      kept = c.requires.5;
+    }
 
 pub texts_of-texts-requires : goal.texts_of-texts-requires
 texts_of-texts-requires c =
@@ -34,18 +45,18 @@ pub returns-in-Refused : goal.returns-in-Refused
 returns-in-Refused c = by_clause (let all = arguments_read c.args.f c.args.count c.args.part.now c.args.place in
     let end = c.args.place + length c.args.part.now in
     let none = none_read c.args.f c.args.archive.now c.args.room.now c.args.context c.args.until all end c.loop-left.room c.loop-left.left
-      c.loop-left.rest.now c.loop-left.at
+    c.loop-left.rest.now c.loop-left.at
     c.loop-left.good c.loop-left.words c.args.count c.loop-left.invariant _ c.loop-left-test.true (texts_refused c.args.f
-      c.loop-left.rest.now c.loop-left.at _ (sym
+    c.loop-left.rest.now c.loop-left.at _ (sym
     c.texts_of-texts.ensures ∙ c.in-Refused.is)) in
     walk_ends c.args.f c.args.archive.now c.args.room.now c.args.context c.args.until all end c.loop-left.room c.loop-left.left
-      c.loop-left.rest.now c.loop-left.at c.loop-left.good
+    c.loop-left.rest.now c.loop-left.at c.loop-left.good
     c.loop-left.words c.args.count c.loop-left.invariant none)
 
 pub count_texts-requires : goal.count_texts-requires
 count_texts-requires c =
     let k = texts_countable c.args.f c.args.archive.now c.loop-left.rest.now c.loop-left.at c.in-Texts.name c.in-Texts.value
-      c.in-Texts.size c.loop-left.invariant.behind (omega
+    c.in-Texts.size c.loop-left.invariant.behind (omega
     (arith, c.loop-left.invariant.inside, c.requires.1)) (sym c.texts_of-texts.ensures ∙ c.in-Texts.is) in (
       can_after c.args.f c.args.archive.now c.args.room.now c.args.context c.args.until c.requires.0 c.loop-left.room c.loop-left.invariant.long,
       stands_can c.args.archive.now
@@ -60,7 +71,7 @@ inline_bytes-requires c =
     let end = c.args.place + length c.args.part.now in
     let read = sym c.texts_of-texts.ensures ∙ c.in-Texts.is in
     let few = turn_few c.args.f c.args.archive.now c.args.room.now c.args.context c.args.until all end c.loop-left.room c.loop-left.left
-      c.loop-left.rest.now c.loop-left.at c.loop-left.good
+    c.loop-left.rest.now c.loop-left.at c.loop-left.good
     c.loop-left.words c.args.count c.loop-left.invariant c.in-Texts.name c.in-Texts.value c.in-Texts.size c.loop-left-test.true read in
     omega (arith, few.0, few.1, c.loop-left.invariant.inside, c.requires.1, c.requires.0.short)
 
@@ -70,7 +81,7 @@ inline_bytes-requires-in-Texts c =
     let end = c.args.place + length c.args.part.now in
     let read = sym c.texts_of-texts.ensures ∙ c.in-Texts.is in
     let few = turn_few c.args.f c.args.archive.now c.args.room.now c.args.context c.args.until all end c.loop-left.room c.loop-left.left
-      c.loop-left.rest.now c.loop-left.at c.loop-left.good
+    c.loop-left.rest.now c.loop-left.at c.loop-left.good
     c.loop-left.words c.args.count c.loop-left.invariant c.in-Texts.name c.in-Texts.value c.in-Texts.size c.loop-left-test.true read in
     omega (arith, few.0, few.1, c.loop-left.invariant.inside, c.requires.1, c.requires.0.short)
 
@@ -80,10 +91,18 @@ overflow_add-spelled c =
     let end = c.args.place + length c.args.part.now in
     let read = sym c.texts_of-texts.ensures ∙ c.in-Texts.is in
     let few = turn_few c.args.f c.args.archive.now c.args.room.now c.args.context c.args.until all end c.loop-left.room c.loop-left.left
-      c.loop-left.rest.now c.loop-left.at c.loop-left.good
+    c.loop-left.rest.now c.loop-left.at c.loop-left.good
     c.loop-left.words c.args.count c.loop-left.invariant c.in-Texts.name c.in-Texts.value c.in-Texts.size c.loop-left-test.true read in
-    omega (arith, few.0, few.1, c.loop-left.invariant.inside, c.requires.1, c.requires.0.short, c.inline_bytes.ensures,
-      c.inline_bytes-in-Texts.ensures)
+    omega (
+      arith,
+      few.0,
+      few.1,
+      c.loop-left.invariant.inside,
+      c.requires.1,
+      c.requires.0.short,
+      c.inline_bytes.ensures,
+      c.inline_bytes-in-Texts.ensures,
+    )
 
 pub overflow_sub-words : goal.overflow_sub-words
 overflow_sub-words c =
@@ -91,10 +110,18 @@ overflow_sub-words c =
     let end = c.args.place + length c.args.part.now in
     let read = sym c.texts_of-texts.ensures ∙ c.in-Texts.is in
     let few = turn_few c.args.f c.args.archive.now c.args.room.now c.args.context c.args.until all end c.loop-left.room c.loop-left.left
-      c.loop-left.rest.now c.loop-left.at c.loop-left.good
+    c.loop-left.rest.now c.loop-left.at c.loop-left.good
     c.loop-left.words c.args.count c.loop-left.invariant c.in-Texts.name c.in-Texts.value c.in-Texts.size c.loop-left-test.true read in
-    omega (arith, few.0, few.1, c.loop-left.invariant.inside, c.requires.1, c.requires.0.short, c.inline_bytes.ensures,
-      c.inline_bytes-in-Texts.ensures)
+    omega (
+      arith,
+      few.0,
+      few.1,
+      c.loop-left.invariant.inside,
+      c.requires.1,
+      c.requires.0.short,
+      c.inline_bytes.ensures,
+      c.inline_bytes-in-Texts.ensures,
+    )
 
 pub overflow_add-words : goal.overflow_add-words
 overflow_add-words c =
@@ -102,24 +129,24 @@ overflow_add-words c =
     let end = c.args.place + length c.args.part.now in
     let read = sym c.texts_of-texts.ensures ∙ c.in-Texts.is in
     let few = turn_few c.args.f c.args.archive.now c.args.room.now c.args.context c.args.until all end c.loop-left.room c.loop-left.left
-      c.loop-left.rest.now c.loop-left.at c.loop-left.good
+    c.loop-left.rest.now c.loop-left.at c.loop-left.good
     c.loop-left.words c.args.count c.loop-left.invariant c.in-Texts.name c.in-Texts.value c.in-Texts.size c.loop-left-test.true read in
     omega (arith, few.2, c.loop-left.invariant.few, c.requires.2, c.inline_bytes.ensures, c.inline_bytes-in-Texts.ensures)
 
 pub slice_bounds-rest-count : goal.slice_bounds-rest-count
 slice_bounds-rest-count c =
     texts_inside c.args.f c.loop-left.rest.now c.loop-left.at c.in-Texts.name c.in-Texts.value c.in-Texts.size (sym
-      c.texts_of-texts.ensures ∙ c.in-Texts.is)
+    c.texts_of-texts.ensures ∙ c.in-Texts.is)
 
 pub slice_bounds-rest-start : goal.slice_bounds-rest-start
 slice_bounds-rest-start c =
     texts_inside c.args.f c.loop-left.rest.now c.loop-left.at c.in-Texts.name c.in-Texts.value c.in-Texts.size (sym
-      c.texts_of-texts.ensures ∙ c.in-Texts.is)
+    c.texts_of-texts.ensures ∙ c.in-Texts.is)
 
 pub overflow_add-at : goal.overflow_add-at
 overflow_add-at c =
     let s = texts_inside c.args.f c.loop-left.rest.now c.loop-left.at c.in-Texts.name c.in-Texts.value c.in-Texts.size (sym
-      c.texts_of-texts.ensures ∙ c.in-Texts.is) in
+    c.texts_of-texts.ensures ∙ c.in-Texts.is) in
     omega (arith, s, c.loop-left.invariant.inside, c.requires.1, c.requires.0.short)
 
 pub loop-left-preserved : goal.loop-left-preserved
@@ -129,18 +156,20 @@ loop-left-preserved c =
     let long : length c.count_texts.new.room ≡ length c.loop-left.room = search rules in
     let read = sym c.texts_of-texts.ensures ∙ c.in-Texts.is in
     let k = texts_countable c.args.f c.args.archive.now c.loop-left.rest.now c.loop-left.at c.in-Texts.name c.in-Texts.value
-      c.in-Texts.size c.loop-left.invariant.behind (omega
+    c.in-Texts.size c.loop-left.invariant.behind (omega
     (arith, c.loop-left.invariant.inside, c.requires.1)) read in
     let can = can_after c.args.f c.args.archive.now c.args.room.now c.args.context c.args.until c.requires.0 c.loop-left.room
-      c.loop-left.invariant.long in
+    c.loop-left.invariant.long in
     rw (part_from, c.both-good.ensures, c.inline_bytes.ensures, c.inline_bytes-in-Texts.ensures)
     (walk_turns_texts c.args.f c.args.archive.now c.args.room.now c.args.context c.args.until all end c.loop-left.room c.loop-left.left
-      c.loop-left.rest.now c.loop-left.at c.loop-left.good
+    c.loop-left.rest.now c.loop-left.at c.loop-left.good
     c.loop-left.words c.args.count c.loop-left.invariant c.in-Texts.name c.in-Texts.value c.in-Texts.size c.count_texts.result
-      c.count_texts.new.room c.loop-left-test.true read (omega
-    (arith, c.loop-left.invariant.long, c.requires.0.wide)) long (c.count_texts.ensures.value,
-      c.count_texts.ensures.room_after) (recalls_after c.args.f c.args.archive.now c.loop-left.room c.args.context c.args.until can
-      c.count_texts.new.room long
+    c.count_texts.new.room c.loop-left-test.true read (omega
+    (arith, c.loop-left.invariant.long, c.requires.0.wide)) long (
+      c.count_texts.ensures.value,
+      c.count_texts.ensures.room_after,
+    ) (recalls_after c.args.f c.args.archive.now c.loop-left.room c.args.context c.args.until can
+    c.count_texts.new.room long
     (text_lookup c.in-Texts.name ∷ text_lookup c.in-Texts.value ∷ []) k c.loop-left.invariant.recalls c.count_texts.ensures.room_after))
 
 pub shape_of-room : goal.shape_of-room
@@ -150,8 +179,8 @@ pub returns : goal.returns
 returns c = by_clause (let all = arguments_read c.args.f c.args.count c.args.part.now c.args.place in
     let end = c.args.place + length c.args.part.now in
     let none = none_left c.args.f c.args.archive.now c.args.room.now c.args.context c.args.until all end c.loop-left.room c.loop-left.left
-      c.loop-left.rest.now c.loop-left.at
+    c.loop-left.rest.now c.loop-left.at
     c.loop-left.good c.loop-left.words c.args.count c.loop-left.invariant (omega (arith, c.loop-left-test.false)) in
     walk_ends c.args.f c.args.archive.now c.args.room.now c.args.context c.args.until all end c.loop-left.room c.loop-left.left
-      c.loop-left.rest.now c.loop-left.at c.loop-left.good
+    c.loop-left.rest.now c.loop-left.at c.loop-left.good
     c.loop-left.words c.args.count c.loop-left.invariant none)

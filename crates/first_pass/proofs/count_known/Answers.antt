@@ -13,7 +13,6 @@ use Rattle.format.proofs.Headers.{part_from}
 use Rattle.first_pass.specs.Models.Count.{count_good, count_slots}
 use Rattle.first_pass.proofs.Laws.{lent_twice}
 use Rattle.first_pass.proofs.Memory.{slot_none, slot_some}
-use borrow.Author.Rules.{rules}
 use Rattle.first_pass.proofs.count_known.Goals as goal
 
 -- the clauses, of their product
@@ -26,29 +25,31 @@ returns-then-length-eq0 c = by_clause (simp (eq-eqb _ _ c.if-length-eq0.true) (r
 
 pub add_use-slot-requires : goal.add_use-slot-requires
 unfolding label_of
-add_use-slot-requires c =
-    (
-      record {
-        some = omega (arith, c.table_words-words.ensures);
-        low = omega (arith, c.table_words-words.ensures, c.requires.0.fits.indexes);
-        long = simp part_from (omega (arith, c.table_words-words.ensures, c.requires.0.wide, length-drop c.table_words-words.result c.args.room.now));
-      },
-      omega (arith, c.requires.3, c.if-length-eq0.false),
-      omega (arith, c.label_of-label.ensures, c.requires.4, c.requires.0.low, c.requires.1, c.requires.2),
-    )
+add_use-slot-requires c = (
+  record {
+    some = omega (arith, c.table_words-words.ensures);
+    low = omega (arith, c.table_words-words.ensures, c.requires.0.fits.indexes);
+    long = simp part_from (omega (arith, c.table_words-words.ensures, c.requires.0.wide, length-drop c.table_words-words.result c.args.room.now));
+  },
+  omega (arith, c.requires.3, c.if-length-eq0.false),
+  omega (arith, c.label_of-label.ensures, c.requires.4, c.requires.0.low, c.requires.1, c.requires.2),
+)
 
 pub returns-then-slot-eq0 : goal.returns-then-slot-eq0
 unfolding count_good count_slots
 returns-then-slot-eq0 c = by_clause (let slot_is = rw (part_from c.table_words-words.result c.args.room.now) at c.add_use-slot.ensures.value in
     let slots_are = rw (part_from c.table_words-words.result c.args.room.now) at c.add_use-slot.ensures.slots_after in
-    let twice = lent_twice c.table_words-words.result c.args.room.now c.add_use-slot.new.slots c.note.new.slots (omega (arith,
-      c.table_words-words.ensures, c.requires.0.wide)) in
+    let twice = lent_twice c.table_words-words.result c.args.room.now c.add_use-slot.new.slots c.note.new.slots (omega (
+      arith,
+      c.table_words-words.ensures,
+      c.requires.0.wide,
+    )) in
     let slot = find_of c.args.archive.now c.table_words-words.result (drop c.table_words-words.result c.args.room.now) (key_of
-      c.args.archive.now c.args.place c.label_of-label.result) in
+    c.args.archive.now c.args.place c.label_of-label.result) in
     let noted = rw (part_from, twice.0) at c.note.ensures in
     simp (← c.table_words-words.ensures, ne_eqb _ _ c.if-length-eq0.false, ← c.label_of-label.ensures, ← c.highest_of-highest.ensures) (
       sym (slot_none c.table_words-words.result (drop c.table_words-words.result c.args.room.now) c.label_of-label.result
-        c.highest_of-highest.result slot (sym slot_is.0 ∙ c.if-slot-eq0.true)),
+          c.highest_of-highest.result slot (sym slot_is.0 ∙ c.if-slot-eq0.true)),
       twice.1 ∙ ap (λ (l : List ℕ). take c.table_words-words.result c.args.room.now ++ l) (noted ∙ rw (slots_are, slot_is.0)),
     ))
 
@@ -56,13 +57,16 @@ pub returns : goal.returns
 unfolding count_good count_slots
 returns c = by_clause (let slot_is = rw (part_from c.table_words-words.result c.args.room.now) at c.add_use-slot.ensures.value in
     let slots_are = rw (part_from c.table_words-words.result c.args.room.now) at c.add_use-slot.ensures.slots_after in
-    let twice = lent_twice c.table_words-words.result c.args.room.now c.add_use-slot.new.slots c.note.new.slots (omega (arith,
-      c.table_words-words.ensures, c.requires.0.wide)) in
+    let twice = lent_twice c.table_words-words.result c.args.room.now c.add_use-slot.new.slots c.note.new.slots (omega (
+      arith,
+      c.table_words-words.ensures,
+      c.requires.0.wide,
+    )) in
     let slot = find_of c.args.archive.now c.table_words-words.result (drop c.table_words-words.result c.args.room.now) (key_of
-      c.args.archive.now c.args.place c.label_of-label.result) in
+    c.args.archive.now c.args.place c.label_of-label.result) in
     let noted = rw (part_from, twice.0) at c.note.ensures in
     simp (← c.table_words-words.ensures, ne_eqb _ _ c.if-length-eq0.false, ← c.label_of-label.ensures, ← c.highest_of-highest.ensures) (
       sym (slot_some c.table_words-words.result (drop c.table_words-words.result c.args.room.now) c.label_of-label.result
-        c.highest_of-highest.result slot (λ z. c.if-slot-eq0.false (slot_is.0 ∙ z))),
+          c.highest_of-highest.result slot (λ z. c.if-slot-eq0.false (slot_is.0 ∙ z))),
       twice.1 ∙ ap (λ (l : List ℕ). take c.table_words-words.result c.args.room.now ++ l) (noted ∙ rw (slots_are, slot_is.0)),
     ))

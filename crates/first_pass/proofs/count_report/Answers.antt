@@ -12,7 +12,6 @@ use Rattle.first_pass.specs.Models.Count.{tables_in}
 use Rattle.first_pass.proofs.References.{report-words}
 use Rattle.first_pass.proofs.Laws.{counted_then, words-few, stream-inside, stream-few, lookup_countable, report_countable, arguments-behind, report-kept, can_after, recalls_after_one}
 use Rattle.records.specs.declared.Record.{Record}
-use borrow.Author.Rules.{rules}
 use Rattle.first_pass.proofs.count_report.Goals as goal
 
 -- the clauses, of their product
@@ -31,12 +30,12 @@ count_reference-second-requires c =
     let first = lookup_countable c.args.archive.now c.args.report.first stands.0 in
     let k = lookup_countable c.args.archive.now c.args.report.second stands.1.0 in (
       can_after c.args.f c.args.archive.now c.args.room.now c.args.s.current c.args.s.place c.requires.0 c.count_reference-first.new.room
-        c.room-1.given,
+          c.room-1.given,
       k.least,
       k.most,
       k.stands,
       recalls_after_one c.args.f c.args.archive.now c.args.room.now c.args.s.current c.args.s.place c.requires.0
-        c.count_reference-first.new.room c.room-1.given c.args.report.first first.least
+          c.count_reference-first.new.room c.room-1.given c.args.report.first first.least
           first.most first.stands c.requires.3 c.count_reference-first.ensures.room_after,
     )
 
@@ -47,17 +46,17 @@ count_reference-third-requires c =
     let second = lookup_countable c.args.archive.now c.args.report.second stands.1.0 in
     let k = lookup_countable c.args.archive.now c.args.report.third stands.1.1.0 in
     let can = can_after c.args.f c.args.archive.now c.args.room.now c.args.s.current c.args.s.place c.requires.0
-      c.count_reference-first.new.room c.room-1.given in
+    c.count_reference-first.new.room c.room-1.given in
     let recalls = recalls_after_one c.args.f c.args.archive.now c.args.room.now c.args.s.current c.args.s.place c.requires.0
-      c.count_reference-first.new.room c.room-1.given c.args.report.first
+    c.count_reference-first.new.room c.room-1.given c.args.report.first
     first.least first.most first.stands c.requires.3 c.count_reference-first.ensures.room_after in (
       can_after c.args.f c.args.archive.now c.count_reference-first.new.room c.args.s.current c.args.s.place can
-        c.count_reference-second.new.room c.room-2-1.given,
+          c.count_reference-second.new.room c.room-2-1.given,
       k.least,
       k.most,
       k.stands,
       recalls_after_one c.args.f c.args.archive.now c.count_reference-first.new.room c.args.s.current c.args.s.place can
-        c.count_reference-second.new.room c.room-2-1.given c.args.report.second second.least
+          c.count_reference-second.new.room c.room-2-1.given c.args.report.second second.least
           second.most second.stands recalls c.count_reference-second.ensures.room_after,
     )
 
@@ -82,22 +81,22 @@ count_arguments-counted-requires c =
     let second = lookup_countable c.args.archive.now c.args.report.second stands.1.0 in
     let third = lookup_countable c.args.archive.now c.args.report.third stands.1.1.0 in
     let can = can_after c.args.f c.args.archive.now c.args.room.now c.args.s.current c.args.s.place c.requires.0
-      c.count_reference-first.new.room c.room-1.given in
+    c.count_reference-first.new.room c.room-1.given in
     let can2 = can_after c.args.f c.args.archive.now c.count_reference-first.new.room c.args.s.current c.args.s.place can
-      c.count_reference-second.new.room c.room-2-1.given in
+    c.count_reference-second.new.room c.room-2-1.given in
     let recalls = recalls_after_one c.args.f c.args.archive.now c.args.room.now c.args.s.current c.args.s.place c.requires.0
-      c.count_reference-first.new.room c.room-1.given c.args.report.first
+    c.count_reference-first.new.room c.room-1.given c.args.report.first
     first.least first.most first.stands c.requires.3 c.count_reference-first.ensures.room_after in
     let recalls2 = recalls_after_one c.args.f c.args.archive.now c.count_reference-first.new.room c.args.s.current c.args.s.place can
-      c.count_reference-second.new.room c.room-2-1.given c.args.report.second
+    c.count_reference-second.new.room c.room-2-1.given c.args.report.second
     second.least second.most second.stands recalls c.count_reference-second.ensures.room_after in (
       can_after c.args.f c.args.archive.now c.count_reference-second.new.room c.args.s.current c.args.s.place can2
-        c.count_reference-third.new.room c.room-3-1.given,
+          c.count_reference-third.new.room c.room-3-1.given,
       omega (arith, b.part, b.last),
       omega (arith, b.few),
       behind,
       recalls_after_one c.args.f c.args.archive.now c.count_reference-second.new.room c.args.s.current c.args.s.place can2
-        c.count_reference-third.new.room c.room-3-1.given c.args.report.third third.least
+          c.count_reference-third.new.room c.room-3-1.given c.args.report.third third.least
           third.most third.stands recalls2 c.count_reference-third.ensures.room_after,
       report-kept c.args.f c.args.archive.now c.args.s c.args.report c.args.next c.requires.1.1 c.requires.4,
     )
@@ -127,7 +126,7 @@ overflow_add-result c =
     let stream = stream-few c.args.s.place c.args.next c.args.report.stream
     (stream-inside c.args.f c.args.archive.now c.args.s.place c.args.report c.args.next c.requires.1.1) in
     let most = words-few c.args.f c.args.report.count (take (c.args.next - c.args.report.arguments) (drop c.args.report.arguments
-      c.args.archive.now)) c.args.report.arguments in
+    c.args.archive.now)) c.args.report.arguments in
     omega (
       arith,
       stream,
@@ -151,7 +150,7 @@ overflow_add-result-2 c =
     let stream = stream-few c.args.s.place c.args.next c.args.report.stream
     (stream-inside c.args.f c.args.archive.now c.args.s.place c.args.report c.args.next c.requires.1.1) in
     let most = words-few c.args.f c.args.report.count (take (c.args.next - c.args.report.arguments) (drop c.args.report.arguments
-      c.args.archive.now)) c.args.report.arguments in
+    c.args.archive.now)) c.args.report.arguments in
     omega (
       arith,
       stream,
@@ -175,22 +174,29 @@ pub returns : goal.returns
 returns c = by_clause (let b = report_bounds c.args.f c.args.archive.now c.args.s.place c.args.report c.args.next c.requires.1.0 c.requires.1.1 in
     let arguments = argument_lookups (arguments_to c.args.f c.args.archive.now c.args.report c.args.next) in
     let third = counted_then c.args.f c.args.archive.now c.count_reference-second.new.room c.args.s.current c.args.s.place
-      c.args.report.third arguments (omega (arith, c.requires.0.wide, c.room-1.given, c.room-2-1.given)) c.count_reference-third.result
+    c.args.report.third arguments (omega (arith, c.requires.0.wide, c.room-1.given, c.room-2-1.given)) c.count_reference-third.result
     c.count_arguments-counted.result.good c.count_reference-third.new.room c.count_arguments-counted.new.room
-      (c.count_reference-third.ensures.value, c.count_reference-third.ensures.room_after) (c.count_arguments-counted.ensures.good_value,
-      c.count_arguments-counted.ensures.room_after) in
+    (c.count_reference-third.ensures.value, c.count_reference-third.ensures.room_after) (
+      c.count_arguments-counted.ensures.good_value,
+      c.count_arguments-counted.ensures.room_after,
+    ) in
     let second = counted_then c.args.f c.args.archive.now c.count_reference-first.new.room c.args.s.current c.args.s.place
-      c.args.report.second (c.args.report.third ∷ arguments) (omega (arith, c.requires.0.wide,
-      c.room-1.given)) c.count_reference-second.result
+    c.args.report.second (c.args.report.third ∷ arguments) (omega (
+      arith,
+      c.requires.0.wide,
+      c.room-1.given,
+    )) c.count_reference-second.result
     (c.count_reference-third.result && c.count_arguments-counted.result.good) c.count_reference-second.new.room
-      c.count_arguments-counted.new.room (c.count_reference-second.ensures.value, c.count_reference-second.ensures.room_after) third in
+    c.count_arguments-counted.new.room (c.count_reference-second.ensures.value, c.count_reference-second.ensures.room_after) third in
     let first = counted_then c.args.f c.args.archive.now c.args.room.now c.args.s.current c.args.s.place c.args.report.first
-      (c.args.report.second ∷ c.args.report.third ∷ arguments) (omega (arith, c.requires.0.wide)) c.count_reference-first.result
+    (c.args.report.second ∷ c.args.report.third ∷ arguments) (omega (arith, c.requires.0.wide)) c.count_reference-first.result
     (c.count_reference-second.result && (c.count_reference-third.result && c.count_arguments-counted.result.good))
-      c.count_reference-first.new.room c.count_arguments-counted.new.room (c.count_reference-first.ensures.value,
-      c.count_reference-first.ensures.room_after) second in
+    c.count_reference-first.new.room c.count_arguments-counted.new.room (
+      c.count_reference-first.ensures.value,
+      c.count_reference-first.ensures.room_after,
+    ) second in
     let words = report-words c.args.f c.args.archive.now (tables_in c.args.f c.args.room.now) c.args.s c.args.report c.args.next
-      c.args.s.place c.args.next
+    c.args.s.place c.args.next
     (stream-inside c.args.f c.args.archive.now c.args.s.place c.args.report c.args.next c.requires.1.1) b.last in (
       rw (c.both-good.ensures, c.both-2.ensures, c.both.ensures) first.0,
       (rw (c.own_words.ensures, c.inline_bytes.ensures, c.count_arguments-counted.ensures.words_value, c.own_behind.ensures) words, first.1),

@@ -7,7 +7,6 @@ use lib.Seq.{length-take-le}
 use Rattle.passes.proofs.Places.{known_stands}
 use Rattle.first_pass.specs.Models.Count.{count_good, count_slots}
 use Rattle.first_pass.proofs.Memory.{can_stand}
-use borrow.Author.Rules.{rules}
 use Rattle.first_pass.proofs.count_resolved.Goals as goal
 
 -- the clauses, of their product
@@ -26,20 +25,24 @@ resolve-resolved-requires c =
 pub count_known-requires : goal.count_known-requires
 count_known-requires c =
     let k = known_stands c.args.f c.args.archive.now (take c.table_words-words.result c.args.room.now) c.args.context c.args.table
-      c.args.until c.args.reference
+    c.args.until c.args.reference
     c.in-Known.place c.in-Known.length (can_stand c.args.archive.now c.args.reference c.requires.3) (sym c.resolve-resolved.ensures
-      ∙ c.in-Known.is) in
+    ∙ c.in-Known.is) in
     (c.requires.0, c.requires.1, c.requires.2, omega (arith, k.inside, c.requires.0.short), k.short)
 
 pub returns-in-Bad : goal.returns-in-Bad
 unfolding count_good count_slots
-returns-in-Bad c = by_clause (simp (← c.table_words-words.ensures, ← c.resolve-resolved.ensures, c.in-Bad.is) (refl,
-    sym (take-append-drop c.table_words-words.result c.args.room.now)))
+returns-in-Bad c = by_clause (simp (← c.table_words-words.ensures, ← c.resolve-resolved.ensures, c.in-Bad.is) (
+  refl,
+  sym (take-append-drop c.table_words-words.result c.args.room.now),
+))
 
 pub returns-in-Unresolved : goal.returns-in-Unresolved
 unfolding count_good count_slots
-returns-in-Unresolved c = by_clause (simp (← c.table_words-words.ensures, ← c.resolve-resolved.ensures, c.in-Unresolved.is) (refl,
-    sym (take-append-drop c.table_words-words.result c.args.room.now)))
+returns-in-Unresolved c = by_clause (simp (← c.table_words-words.ensures, ← c.resolve-resolved.ensures, c.in-Unresolved.is) (
+  refl,
+  sym (take-append-drop c.table_words-words.result c.args.room.now),
+))
 
 pub returns-in-Known : goal.returns-in-Known
 returns-in-Known c = by_clause (let is = rw c.table_words-words.ensures at (sym c.resolve-resolved.ensures ∙ c.in-Known.is) in

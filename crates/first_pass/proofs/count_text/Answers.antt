@@ -3,7 +3,6 @@
 use native.Mathlib.Omega.{arith}
 use Rattle.records.specs.Lookups.{text_lookup}
 use Rattle.first_pass.proofs.Laws.{again_fits, again_counts}
-use borrow.Author.Rules.{rules}
 use Rattle.first_pass.proofs.count_text.Goals as goal
 
 -- the clauses, of their product

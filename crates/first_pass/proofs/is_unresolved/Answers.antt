@@ -1,6 +1,5 @@
 -- `first_pass::is_unresolved` meets its contract: each answer is what the definition gives for what was looked up. Assumes nothing.
 use Rattle.first_pass.specs.Models.Count.{unresolved_in}
-use borrow.Author.Rules.{rules}
 use Rattle.first_pass.proofs.is_unresolved.Goals as goal
 
 pub returns-in-Bad : goal.returns-in-Bad

@@ -1,6 +1,5 @@
 -- `first_pass::plain_words` meets its contract: each content takes the words that the definition gives. Assumes nothing.
 use Rattle.first_pass.specs.Models.Count.{plain_words}
-use borrow.Author.Rules.{rules}
 use Rattle.first_pass.proofs.plain_words.Goals as goal
 
 pub returns-in-ProviderInfo : goal.returns-in-ProviderInfo

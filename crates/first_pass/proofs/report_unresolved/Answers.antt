@@ -2,7 +2,6 @@
 use native.Mathlib.Omega.{arith}
 use Rattle.passes.proofs.Places.{report_bounds}
 use Rattle.first_pass.specs.Models.Count.{any_unresolved}
-use borrow.Author.Rules.{rules}
 use Rattle.first_pass.proofs.report_unresolved.Goals as goal
 
 pub returns-then-is_unresolved : goal.returns-then-is_unresolved

@@ -4,7 +4,6 @@ use mathlib.Core.Path.{refl, ◌∙◌}
 use Rattle.first_pass.proofs.Counting.{left_tally}
 use Rattle.tables.proofs.Tables.{small_format_lem}
 use Rattle.packer.proofs.Room.{lent_wide, lent_measured}
-use borrow.Author.Rules.{rules}
 use Rattle.packer.proofs.pack.Goals as goal
 
 -- the clauses, of their product
@@ -65,6 +64,15 @@ returns-in-Words c = by_clauses_of_value_output_after_room_len_unchanged (let n 
     let m =
     lent_measured c.args.f c.args.archive.now c.count_all-count.new.room c.in-Words.fixed c.measure-keys.result c.table_words-stretch.result
     c.requires.0 (λ i. omega (arith, c.type_inv.archive i)) c.requires.1 n.0 tallies n.1 c.table_words-stretch.ensures c.measure-keys.ensures.0 in
-    rw (n.0, ← m.0) (c.write.ensures.value, (c.write.ensures.output_after, (c.write.ensures.room_len_unchanged.0
-      ∙ c.count_all-count.ensures.room_len_unchanged.0, c.write.ensures.room_len_unchanged.1
-      ∙ c.count_all-count.ensures.room_len_unchanged.1))))
+    rw (n.0, ← m.0) (
+      c.write.ensures.value,
+      (
+        c.write.ensures.output_after,
+        (
+          c.write.ensures.room_len_unchanged.0
+              ∙ c.count_all-count.ensures.room_len_unchanged.0,
+          c.write.ensures.room_len_unchanged.1
+              ∙ c.count_all-count.ensures.room_len_unchanged.1,
+        ),
+      ),
+    ))

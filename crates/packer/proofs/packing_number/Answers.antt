@@ -1,5 +1,4 @@
 -- `packer::packing_number` meets its contract: it is the number of an archive and so many lent words. Assumes nothing.
-use borrow.Author.Rules.{rules}
 use Rattle.packer.specs.Pack.{packing_number}
 use Rattle.packer.proofs.packing_number.Goals as goal
 

@@ -5,7 +5,6 @@ use mathlib.Core.Path.{sym, ◌∙◌}
 use Rattle.packer.proofs.Demand.{opened, refused_reply, passed_reply, demand}
 use Rattle.tables.proofs.Tables.{small_format_lem}
 use Rattle.packer.proofs.Room.{cleared-first, cleared-last}
-use borrow.Author.Rules.{rules}
 use Rattle.packer.proofs.repack.Goals as goal
 
 -- the clauses, of their product
@@ -29,23 +28,27 @@ overflow_mul-words c =
 
 pub clear-requires : goal.clear-requires
 clear-requires c =
-    omega (arith, c.table_words-words.ensures, (opened c.small_format-f.result c.args.archive.now (length c.args.room.now) (sym
-      c.packing_number-number.ensures ∙ c.if-number-ne0.false)).1)
+    omega (
+      arith,
+      c.table_words-words.ensures,
+      (opened c.small_format-f.result c.args.archive.now (length c.args.room.now) (sym
+          c.packing_number-number.ensures ∙ c.if-number-ne0.false)).1,
+    )
 
 pub pack-packed-requires : goal.pack-packed-requires
 pack-packed-requires c =
     let o = opened c.small_format-f.result c.args.archive.now (length c.args.room.now) (sym c.packing_number-number.ensures
-      ∙ c.if-number-ne0.false) in
+    ∙ c.if-number-ne0.false) in
     let first = cleared-first c.small_format-f.result c.args.room.now c.clear.new.tables c.table_words-words.result
-      c.table_words-words.ensures o.1 c.clear.ensures in
+    c.table_words-words.ensures o.1 c.clear.ensures in
     (c.small_format-f.ensures, o.0, omega (arith, o.1, first.0), first.1)
 
 pub clear-requires-2 : goal.clear-requires-2
 clear-requires-2 c =
     let o = opened c.small_format-f.result c.args.archive.now (length c.args.room.now) (sym c.packing_number-number.ensures
-      ∙ c.if-number-ne0.false) in
+    ∙ c.if-number-ne0.false) in
     let first = cleared-first c.small_format-f.result c.args.room.now c.clear.new.tables c.table_words-words.result
-      c.table_words-words.ensures o.1 c.clear.ensures in
+    c.table_words-words.ensures o.1 c.clear.ensures in
     omega (arith, c.table_words-words.ensures, o.1, first.0, c.pack-packed.ensures.room_len_unchanged.0)
 
 pub returns : goal.returns
@@ -55,7 +58,7 @@ returns c = by_clause (let last =
     let p = rw c.small_format-f.ensures at
     (passed_reply c.small_format-f.result c.args.archive.now c.args.room.now c.args.output.now c.pack-packed.result c.clear-2.new.tables
     c.pack-packed.new.output (sym c.packing_number-number.ensures ∙ c.if-number-ne0.false) c.pack-packed.ensures.value last
-      c.pack-packed.ensures.output_after) in (
+    c.pack-packed.ensures.output_after) in (
       p.0,
       (p.1, (p.2, rw (p.0, p.2) (demand c.args.archive.now (length c.args.room.now) c.args.output.now (λ i. omega (arith, c.type_inv.archive i))))),
     ))

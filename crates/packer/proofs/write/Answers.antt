@@ -27,10 +27,17 @@ table_words-stretch-requires c =
 pub write_all-requires : goal.write_all-requires
 write_all-requires c = by_clauses_of_asks_chosen (let r =
     choices_ready c.args.f c.args.archive.now c.args.room.now c.clear.new.tables c.choose.new.slots c.clear-2.new.tables
-      c.table_words-stretch.result c.table_words-stretch.ensures
+    c.table_words-stretch.result c.table_words-stretch.ensures
     c.requires.f_in_bounds.0 c.requires.f_in_bounds.1 c.clear.ensures c.choose.ensures c.clear-2.ensures in (
-      (c.requires.f_value.0, c.requires.f_value.1, c.requires.f_value.2, omega (arith, r.same_length, c.requires.f_in_bounds.0), r.zeros,
-        omega (arith, c.requires.f_value.3, c.if-output-long.false), r.forgets),
+      (
+        c.requires.f_value.0,
+        c.requires.f_value.1,
+        c.requires.f_value.2,
+        omega (arith, r.same_length, c.requires.f_in_bounds.0),
+        r.zeros,
+        omega (arith, c.requires.f_value.3, c.if-output-long.false),
+        r.forgets,
+      ),
       r.chosen,
     ))
 
@@ -38,7 +45,16 @@ pub returns : goal.returns
 unfolding written_reply
 returns c = by_clause (let r =
     choices_ready c.args.f c.args.archive.now c.args.room.now c.clear.new.tables c.choose.new.slots c.clear-2.new.tables
-      c.table_words-stretch.result c.table_words-stretch.ensures
+    c.table_words-stretch.result c.table_words-stretch.ensures
     c.requires.f_in_bounds.0 c.requires.f_in_bounds.1 c.clear.ensures c.choose.ensures c.clear-2.ensures in
-    rw (le-ltb _ _ c.if-output-long.false) (refl, (c.write_all.ensures.out_after, (c.write_all.ensures.room_len_unchanged.0
-      ∙ r.same_length, c.write_all.ensures.room_len_unchanged.1 ∙ r.behind))))
+    rw (le-ltb _ _ c.if-output-long.false) (
+      refl,
+      (
+        c.write_all.ensures.out_after,
+        (
+          c.write_all.ensures.room_len_unchanged.0
+              ∙ r.same_length,
+          c.write_all.ensures.room_len_unchanged.1 ∙ r.behind,
+        ),
+      ),
+    ))

@@ -1,6 +1,5 @@
 -- `passes::follow` meets its contract: state and tables are what the record's effect makes of them. Assumes nothing.
 use mathlib.Core.Path.{◌∙◌}
-use borrow.Author.Rules.{rules}
 use Rattle.passes.proofs.follow.Goals as goal
 
 pub change_of-requires : goal.change_of-requires
@@ -9,6 +8,6 @@ change_of-requires c =
 
 pub returns : goal.returns
 returns c = record {
-      value = c.follow.ensures ∙ rw c.effect_of-effect.ensures;
-      tables_after = c.apply.ensures ∙ rw (c.change_of.ensures, c.effect_of-effect.ensures);
-    }
+  value = c.follow.ensures ∙ rw c.effect_of-effect.ensures;
+  tables_after = c.apply.ensures ∙ rw (c.change_of.ensures, c.effect_of-effect.ensures);
+}

@@ -4,7 +4,6 @@ use native.Mathlib.Omega.{arith}
 use borrow.Author.Tests.{le-ltb, lt-ltb}
 use Rattle.tables.proofs.Tables.{at_lt}
 use Rattle.passes.specs.Models.Memory.{noted}
-use borrow.Author.Rules.{rules}
 use Rattle.passes.proofs.note.Goals as goal
 
 pub remember-requires : goal.remember-requires

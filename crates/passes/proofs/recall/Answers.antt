@@ -4,7 +4,6 @@ use native.Mathlib.Omega.{arith}
 use borrow.Author.Tests.{le-ltb, lt-ltb}
 use Rattle.tables.proofs.Tables.{at_lt}
 use Rattle.passes.specs.Models.Memory.{recalled}
-use borrow.Author.Rules.{rules}
 use Rattle.passes.proofs.recall.Goals as goal
 
 pub returns-then-highest_of-index : goal.returns-then-highest_of-index

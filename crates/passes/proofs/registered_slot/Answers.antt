@@ -3,7 +3,6 @@ use native.Mathlib.Omega.{arith}
 use Rattle.passes.specs.Models.Memory.{registered_slot}
 use borrow.Author.Tests.{eq-eqb, ne_eqb}
 use Rattle.tally.specs.Models.Slots.{label_of}
-use borrow.Author.Rules.{rules}
 use Rattle.passes.proofs.registered_slot.Goals as goal
 
 pub returns-then-length-eq0 : goal.returns-then-length-eq0

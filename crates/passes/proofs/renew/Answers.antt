@@ -3,7 +3,6 @@ use mathlib.Core.Path.{subst, sym, ◌∙◌}
 use native.Mathlib.Omega.{arith}
 use Rattle.tables.proofs.Tables.{at_lt}
 use Rattle.passes.specs.Models.Memory.{renewed_by, RenewFits}
-use borrow.Author.Rules.{rules}
 use Rattle.passes.proofs.renew.Goals as goal
 
 pub position_of-entry-requires : goal.position_of-entry-requires
@@ -26,8 +25,13 @@ remember-requires c =
 pub returns-in-Register : goal.returns-in-Register
 unfolding renewed_by
 returns-in-Register c =
-    simp (← c.effect_of-effect.ensures, c.in-Register.is, ← c.position_of-entry.ensures, ← c.registered_slot-slot.ensures.0,
-      ← c.table_words.ensures) c.remember.ensures
+    simp (
+      ← c.effect_of-effect.ensures,
+      c.in-Register.is,
+      ← c.position_of-entry.ensures,
+      ← c.registered_slot-slot.ensures.0,
+      ← c.table_words.ensures,
+    ) c.remember.ensures
 
 pub returns-in-Stop : goal.returns-in-Stop
 unfolding renewed_by

@@ -5,7 +5,6 @@ use lib.ListN.{length}
 use Rattle.rewriting.specs.Models.Write.{tables_in, slots_in}
 use Rattle.rewriting.specs.Models.Fits.{ValueLow}
 use Rattle.rewriting.proofs.Spelling.{scalar_argument_lem, text_argument_lem, short_as}
-use borrow.Author.Rules.{rules}
 use Rattle.rewriting.proofs.put_argument.Goals as goal
 
 -- the clauses, of their product
@@ -38,13 +37,13 @@ pub put_text_argument-requires : goal.put_text_argument-requires
 put_text_argument-requires c = by_clauses_of_index_bound_text_len_bound (let tables = tables_in c.args.f c.args.room.now in
     let slots = slots_in c.args.f c.args.room.now in
     let whole = text_argument_lem c.args.f c.args.archive.now tables slots c.args.context c.args.until c.args.argument
-      c.spell_text-named.result c.spell_text-held.result
+    c.spell_text-named.result c.spell_text-held.result
     c.text-bytes.result.now c.text-content.result.now c.in-Text.inside c.spell_text-named.ensures c.text-bytes.ensures
-      c.spell_text-held.ensures c.text-content.ensures
+    c.spell_text-held.ensures c.text-content.ensures
     c.in-Text.is in
     let name = short_as c.args.archive.now c.spell_text-named.result _ c.spell_text-named.ensures (c.requires.room_fits.1.name.text refl) in
     let text = short_as c.args.archive.now c.spell_text-held.result _ c.spell_text-held.ensures ((rw c.in-Text.is at
-      c.requires.room_fits.1.text).text refl) in (
+    c.requires.room_fits.1.text).text refl) in (
       (name.0, omega (arith, ap length c.text-bytes.ensures, name.1), text.0, omega (arith, ap length c.text-content.ensures, text.1)),
       (omega (arith, ap length whole, c.requires.room_fits.1.size), omega (arith, ap length whole, c.requires.argument_in_bounds)),
     ))
@@ -60,8 +59,8 @@ pub returns-in-Text : goal.returns-in-Text
 returns-in-Text c = by_clauses_of_out_after_value (let tables = tables_in c.args.f c.args.room.now in
     let slots = slots_in c.args.f c.args.room.now in
     rw (text_argument_lem c.args.f c.args.archive.now tables slots c.args.context c.args.until c.args.argument c.spell_text-named.result
-      c.spell_text-held.result
+    c.spell_text-held.result
     c.text-bytes.result.now c.text-content.result.now c.in-Text.inside c.spell_text-named.ensures c.text-bytes.ensures
-      c.spell_text-held.ensures c.text-content.ensures
+    c.spell_text-held.ensures c.text-content.ensures
     c.in-Text.is)
     (c.put_text_argument.ensures.out_after, c.put_text_argument.ensures.value))

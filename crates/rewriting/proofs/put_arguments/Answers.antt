@@ -1,15 +1,13 @@
 -- `put_arguments` meets its contract: the loop keeps what is written and what is left together the whole (Walk).
-use Prim.Native.Nat.{◌+◌}
-use mathlib.Core.Path.{◌≡◌, refl, sym, ◌∙◌}
+use mathlib.Core.Path.{refl, sym, ◌∙◌}
 use native.Mathlib.Omega.{arith}
-use lib.ListN.{length, length-drop}
+use lib.ListN.{length-drop}
 use Rattle.format.proofs.Headers.{part_from}
 use Rattle.arguments.specs.Argument.{arguments_read}
 use Rattle.arguments.proofs.Arguments.{argument_read}
 use Rattle.rewriting.specs.Models.Write.{tables_in, slots_in}
 use Rattle.rewriting.proofs.Walks.{argument_first, argument_refused, arguments-none}
-use Rattle.rewriting.proofs.Spelling.{Walk, walk_starts, walk_as, walk_fits, walk_goes_on, walk_ends}
-use borrow.Author.Rules.{rules}
+use Rattle.rewriting.proofs.Spelling.{walk_starts, walk_as, walk_fits, walk_goes_on, walk_ends}
 use Rattle.rewriting.proofs.put_arguments.Goals as goal
 
 -- the clauses, of their product
@@ -21,13 +19,12 @@ by_clauses_of_room_fits_argument_in_bounds : {A B : Type 0} → A × B → recor
 by_clauses_of_room_fits_argument_in_bounds w = record { room_fits = w.0; argument_in_bounds = w.1 }
 
 pub loop-left-init : goal.loop-left-init
-loop-left-init c =
-    (
-      walk_starts c.args.f c.args.archive.now (tables_in c.args.f c.args.room.now) (slots_in c.args.f c.args.room.now) c.args.context c.args.until
-          (arguments_read c.args.f c.args.count c.args.part.now c.args.place) c.args.out.now c.args.start c.requires.room_fits.1
-            c.requires.part_bound.1,
-      refl,
-    )
+loop-left-init c = (
+  walk_starts c.args.f c.args.archive.now (tables_in c.args.f c.args.room.now) (slots_in c.args.f c.args.room.now) c.args.context c.args.until
+      (arguments_read c.args.f c.args.count c.args.part.now c.args.place) c.args.out.now c.args.start c.requires.room_fits.1
+      c.requires.part_bound.1,
+  refl,
+)
 
 pub argument_of-argued-requires : goal.argument_of-argued-requires
 argument_of-argued-requires c =
@@ -45,31 +42,31 @@ returns-in-Refused c = by_clause (let none = argument_refused c.args.f c.loop-le
 pub put_argument-at-requires : goal.put_argument-at-requires
 put_argument-at-requires c = by_clauses_of_room_fits_argument_in_bounds (let read = sym c.argument_of-argued.ensures ∙ c.in-Argument.is in
     let turn = argument_first c.args.f c.loop-left.left c.loop-left.rest.now c.loop-left.from c.in-Argument.argument c.in-Argument.size
-      c.loop-left-test.true read in
+    c.loop-left-test.true read in
     let w = walk_as _ _ _ _ _ _ turn c.loop-left.invariant.0 in
     ((c.requires.room_fits.0, w.fit.0, c.requires.room_fits.2), walk_fits _ _ _ _ _ _ w))
 
 pub slice_bounds-rest-count : goal.slice_bounds-rest-count
 slice_bounds-rest-count c =
     (argument_read c.args.f c.loop-left.rest.now c.loop-left.from c.in-Argument.argument c.in-Argument.size (sym
-      c.argument_of-argued.ensures ∙ c.in-Argument.is)).inside
+    c.argument_of-argued.ensures ∙ c.in-Argument.is)).inside
 
 pub slice_bounds-rest-start : goal.slice_bounds-rest-start
 slice_bounds-rest-start c =
     (argument_read c.args.f c.loop-left.rest.now c.loop-left.from c.in-Argument.argument c.in-Argument.size (sym
-      c.argument_of-argued.ensures ∙ c.in-Argument.is)).inside
+    c.argument_of-argued.ensures ∙ c.in-Argument.is)).inside
 
 pub overflow_add-from : goal.overflow_add-from
 overflow_add-from c =
     let read = argument_read c.args.f c.loop-left.rest.now c.loop-left.from c.in-Argument.argument c.in-Argument.size (sym
-      c.argument_of-argued.ensures ∙ c.in-Argument.is) in
+    c.argument_of-argued.ensures ∙ c.in-Argument.is) in
     omega (arith, read.inside, c.loop-left.invariant.1, c.requires.part_bound.0)
 
 pub loop-left-preserved : goal.loop-left-preserved
 loop-left-preserved c =
     let read = sym c.argument_of-argued.ensures ∙ c.in-Argument.is in
     let turn = argument_first c.args.f c.loop-left.left c.loop-left.rest.now c.loop-left.from c.in-Argument.argument c.in-Argument.size
-      c.loop-left-test.true read in
+    c.loop-left-test.true read in
     let w = walk_as _ _ _ _ _ _ turn c.loop-left.invariant.0 in
     let inside = (argument_read c.args.f c.loop-left.rest.now c.loop-left.from c.in-Argument.argument c.in-Argument.size read).inside in
     rw (part_from c.in-Argument.size c.loop-left.rest.now) (

@@ -1,13 +1,9 @@
 use Prim.Native.Nat.{◌+◌}
-use mathlib.Core.Path.{◌≡◌, refl, sym, ◌∙◌}
-use native.Mathlib.Omega.{arith}
-use lib.ListN.{length, length-drop}
-use Rattle.format.proofs.Headers.{part_from}
+use mathlib.Core.Path.{◌≡◌}
+use lib.ListN.{length}
 use Rattle.arguments.specs.Argument.{arguments_read}
-use Rattle.arguments.proofs.Arguments.{argument_read}
 use Rattle.rewriting.specs.Models.Write.{tables_in, slots_in}
-use Rattle.rewriting.proofs.Walks.{argument_first, argument_refused, arguments-none}
-use Rattle.rewriting.proofs.Spelling.{Walk, walk_starts, walk_as, walk_fits, walk_goes_on, walk_ends}
+use Rattle.rewriting.proofs.Spelling.{Walk}
 use Rattle.rewriting.proofs.put_arguments.Given as goal
 
 abbrev pub invariant-loop-left : goal.invariant-loop-left

@@ -6,7 +6,6 @@ use Rattle.records.specs.Item.{own_layout}
 use Rattle.words.proofs.Words.{length-word_bytes}
 use Rattle.encoding.proofs.Parts.{nothing_written}
 use Rattle.rewriting.proofs.Spelling.{last_none, last_word}
-use borrow.Author.Rules.{rules}
 use Rattle.rewriting.proofs.put_last.Goals as goal
 
 -- the clauses, of their product
@@ -21,7 +20,7 @@ returns-then-own_behind-eq0 c = by_clause (rw (last_none c.args.f (own_layout c.
 pub put_word-requires : goal.put_word-requires
 put_word-requires c =
     let one = last_word c.args.f (own_layout c.args.report.own).behind c.args.report.last (λ z. c.if-own_behind-eq0.false
-      (c.own_behind.ensures ∙ z)) in
+    (c.own_behind.ensures ∙ z)) in
     omega (arith, ap length one, length-word_bytes c.args.f.order c.args.report.last, c.requires.1)
 
 pub returns : goal.returns

@@ -6,7 +6,6 @@ use Rattle.records.specs.Item.{magic}
 use Rattle.encoding.proofs.Headers.{length-plain}
 use Rattle.encoding.proofs.EncodedItems.{magic_record}
 use Rattle.encoding.proofs.Parts.{nothing_written}
-use borrow.Author.Rules.{rules}
 use Rattle.rewriting.proofs.put_plain.Goals as goal
 
 -- the clauses, of their product
@@ -45,8 +44,10 @@ returns-in-Magic c = by_clause (rw (c.in-Magic.is, magic_record c.args.f (λ key
 
 pub returns-in-ProviderInfo : goal.returns-in-ProviderInfo
 unfolding plain_item
-returns-in-ProviderInfo c = by_clause (rw c.in-ProviderInfo.is (rw c.text.ensures at c.put_provider_info.ensures.out_after,
-    rw c.text.ensures at c.put_provider_info.ensures.value))
+returns-in-ProviderInfo c = by_clause (rw c.in-ProviderInfo.is (
+  rw c.text.ensures at c.put_provider_info.ensures.out_after,
+  rw c.text.ensures at c.put_provider_info.ensures.value,
+))
 
 pub returns-in-Section : goal.returns-in-Section
 unfolding plain_item

@@ -35,11 +35,22 @@ register_waiting-registered-requires c = by_clause (let tables = tables_in c.arg
     let behind = report_given_slots c.args.f c.args.archive.now tables slots c.args.s c.in-Report.report c.args.next in
     let body = report_bytes c.args.f c.args.archive.now tables behind c.args.s c.in-Report.report c.args.next in
     let space : c.args.at + length (given ++ body) ≤ length c.args.out.now = rw c.in-Report.is at c.requires.next_in_bounds in (
-      (c.requires.room_fits.0, record { inside = c.requires.room_fits.1; is = c.requires.room_fits.2
-        ∙ ap (λ (x : Content). record { content = x; next = c.args.next }) c.in-Report.is },
-        c.requires.room_fits.3 c.in-Report.report c.in-Report.is),
-      ((c.requires.content_fits_in.0.report c.in-Report.report c.in-Report.is).0, (omega (arith, space, length-append given body),
-        c.requires.content_fits_in.1)),
+      (
+        c.requires.room_fits.0,
+        record {
+          inside = c.requires.room_fits.1;
+          is = c.requires.room_fits.2
+              ∙ ap (λ (x : Content). record { content = x; next = c.args.next }) c.in-Report.is;
+        },
+        c.requires.room_fits.3 c.in-Report.report c.in-Report.is,
+      ),
+      (
+        (c.requires.content_fits_in.0.report c.in-Report.report c.in-Report.is).0,
+        (
+          omega (arith, space, length-append given body),
+          c.requires.content_fits_in.1,
+        ),
+      ),
     ))
 
 pub put_report-requires : goal.put_report-requires
@@ -49,22 +60,44 @@ put_report-requires c = by_clauses_of_room_fits_next_in_bounds (let room-long : 
     let fit = (c.requires.content_fits_in.0.report c.in-Report.report c.in-Report.is).1 in
     let behind =
     record_fits c.args.f c.args.archive.now c.args.room.now c.args.out.now c.args.at c.args.s c.in-Report.report c.args.next
-      c.register_waiting-registered.new.room c.register_waiting-registered.new.out c.register_waiting-registered.result
-    (omega (arith, c.requires.room_fits.0.wide)) (rw c.in-Report.is at c.requires.next_in_bounds)
-      (c.register_waiting-registered.ensures.room_after, (c.register_waiting-registered.ensures.out_after,
-      c.register_waiting-registered.ensures.value)) out_long fit in
+    c.register_waiting-registered.new.room c.register_waiting-registered.new.out c.register_waiting-registered.result
+    (omega (arith, c.requires.room_fits.0.wide)) (rw c.in-Report.is at c.requires.next_in_bounds) (
+      c.register_waiting-registered.ensures.room_after,
+      (
+        c.register_waiting-registered.ensures.out_after,
+        c.register_waiting-registered.ensures.value,
+      ),
+    ) out_long fit in
     let remembers =
     record_remembers c.args.f c.args.archive.now c.args.room.now c.args.out.now c.args.at c.args.s c.in-Report.report c.args.next
-      c.register_waiting-registered.new.room c.register_waiting-registered.new.out c.register_waiting-registered.result
-    (omega (arith, c.requires.room_fits.0.wide)) (rw c.in-Report.is at c.requires.next_in_bounds)
-      (c.register_waiting-registered.ensures.room_after, (c.register_waiting-registered.ensures.out_after,
-      c.register_waiting-registered.ensures.value)) c.requires.room_fits.0 (c.requires.content_fits_in.0.report c.in-Report.report
-      c.in-Report.is).0 (c.requires.room_fits.3 c.in-Report.report c.in-Report.is) in (
+    c.register_waiting-registered.new.room c.register_waiting-registered.new.out c.register_waiting-registered.result
+    (omega (arith, c.requires.room_fits.0.wide)) (rw c.in-Report.is at c.requires.next_in_bounds) (
+      c.register_waiting-registered.ensures.room_after,
       (
-        record { limits = c.requires.room_fits.0.limits; short = c.requires.room_fits.0.short; wide = omega (arith,
-          c.requires.room_fits.0.wide, room-long); low = c.requires.room_fits.0.low },
-        record { inside = c.requires.room_fits.1; is = c.requires.room_fits.2 ∙ ap (λ (x : Content). record { content = x; next =
-          c.args.next }) c.in-Report.is },
+        c.register_waiting-registered.ensures.out_after,
+        c.register_waiting-registered.ensures.value,
+      ),
+    ) c.requires.room_fits.0 (c.requires.content_fits_in.0.report c.in-Report.report
+    c.in-Report.is).0 (c.requires.room_fits.3 c.in-Report.report c.in-Report.is) in (
+      (
+        record {
+          limits = c.requires.room_fits.0.limits;
+          short = c.requires.room_fits.0.short;
+          wide = omega (
+            arith,
+            c.requires.room_fits.0.wide,
+            room-long,
+          );
+          low = c.requires.room_fits.0.low;
+        },
+        record {
+          inside = c.requires.room_fits.1;
+          is = c.requires.room_fits.2 ∙ ap (λ (x : Content). record {
+            content = x;
+            next =
+                c.args.next;
+          }) c.in-Report.is;
+        },
         behind.0,
         remembers,
       ),
@@ -81,10 +114,14 @@ put_plain-requires c =
 pub returns-in-Report : goal.returns-in-Report
 returns-in-Report c = by_clauses_of_room_after_out_after_value (rw c.in-Report.is
     (record_written c.args.f c.args.archive.now c.args.room.now c.args.out.now c.args.at c.args.s c.in-Report.report c.args.next
-      c.register_waiting-registered.new.room
-    c.register_waiting-registered.new.out c.register_waiting-registered.result (omega (arith,
-      c.requires.room_fits.0.wide)) (rw c.in-Report.is at c.requires.next_in_bounds) (c.register_waiting-registered.ensures.room_after,
-      (c.register_waiting-registered.ensures.out_after, c.register_waiting-registered.ensures.value))
+    c.register_waiting-registered.new.room
+    c.register_waiting-registered.new.out c.register_waiting-registered.result (omega (
+      arith,
+      c.requires.room_fits.0.wide,
+    )) (rw c.in-Report.is at c.requires.next_in_bounds) (
+      c.register_waiting-registered.ensures.room_after,
+      (c.register_waiting-registered.ensures.out_after, c.register_waiting-registered.ensures.value),
+    )
     _ _ c.put_report.ensures.out_after c.put_report.ensures.value))
 
 pub returns-in_default : goal.returns-in_default
@@ -92,9 +129,9 @@ returns-in_default c = by_clauses_of_room_after_out_after_value (let tables = ta
     let slots = slots_in c.args.f c.args.room.now in
     let bytes = plain_bytes c.args.f (plain_item c.args.archive.now c.args.content) in
     let bytes_are : content_in c.args.f c.args.archive.now c.args.room.now c.args.s c.args.content c.args.next ≡ bytes = other_arm
-      c.args.content bytes _ (opened c.in_default.in_default-own.keys2) in
+    c.args.content bytes _ (opened c.in_default.in_default-own.keys2) in
     let slots_are : content_slots c.args.f c.args.archive.now tables slots c.args.s c.args.content c.args.next ≡ slots = other_arm
-      c.args.content slots _ (opened c.in_default.in_default-own.keys2) in (
+    c.args.content slots _ (opened c.in_default.in_default-own.keys2) in (
       sym (take-append-drop (table_words c.args.f) c.args.room.now) ∙ ap (λ (x : List ℕ). tables ++ x) (sym slots_are),
       (
         c.put_plain.ensures.out_after ∙ ap (λ (x : List ℕ). overwritten c.args.out.now c.args.at x) (sym bytes_are),

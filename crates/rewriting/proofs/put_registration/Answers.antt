@@ -4,7 +4,6 @@ use native.Mathlib.Omega.{arith}
 use lib.ListN.{length}
 use Rattle.encoding.proofs.Parts.{nothing_written}
 use Rattle.rewriting.proofs.Registering.{registration_none, registration_thread, registration_text}
-use borrow.Author.Rules.{rules}
 use Rattle.rewriting.proofs.put_registration.Goals as goal
 
 -- the clauses, of their product
@@ -26,7 +25,7 @@ word-requires-then-table-eq3 c =
 pub put_thread_record-requires : goal.put_thread_record-requires
 put_thread_record-requires c =
     let is = registration_thread c.args.f c.args.table c.args.index c.args.bytes.now c.word.result c.word-then-table-eq3.result
-      c.if-index-eq0.false c.if-table-eq3.true
+    c.if-index-eq0.false c.if-table-eq3.true
     c.word.ensures c.word-then-table-eq3.ensures in
     omega (arith, c.requires.registration_fits.thread-low c.if-table-eq3.true, c.requires.bytes_in_bounds, ap length is)
 

@@ -1,5 +1,4 @@
 -- `put_spelled` meets its contract: the bytes are those that stand in the archive.
-use borrow.Author.Rules.{rules}
 use Rattle.rewriting.proofs.put_spelled.Goals as goal
 
 -- the clauses, of their product

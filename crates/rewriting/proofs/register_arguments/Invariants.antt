@@ -1,13 +1,9 @@
 use Prim.Native.Nat.{◌+◌}
-use mathlib.Core.Path.{◌≡◌, refl, sym, ◌∙◌}
-use native.Mathlib.Omega.{arith}
-use lib.ListN.{length, length-drop}
-use Rattle.format.proofs.Headers.{part_from}
-use Rattle.arguments.proofs.Arguments.{texts_inside}
+use mathlib.Core.Path.{◌≡◌}
+use lib.ListN.{length}
 use Rattle.arguments.specs.Argument.{arguments_read}
 use Rattle.records.specs.Lookups.{argument_lookups}
-use Rattle.rewriting.proofs.Walks.{texts_first, texts_refused, lookups_none}
-use Rattle.rewriting.proofs.Registering.{Registering, registering-starts, registering_done, registering_as, next_fits, registering_next}
+use Rattle.rewriting.proofs.Registering.{Registering}
 use Rattle.rewriting.proofs.register_arguments.Given as goal
 
 abbrev pub invariant-loop-left : goal.invariant-loop-left

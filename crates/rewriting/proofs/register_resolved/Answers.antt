@@ -15,7 +15,6 @@ use Rattle.passes.proofs.Rooms.{slots_back}
 use Rattle.rewriting.specs.Models.Write.{tables_in, slots_in, given_bytes}
 use Rattle.rewriting.proofs.Spelling.{slots_wide}
 use Rattle.rewriting.proofs.Registering.{given_bad, given_unresolved, given_empty, registration_fits, given_known, one_registered}
-use borrow.Author.Rules.{rules}
 use Rattle.rewriting.proofs.register_resolved.Goals as goal
 
 -- the clauses, of their product
@@ -31,14 +30,13 @@ slice_bounds-resolve-end-2 c =
     sym (length-take-le c.table_words-words.result c.args.room.now (omega (arith, c.table_words-words.ensures, c.requires.room_fits.0.wide)))
 
 pub resolve-resolved-requires : goal.resolve-resolved-requires
-resolve-resolved-requires c =
-    (
-      c.requires.room_fits.0.limits,
-      omega (arith, c.requires.room_fits.0.short),
-      rw (length-take-le c.table_words-words.result c.args.room.now (omega (arith, c.table_words-words.ensures, c.requires.room_fits.0.wide)))
-          (omega (arith, c.table_words-words.ensures)),
-      c.requires.room_fits.0.low,
-    )
+resolve-resolved-requires c = (
+  c.requires.room_fits.0.limits,
+  omega (arith, c.requires.room_fits.0.short),
+  rw (length-take-le c.table_words-words.result c.args.room.now (omega (arith, c.table_words-words.ensures, c.requires.room_fits.0.wide)))
+      (omega (arith, c.table_words-words.ensures)),
+  c.requires.room_fits.0.low,
+)
 
 pub returns-then-length-eq0 : goal.returns-then-length-eq0
 returns-then-length-eq0 c = by_clause (let r = looked_up c.args.f c.args.archive.now (tables_in c.args.f c.args.room.now) c.args.context
@@ -61,7 +59,7 @@ give_index-index-requires c =
     (reference-fits c.args.f c.args.archive.now (take c.table_words-words.result c.args.room.now) c.args.context c.args.lookup.table c.args.until
     c.args.lookup.reference c.requires.room_fits.1.0.0.reference c.requires.room_fits.0.short) in (
       slots_wide c.args.f c.table_words-words.result c.args.room.now c.requires.room_fits.0.limits c.table_words-words.ensures
-        c.requires.room_fits.0.wide,
+          c.requires.room_fits.0.wide,
       omega (arith, c.label_of-label.ensures, known.1, c.requires.room_fits.0.low, c.requires.room_fits.1.0.0.low, c.requires.room_fits.1.0.0.high),
     )
 
@@ -71,7 +69,7 @@ put_registration-requires c = by_clauses_of_registration_fits_bytes_in_bounds (l
     let slots = slots_in c.args.f c.args.room.now in
     let index_is = rw (part_from c.table_words-words.result c.args.room.now, c.table_words-words.ensures) at c.give_index-index.ensures.value in
     let slots_are = rw (part_from c.table_words-words.result c.args.room.now, c.table_words-words.ensures) at
-      c.give_index-index.ensures.slots_after in
+    c.give_index-index.ensures.slots_after in
     let bytes = given_bytes c.args.f c.args.archive.now slots c.args.context c.args.lookup.table r in
     registration_fits c.args.f c.args.archive.now slots c.args.context c.args.lookup.table r c.in-Known.place c.in-Known.length
     c.label_of-label.result c.give_index-index.result c.text.result.now
@@ -102,7 +100,7 @@ returns-else-length-eq0 c = by_clause (let r = looked_up c.args.f c.args.archive
     c.args.until c.args.lookup in
     let index_is = rw (part_from c.table_words-words.result c.args.room.now, c.table_words-words.ensures) at c.give_index-index.ensures.value in
     let slots_are = rw (part_from c.table_words-words.result c.args.room.now, c.table_words-words.ensures) at
-      c.give_index-index.ensures.slots_after in
+    c.give_index-index.ensures.slots_after in
     one_registered c.args.f c.args.archive.now c.args.room.now c.args.out.now c.args.at c.args.context c.args.until c.args.lookup _ _ _
     (given_known c.args.f c.args.archive.now c.args.room.now c.args.out.now c.args.at c.args.context c.args.lookup.table r c.in-Known.place
     c.in-Known.length c.label_of-label.result c.give_index-index.result c.text.result.now c.give_index-index.new.slots _ _ _
@@ -114,5 +112,5 @@ returns-else-length-eq0 c = by_clause (let r = looked_up c.args.f c.args.archive
       is = c.text.ensures;
     })
     slots_are (slots_back c.table_words-words.result c.args.room.now c.give_index-index.new.slots
-      ∙ ap (λ (m : ℕ). take m c.args.room.now ++ c.give_index-index.new.slots) c.table_words-words.ensures)
+    ∙ ap (λ (m : ℕ). take m c.args.room.now ++ c.give_index-index.new.slots) c.table_words-words.ensures)
     c.put_registration.ensures.out_after c.put_registration.ensures.value))

@@ -1,6 +1,6 @@
 -- `register_slot` meets its contract: label and place are those of the slot (slot_words), whose key gets its index and is registered under it.
 -- Assumes nothing.
-use Prim.Native.Nat.{ℕ, ◌-◌}
+use Prim.Native.Nat.{ℕ}
 use mathlib.Core.Path.{◌≡◌, ap, ◌∙◌}
 use mathlib.Core.List.{◌++◌}
 use native.Mathlib.Omega.{arith}
@@ -12,7 +12,6 @@ use Rattle.passes.proofs.Rooms.{slots_back}
 use Rattle.rewriting.specs.Models.Write.{slots_in, slot_index, slot_bytes, slot_given_bytes, slot_given_slots}
 use Rattle.rewriting.proofs.Registering.{slot_words}
 use Rattle.rewriting.proofs.Spelling.{slots_wide}
-use borrow.Author.Rules.{rules}
 use Rattle.rewriting.proofs.register_slot.Goals as goal
 
 -- the clauses, of their product
@@ -40,8 +39,12 @@ put_registration-requires c = by_clause (let slots = slots_in c.args.f c.args.ro
     let index : c.give_index_at-index.result ≡ slot_index (table_words c.args.f) slots c.args.s =
     rw (part_from c.table_words-words.result c.args.room.now, c.table_words-words.ensures, label) at c.give_index_at-index.ensures.value in
     let bytes : c.text.result.now ≡ slot_bytes c.args.archive.now (table_words c.args.f) slots c.args.s =
-    c.text.ensures ∙ rw (c.place_in.ensures, label, (slot_words c.table_words-words.result c.args.room.now c.args.s).0,
-      c.table_words-words.ensures) in
+    c.text.ensures ∙ rw (
+      c.place_in.ensures,
+      label,
+      (slot_words c.table_words-words.result c.args.room.now c.args.s).0,
+      c.table_words-words.ensures,
+    ) in
     rw (index, bytes) (c.requires.format_fits.2.fits, c.requires.s_in_bounds))
 
 pub returns : goal.returns
@@ -52,11 +55,14 @@ returns c = by_clauses_of_room_after_out_after_value (let slots = slots_in c.arg
     let index : c.give_index_at-index.result ≡ slot_index (table_words c.args.f) slots c.args.s =
     rw (part_from c.table_words-words.result c.args.room.now, c.table_words-words.ensures, label) at c.give_index_at-index.ensures.value in
     let bytes : c.text.result.now ≡ slot_bytes c.args.archive.now (table_words c.args.f) slots c.args.s =
-    c.text.ensures ∙ rw (c.place_in.ensures, label, (slot_words c.table_words-words.result c.args.room.now c.args.s).0,
-      c.table_words-words.ensures) in
+    c.text.ensures ∙ rw (
+      c.place_in.ensures,
+      label,
+      (slot_words c.table_words-words.result c.args.room.now c.args.s).0,
+      c.table_words-words.ensures,
+    ) in
     let changed : c.give_index_at-index.new.slots ≡ slot_given_slots c.args.f slots c.args.s =
-    rw (part_from c.table_words-words.result c.args.room.now, c.table_words-words.ensures, label) at c.give_index_at-index.ensures.slots_after in
-    (
+    rw (part_from c.table_words-words.result c.args.room.now, c.table_words-words.ensures, label) at c.give_index_at-index.ensures.slots_after in (
       slots_back c.table_words-words.result c.args.room.now c.give_index_at-index.new.slots
           ∙ ap (λ (m : ℕ). take m c.args.room.now ++ c.give_index_at-index.new.slots) c.table_words-words.ensures
           ∙ ap (λ x. take (table_words c.args.f) c.args.room.now ++ x) changed,

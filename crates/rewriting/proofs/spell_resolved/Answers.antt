@@ -9,7 +9,6 @@ use Rattle.format.proofs.Headers.{part_from}
 use Rattle.passes.proofs.Known.{reference-fits}
 use Rattle.rewriting.specs.Models.Write.{spelled_of}
 use Rattle.rewriting.proofs.Spelling.{slots_wide}
-use borrow.Author.Rules.{rules}
 use Rattle.rewriting.proofs.spell_resolved.Goals as goal
 
 pub slice_bounds-resolve-end : goal.slice_bounds-resolve-end
@@ -24,7 +23,7 @@ resolve-resolved-requires c =
 pub label_of-label-requires : goal.label_of-label-requires
 label_of-label-requires c =
     let known = reference-fits c.args.f c.args.archive.now (take c.table_words-words.result c.args.room.now) c.args.context
-      c.args.lookup.table c.args.until
+    c.args.lookup.table c.args.until
     c.args.lookup.reference c.requires.1.reference c.requires.0.short in
     (c.requires.0.low, c.requires.1.low, c.requires.1.high, (subst KnownFits (sym c.resolve-resolved.ensures ∙ c.in-Known.is) known).1)
 
@@ -32,7 +31,7 @@ pub index_of-index-requires : goal.index_of-index-requires
 unfolding label_of
 index_of-index-requires c =
     let known = reference-fits c.args.f c.args.archive.now (take c.table_words-words.result c.args.room.now) c.args.context
-      c.args.lookup.table c.args.until
+    c.args.lookup.table c.args.until
     c.args.lookup.reference c.requires.1.reference c.requires.0.short in
     let low = (subst KnownFits (sym c.resolve-resolved.ensures ∙ c.in-Known.is) known).1 in (
       slots_wide c.args.f c.table_words-words.result c.args.room.now c.requires.0.limits c.table_words-words.ensures c.requires.0.wide,
@@ -53,5 +52,10 @@ pub returns-in-Known : goal.returns-in-Known
 unfolding spelled_of
 returns-in-Known c =
     let index = rw (part_from c.table_words-words.result c.args.room.now) at c.index_of-index.ensures in
-    rw (← c.table_words-words.ensures, ← c.resolve-resolved.ensures, c.in-Known.is, ← c.table_words-words.ensures,
-      ← c.label_of-label.ensures) (rw index)
+    rw (
+      ← c.table_words-words.ensures,
+      ← c.resolve-resolved.ensures,
+      c.in-Known.is,
+      ← c.table_words-words.ensures,
+      ← c.label_of-label.ensures,
+    ) (rw index)

@@ -1,6 +1,5 @@
 -- `spell_slot` meets its contract: the index, the place and the length are read from the two words of the slot. Assumes nothing.
 use Rattle.rewriting.specs.Models.Write.{slot_spelled}
-use borrow.Author.Rules.{rules}
 use Rattle.rewriting.proofs.spell_slot.Goals as goal
 
 pub returns : goal.returns

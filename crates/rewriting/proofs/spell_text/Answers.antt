@@ -3,7 +3,6 @@
 use Rattle.records.specs.Lookups.{text_lookup}
 use Rattle.rewriting.specs.Models.Write.{spelled_in}
 use Rattle.rewriting.proofs.Remembering.{slot_can, slot_spells, spelled_same}
-use borrow.Author.Rules.{rules}
 use Rattle.rewriting.proofs.spell_text.Goals as goal
 
 pub returns-then-known-eq0 : goal.returns-then-known-eq0
@@ -14,11 +13,11 @@ returns-then-known-eq0 c =
 pub spell_slot-requires : goal.spell_slot-requires
 spell_slot-requires c =
     slot_can c.args.f c.args.archive.now c.args.room.now c.args.context c.args.until (text_lookup c.args.reference)
-      c.table_words-words.result c.recall-known.result c.requires.0 c.requires.1 c.requires.2
+    c.table_words-words.result c.recall-known.result c.requires.0 c.requires.1 c.requires.2
     c.table_words-words.ensures c.recall-known.ensures c.if-known-eq0.false
 
 pub returns : goal.returns
 returns c =
     slot_spells c.args.f c.args.archive.now c.args.room.now c.args.context c.args.until (text_lookup c.args.reference)
-      c.table_words-words.result c.recall-known.result c.requires.0 c.requires.1 c.requires.2
+    c.table_words-words.result c.recall-known.result c.requires.0 c.requires.1 c.requires.2
     c.table_words-words.ensures c.recall-known.ensures c.if-known-eq0.false c.spell_slot.result c.spell_slot.ensures

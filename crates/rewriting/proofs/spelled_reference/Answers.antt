@@ -1,5 +1,4 @@
 -- `spelled_reference` meets its contract: the bytes are those that stand in the archive.
-use borrow.Author.Rules.{rules}
 use Rattle.rewriting.proofs.spelled_reference.Goals as goal
 
 pub returns : goal.returns

@@ -1,6 +1,5 @@
 -- `stream_bytes` meets its contract: an index, which no stream has, stands for no bytes.
 use Rattle.views.specs.Shown.{shown_stream}
-use borrow.Author.Rules.{rules}
 use Rattle.rewriting.proofs.stream_bytes.Goals as goal
 
 pub returns-in-Inline : goal.returns-in-Inline

@@ -1,14 +1,8 @@
 use Prim.Native.Nat.{◌-◌}
-use mathlib.Core.Path.{sym, ap, ◌∙◌}
-use mathlib.Core.List.{◌++◌}
-use native.Mathlib.Omega.{arith}
-use borrow.Author.Tests.{ltb-false}
-use lib.ListN.{length, take, drop}
-use lib.Seq.{length-take-le}
-use Rattle.indexing.specs.Models.Indexes.{Settled, Waiting}
+use lib.ListN.{length, drop}
+use Rattle.indexing.specs.Models.Indexes.{Waiting}
 use Rattle.tables.specs.Table.{table_words}
-use Rattle.rewriting.proofs.Passing.{asked_limits, Passing, passing_keeps, passing_start, output_long, passing_end, Turn, can_follow, followed-long, can_renew, room_renewed, settled-renewed, passing_goes, passing_turn}
-use Rattle.rewriting.proofs.Settled.{settled-behind, can_wait, waiting_in}
+use Rattle.rewriting.proofs.Passing.{Passing}
 use Rattle.second_pass.proofs.write_all.Given as goal
 
 abbrev pub invariant-loop-s : goal.invariant-loop-s
