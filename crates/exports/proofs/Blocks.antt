@@ -1,5 +1,4 @@
 -- How many numbers a repack has. Assumes nothing.
-use Prim.Native.Nat.{ℕ}
 use mathlib.Core.Path.{◌≡◌, refl}
 use lib.ListN.{length}
 use Rattle.packer.specs.declared.Packed.{Packed}

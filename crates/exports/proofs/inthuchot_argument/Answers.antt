@@ -5,7 +5,6 @@ use Rattle.contexts.specs.declared.State.{State}
 use Rattle.reader.specs.declared.Asked.{Asked}
 use Rattle.reader.specs.Ask.{argument_reply}
 use Rattle.blocks.specs.Block.{asked_numbers, put_numbers}
-use borrow.Author.Rules.{rules}
 use Rattle.exports.proofs.inthuchot_argument.Goals as goal
 
 -- the clauses, of their product

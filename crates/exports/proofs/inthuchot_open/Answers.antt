@@ -2,7 +2,6 @@
 use mathlib.Core.Path.{ap, ◌∙◌}
 use Rattle.reader.specs.declared.Reply.{Reply}
 use Rattle.blocks.specs.Block.{reply_numbers, put_numbers}
-use borrow.Author.Rules.{rules}
 use Rattle.exports.proofs.inthuchot_open.Goals as goal
 
 -- the clauses, of their product

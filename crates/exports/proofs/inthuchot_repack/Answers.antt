@@ -3,7 +3,6 @@ use mathlib.Core.Path.{ap, ◌∙◌}
 use Rattle.packer.specs.declared.Packed.{Packed}
 use Rattle.blocks.specs.Block.{put_numbers}
 use Rattle.exports.specs.Block.{packed_numbers}
-use borrow.Author.Rules.{rules}
 use Rattle.exports.proofs.inthuchot_repack.Goals as goal
 
 pub returns : goal.returns

@@ -4,7 +4,6 @@ use Rattle.format.specs.Limits.{small_format}
 use Rattle.reader.specs.declared.Reply.{Reply}
 use Rattle.reader.specs.Step.{step_reply, step_tables}
 use Rattle.blocks.specs.Block.{reply_numbers, put_numbers}
-use borrow.Author.Rules.{rules}
 use Rattle.exports.proofs.inthuchot_step.Goals as goal
 
 -- the clauses, of their product

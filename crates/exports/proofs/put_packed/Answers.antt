@@ -8,7 +8,6 @@ use Rattle.packer.specs.declared.Packed.TheVariants.{Refused, Written}
 use Rattle.exports.specs.Block.{packed_numbers}
 use Rattle.blocks.proofs.Blocks.{put-none, put_all}
 use Rattle.exports.proofs.Blocks.{length_packed}
-use borrow.Author.Rules.{rules}
 use Rattle.exports.proofs.put_packed.Goals as goal
 
 -- the clauses, of their product
