@@ -9,6 +9,11 @@ by_clause : {A B C : Type 0} → A × (B × C) → record { value : A; out_after
 by_clause w = record { value = w.0; out_after = w.1.0; tables_after = w.1.1 }
 
 pub returns : goal.returns
-returns c = by_clause (let opened = c.open-opened.ensures in
-    (c.put_reply.ensures.value, (c.put_reply.ensures.out_after ∙ ap (λ (r : Reply). put_numbers c.args.out.now (reply_numbers r))
-      opened.value, opened.tables_after)))
+returns c = by_clause (let opened = c.open-opened.ensures in (
+  c.put_reply.ensures.value,
+  (
+    c.put_reply.ensures.out_after ∙ ap (λ (r : Reply). put_numbers c.args.out.now (reply_numbers r))
+        opened.value,
+    opened.tables_after,
+  ),
+))

@@ -14,5 +14,5 @@ pub returns : goal.returns
 returns c = by_clause (let reply = c.step-stepped.ensures.value ∙ ap (step_reply small_format c.args.archive.now c.args.tables.now)
     c.given_state-start.ensures in
     let tables = c.step-stepped.ensures.tables_after ∙ ap (step_tables small_format c.args.archive.now c.args.tables.now)
-      c.given_state-start.ensures in
+    c.given_state-start.ensures in
     (c.put_reply.ensures.value, (c.put_reply.ensures.out_after ∙ ap (λ (r : Reply). put_numbers c.args.out.now (reply_numbers r)) reply, tables)))
