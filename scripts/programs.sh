@@ -52,7 +52,8 @@ crates_of() { # PROGRAM
         }' "$home/crates.txt"
 }
 
-# Proves and builds a program, and says on standard error how far that is. What was proved before is not proved again.
+# Proves and builds a program, and says on standard error how far that is. What was proved before is not proved again. The toolchain runs what it
+# built, on an empty input here.
 build() { # PROGRAM
     command -v rt >/dev/null 2>&1 ||
         fail "the Rattle toolchain's command rt is not on the path; it is needed once, to prove and build this program"
@@ -65,13 +66,14 @@ build() { # PROGRAM
     total=$(crates_of "$1")
     say "this program is proved and built before its first use: $total crates, which takes some minutes on a fresh machine"
     : >"$work/started"
-    { (cd "$home" && rt check "$1" 2>&1 9>&-); echo "$?" >"$work/status"; } |
+    { (cd "$home/crates/$1" && rt run </dev/null 2>&1 9>&-); echo "$?" >"$work/status"; } |
         while IFS= read -r line; do
             printf '%s\n' "$line" >>"$work/log"
+            # the toolchain says so once for each crate that it proves, as it begins with it
             case $line in
-            "rt: "*" proved ("*)
+            "rt: chose --jobs "*" for "*)
                 count=$((${count:-0} + 1))
-                case $line in *unchanged*) ;; *) say "$count of $total: ${line#rt: }" ;; esac
+                say "$count of $total: ${line##* for }"
                 ;;
             esac
         done
