@@ -1,5 +1,5 @@
 -- A record that refers to texts and threads, as it is written, reads back: its own values, its references, its stream, its arguments and its last word.
--- What a kind has to show is `own-encoded`; all else is the same for all kinds. Assumes nothing.
+-- What a kind has to show is `own_encoded`; all else is the same for all kinds. Assumes nothing.
 use Prim.Native.Nat.{ℕ, ◌+◌, ◌-◌, ◌*◌, ◌<◌, ◌≤◌}
 use mathlib.Core.Path.{◌≡◌, refl, ap, ◌∙◌}
 use mathlib.Core.List.{List, [], ◌∷◌, ◌++◌, append_assoc}

@@ -1,4 +1,4 @@
--- Which of document 01's numbers a repack can answer, and the place that comes with each. A number is that of the definition `packedNumber`.
+-- Which of document 01's numbers a repack can answer, and the place that comes with each. A number is that of the definition `packed_number`.
 -- Assumes nothing.
 use Prim.Native.Nat.{ℕ}
 use mathlib.Core.Path.{◌≡◌, refl, subst}

@@ -4,7 +4,7 @@ use Rattle.std.proofs.Math.Option.{Option, none, some}
 use Rattle.packer.specs.declared.Packed.{Packed}
 use Rattle.packer.specs.declared.Packed.TheVariants.{Refused, Written}
 
--- the number of a refusal; an archive that was repacked has none. It is 1, 2 or 5 to 14 (proofs `Numbers.repack-numbers`)
+-- the number of a refusal; an archive that was repacked has none. It is 1, 2 or 5 to 14 (proofs `Numbers.repack_numbers`)
 abbrev pub packed_number : Packed → Option ℕ
 packed_number (Refused number place) = some number
 packed_number (Written long) = none

@@ -1,4 +1,4 @@
--- One turn of a pass over an archive: what a record does to state, tables and items by `afterRecord`, `tablesAfter` and `item_at` is what a step
+-- One turn of a pass over an archive: what a record does to state, tables and items by `after_record`, `tables_after` and `item_at` is what a step
 -- of the archive's run does, from any sound state. Assumes nothing.
 use Prim.Native.Nat.{ℕ, zero, suc, ◌+◌, ◌-◌, ◌≤◌, ◌<◌, ◌%◌}
 use mathlib.Core.Path.{◌≡◌, refl, sym, ap, subst, ◌∙◌}

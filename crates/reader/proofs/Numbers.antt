@@ -1,5 +1,5 @@
 -- Which of document 01's numbers each call can answer, the place that comes with each, and that a call which is refused or at the end changes
--- nothing. A number is that of the definitions `answerNumber` and `askedNumber`. Assumes nothing.
+-- nothing. A number is that of the definitions `answer_number` and `asked_number`. Assumes nothing.
 use Prim.Native.Nat.{ℕ, ◌-◌, ◌%◌, ◌≤◌}
 use mathlib.Core.Path.{◌≡◌, refl, subst, sym}
 use mathlib.Core.List.{[], List, ◌∷◌}

@@ -16,7 +16,7 @@ use Rattle.reader.specs.Step.{opening_number, open_reply, open_tables}
 use Rattle.reader.specs.Reads.{Reads, ReadsAs}
 use Rattle.reader.proofs.Behind.{opening-behind, reads_with_any}
 
--- opening takes an archive where it answers that there is nothing to show yet; otherwise it answers a number (`Numbers.opening-numbers`)
+-- opening takes an archive where it answers that there is nothing to show yet; otherwise it answers a number (`Numbers.opening_numbers`)
 abbrev pub Takes : Format → List ℕ → ℕ → Type 0
 Takes f archive room = (open_reply f archive room).answer ≡ Nothing
 

@@ -1,5 +1,5 @@
 -- The list of items that an archive reads as, after "The list of items" of document 01. It is built of the definitions that the contracts of
--- `step`, `argument` and `text` cite, from the state and the tables that opening leaves (proofs `Opening.reads-as-opened`).
+-- `step`, `argument` and `text` cite, from the state and the tables that opening leaves (proofs `Opening.reads_as_opened`).
 use Rattle.std.specs.Prelude.{ℕ, zero, suc, ◌≡◌, [], List, ◌∷◌, replicate}
 use Rattle.std.proofs.Math.Option.{Option, none, some}
 use Rattle.words.specs.Stream.{part_of}
@@ -107,6 +107,6 @@ pub data Reads (f : Format) (archive : List ℕ) : State → List ℕ → List I
 
 -- "An archive reads to its end as a list when opening takes it, given long enough tables, and the steps from there show exactly the list's items".
 -- Here opening is spelled out: its first checks, its state, and zeros for the tables. That `open`'s reply and tables say the same, whatever long enough
--- tables held before and however long they are, is the law `Opening.reads-as-opened`.
+-- tables held before and however long they are, is the law `Opening.reads_as_opened`.
 abbrev pub ReadsAs : Format → List ℕ → List Item → Type 0
 ReadsAs f archive items = (opening_number f archive (table_words f) ≡ 0) × Reads f archive opening (replicate (table_words f) 0) items

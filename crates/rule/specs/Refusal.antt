@@ -38,8 +38,8 @@ on_answer (Report e) stop go = go
 on_answer (Skipped type size) stop go = go
 
 -- so many steps at most; each record has a word at least, so one step more than the archive has words is enough. That the first clause, with no
--- step left, is never what ends the run of an archive are the laws `Numbers.more-steps` (with more steps the run is the same) and
--- `Numbers.run-is-steps` (the number and place at its end are what a step of it answers)
+-- step left, is never what ends the run of an archive are the laws `Numbers.more_steps` (with more steps the run is the same) and
+-- `Numbers.run_is_steps` (the number and place at its end are what a step of it answers)
 unfoldable pub run_from : Format → List ℕ → ℕ → State → List ℕ → Run
 run_from f archive zero s tables = ended 0 s.place
 run_from f archive (suc steps) s tables =
@@ -59,7 +59,7 @@ abbrev pub or_else : Option Refusal → Option Refusal → Option Refusal
 or_else (some r) other = some r
 or_else none other = other
 
--- "5 to 9 as reading meets them": the run of an opened archive ends by 0 or one of these (`Numbers.run-numbers`)
+-- "5 to 9 as reading meets them": the run of an opened archive ends by 0 or one of these (`Numbers.run_numbers`)
 abbrev pub stop_refusal : Run → Option Refusal
 stop_refusal (ended number place) = pick (eqb number 0) none (some (refusal number place))
 stop_refusal (passed place keeps item run) = stop_refusal run
