@@ -31,7 +31,7 @@ program_of() { # PROGRAM
 
 # Whether nothing that programs are built of changed since a file was written. What the toolchain makes lies in folders named out.
 is_newest() { # FILE
-    [ -f "$1" ] && [ -z "$(find "$home/crates.txt" "$home/crates" -name out -prune -o -type f -newer "$1" -print | head -n 1)" ]
+    [ -f "$1" ] && [ -z "$(find "$home/crates.txt" "$home/crates" -name out -prune -o -newer "$1" -print | head -n 1)" ]
 }
 
 # Whether the program is built of the sources as they stand: it is newer, or its last build found it so.

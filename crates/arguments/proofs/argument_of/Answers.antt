@@ -2,7 +2,7 @@
 use native.Mathlib.Omega.{arith}
 use mathlib.Core.Path.{sym, ◌∙◌}
 use Prim.Native.Nat.{◌+◌, ◌*◌}
-use lib.ListN.{take}
+use lib.ListN.{length, take}
 use lib.Seq.{length-take-le}
 use Rattle.format.proofs.Parts.{text_taken}
 use Rattle.arguments.proofs.Arguments.{name_then_value}
@@ -21,7 +21,7 @@ returns-then-size-eq0 c = simp (eq-eqb _ _ c.if-size-eq0.true, ← c.field.ensur
 pub returns-then-rest-size : goal.returns-then-rest-size
 unfolding argument_of
 returns-then-rest-size c = simp (
-  lt-ltb _ _ c.if-rest-size.true,
+  lt-ltb (length c.args.rest.now) (8 * c.field.result) (omega (arith, c.if-rest-size.true)),
   ne_eqb _ _ c.if-size-eq0.false,
   ← c.field.ensures,
   ← c.word-header.ensures,
@@ -30,17 +30,17 @@ returns-then-rest-size c = simp (
 
 pub slice_bounds-argument-end : goal.slice_bounds-argument-end
 slice_bounds-argument-end c =
-    sym (length-take-le (8 * c.field.result) c.args.rest.now c.if-rest-size.false)
+    sym (length-take-le (8 * c.field.result) c.args.rest.now (omega (arith, c.if-rest-size.false)))
 
 pub take_text-named-requires : goal.take_text-named-requires
 take_text-named-requires c =
-    let long = length-take-le (8 * c.field.result) c.args.rest.now c.if-rest-size.false in
+    let long = length-take-le (8 * c.field.result) c.args.rest.now (omega (arith, c.if-rest-size.false)) in
     omega (arith, long, c.field-2.ensures)
 
 pub take_value-valued-requires : goal.take_value-valued-requires
 take_value-valued-requires c =
     let own = take (8 * c.field.result) c.args.rest.now in
-    let long = length-take-le (8 * c.field.result) c.args.rest.now c.if-rest-size.false in
+    let long = length-take-le (8 * c.field.result) c.args.rest.now (omega (arith, c.if-rest-size.false)) in
     let m = text_taken c.args.f c.field-2.result (c.args.place + 8) own c.args.place c.in-Part.name c.in-Part.next
     (omega (arith, long)) (sym c.take_text-named.ensures ∙ c.in-Part.is) in omega (arith, long, m.0, m.1)
 
@@ -51,7 +51,7 @@ returns-in-Refused c =
       c.in-Refused.is,
       ← c.take_text-named.ensures,
       ← c.field-2.ensures,
-      le-ltb _ _ c.if-rest-size.false,
+      le-ltb (length c.args.rest.now) (8 * c.field.result) (omega (arith, c.if-rest-size.false)),
       ne_eqb _ _ c.if-size-eq0.false,
       ← c.field.ensures,
       ← c.word-header.ensures,
@@ -68,8 +68,7 @@ returns-in-Refused-valued c =
       c.in-Part.is,
       ← c.take_text-named.ensures,
       ← c.field-2.ensures,
-      le-ltb _ _
-          c.if-rest-size.false,
+      le-ltb (length c.args.rest.now) (8 * c.field.result) (omega (arith, c.if-rest-size.false)),
       ne_eqb _ _ c.if-size-eq0.false,
       ← c.field.ensures,
       ← c.word-header.ensures,
@@ -86,8 +85,7 @@ returns-in-Value c =
       c.in-Part.is,
       ← c.take_text-named.ensures,
       ← c.field-2.ensures,
-      le-ltb _ _
-          c.if-rest-size.false,
+      le-ltb (length c.args.rest.now) (8 * c.field.result) (omega (arith, c.if-rest-size.false)),
       ne_eqb _ _ c.if-size-eq0.false,
       ← c.field.ensures,
       ← c.word-header.ensures,

@@ -55,8 +55,8 @@ loop-left-preserved c =
           c.if-left-asked.start c.loop-left.rest.now c.loop-left.at q.0 c.in-Texts.size c.loop-left-test.true c.loop-left.invariant.3
           q.1 (λ t. t) (λ e. e)
           (elim c.if-left-asked.branch [
-            | then-left-asked w ↦ inl (w.if-left-asked.true, w.start-is)
-            | else-left-asked w ↦ inr (w.if-left-asked.false, w.start-is)
+            | then-left-asked w ↦ inl (omega (arith, w.if-left-asked.true), w.start-is)
+            | else-left-asked w ↦ inr (λ e. w.if-left-asked.false (omega (arith, e)), w.start-is)
           ])
           ∙ simp part_from,
       c.loop-left.invariant.3,

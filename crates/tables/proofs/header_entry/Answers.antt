@@ -1,5 +1,6 @@
 -- `tables::header_entry` meets its contract: what the header has for its table is held (HeaderHeld), and each answer is what the definition gives
 -- under the tests that led there. Assumes nothing.
+use native.Mathlib.Omega.{arith}
 use borrow.Author.Tests.{eq-eqb, ne_eqb, lt-ltb, le-ltb, le-leb, lt-leb}
 use Rattle.tables.specs.Models.Entries.{header_entry}
 use Rattle.tables.proofs.Entries.{HeaderHeld, thread_held, string_held}
@@ -15,7 +16,7 @@ returns-then-own-index c =
       | else-table-eq3 w ↦ rw (w.own-is, w.length-is, w.longest-is) (string_held _ _ _ _ _ w.if-table-eq3.false c.field-own.ensures
           c.field-length.ensures)
     ] in
-    simp (← held.0, ne_eqb _ _ c.if-own-index.true)
+    simp (← held.0, ne_eqb c.if-table-eq3.own c.args.index (λ e. c.if-own-index.true (omega (arith, e))))
 
 pub returns-then-longest-length : goal.returns-then-longest-length
 unfolding header_entry
@@ -26,7 +27,7 @@ returns-then-longest-length c =
       | else-table-eq3 w ↦ rw (w.own-is, w.length-is, w.longest-is) (string_held _ _ _ _ _ w.if-table-eq3.false c.field-own.ensures
           c.field-length.ensures)
     ] in
-    simp (← held.0, ← held.1, ← held.2, eq-eqb _ _ c.if-own-index.false, lt-ltb _ _ c.if-longest-length.true)
+    simp (← held.0, ← held.1, ← held.2, eq-eqb c.if-table-eq3.own c.args.index (omega (arith, c.if-own-index.false)), lt-ltb _ _ c.if-longest-length.true)
 
 pub returns-then-field-stream_words : goal.returns-then-field-stream_words
 unfolding header_entry
@@ -41,7 +42,7 @@ returns-then-field-stream_words c =
       ← held.0,
       ← held.1,
       ← held.2,
-      eq-eqb _ _ c.if-own-index.false,
+      eq-eqb c.if-table-eq3.own c.args.index (omega (arith, c.if-own-index.false)),
       le-ltb _ _ c.if-longest-length.false,
       ← c.field.ensures,
       ← c.stream_words.ensures,
@@ -61,7 +62,7 @@ returns c =
       ← held.0,
       ← held.1,
       ← held.2,
-      eq-eqb _ _ c.if-own-index.false,
+      eq-eqb c.if-table-eq3.own c.args.index (omega (arith, c.if-own-index.false)),
       le-ltb _ _ c.if-longest-length.false,
       ← c.field.ensures,
       ← c.stream_words.ensures,
