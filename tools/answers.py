@@ -40,40 +40,22 @@ class Function:
     def __init__(self, data, notes):
         self.d, self.notes = data, notes
         self.places = {p[0]: i for i, p in enumerate(data["places"])}
-        self.by_plain = {plain(p[0]): i for i, p in enumerate(data["places"])}
         self.params = {plain(k): v for k, v in data["params"].items()}
 
-    def parent(self, p):
-        return self.places[self.d["places"][p][1]]
-
     def step(self, p, name):
-        q = p
-        while True:
-            place = self.d["places"][q]
-            if place[1] is None:
-                return None
+        """The nearest place at or before p whose step has this name."""
+        while self.d["places"][p][1] is not None:
+            place = self.d["places"][p]
             if plain(place[2][0]) == plain(name):
-                return q
-            q = self.parent(q)
+                return p
+            p = self.places[place[1]]
+        return None
 
-    def walk(self, at, comps):
-        """(place, comps) with the steps back taken."""
-        p = at
-        comps = list(comps)
-        while comps and comps[0] == "before":
-            if self.d["places"][p][1] is None:
-                self.notes.append("before the start")
-                return p, comps
-            p = self.parent(p)
-            comps.pop(0)
-        return p, comps
-
-    def text(self, goal_at, at, comps):
-        """The new path of comps at a place, or None for a place itself."""
+    def text(self, at, comps):
+        """The new path of comps, which began at the goal's place, or None for a place itself."""
         comps = [c for i, c in enumerate(comps) if c != "before" or any(x != "before" for x in comps[:i])]
         if not comps:
             return None
-        p = goal_at
         name, rest = comps[0], comps[1:]
         name = "place_in" if name == "IsPlace-in" else name
         if name.replace("-", "_") in OF_START:
@@ -86,9 +68,9 @@ class Function:
             elif name == "requires" and pre:
                 return product([f"c.requires.{f}" for f in pre["fields"]], ", ")
             return ".".join(["c", name, *rest])
-        q = self.step(p, name)
+        q = self.step(at, name)
         if q is None:
-            self.notes.append(f"no step {name} at {self.d['places'][p][0]}")
+            self.notes.append(f"no step {name} at {self.d['places'][at][0]}")
             return ".".join(["c", *comps])
         place = self.d["places"][q]
         arm = self.d["arms"][q]
@@ -99,7 +81,7 @@ class Function:
                     best = (field, path)
             if best:
                 return ".".join(["c", arm[0], best[0], *rest[len(best[1]) :]])
-        for var, old in self.d["typed"][goal_at]:
+        for var, old in self.d["typed"][at]:
             if plain(old) == plain(name) and rest[:1] == ["given"]:
                 return ".".join(["c", "type_inv", var, *rest[1:]])
         clauses = self.d["clauses"][q]
@@ -124,7 +106,7 @@ class Function:
 
 def turn(fn, at, body):
     """A body with each path from a place turned."""
-    env = {"c": (at, [])}
+    env = {"c": []}
     out, i, depth, shadows = [], 0, 0, []
     let = re.compile(rf"let ({IDENT}) = ({PATH}) in(?=\s)\s*")
     lam = re.compile(rf"λ ((?:{IDENT}|\({IDENT}(?: {IDENT})* : [^()]*\))(?: (?:{IDENT}|\({IDENT}(?: {IDENT})* : [^()]*\)))*)\. ")
@@ -134,8 +116,7 @@ def turn(fn, at, body):
         if m and (i == 0 or body[i - 1] in " \n("):
             comps = m[2].split(".")
             if comps[0] in env and comps[0] not in [s for s, _ in shadows]:
-                p, prefix = env[comps[0]]
-                env[m[1]] = (p, prefix + comps[1:])
+                env[m[1]] = env[comps[0]] + comps[1:]
                 i = m.end()
                 continue
             env.pop(m[1], None)
@@ -159,11 +140,7 @@ def turn(fn, at, body):
         if m and (i == 0 or not re.match(r"[^\s(){};,\[\]λ|]", body[i - 1])):
             comps = m[0].split(".")
             if comps[0] in env and comps[0] not in [s for s, _ in shadows]:
-                p, prefix = env[comps[0]]
-                new = fn.text(at, p, prefix + comps[1:])
-                if new is None:
-                    new = "c"
-                out.append(new)
+                out.append(fn.text(at, env[comps[0]] + comps[1:]) or "c")
             else:
                 out.append(m[0])
             i = m.end()

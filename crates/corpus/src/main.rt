@@ -167,6 +167,8 @@ fn main(rt: HostRuntime) {
             let mut out = buffer();
             show_cases(&rt, &mut file, &mut room, &mut out);
         }
-        Err(error) => files::failure::fail(&mut rt.stderr(), b"corpus.bin", &error),
+        Err(error) => {
+            files::failure::fail(&mut rt.stderr(), b"corpus.bin", &error);
+        }
     }
 }

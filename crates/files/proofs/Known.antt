@@ -8,13 +8,15 @@ use Rattle.std.specs.Io.KnownBytes.{Appends, Consumes}
 use Rattle.std.specs.List.{slice_range}
 use borrow.Rule.Slice.PartMut.{put_mid, post_of}
 
+-- what a reader gave first and then stood behind one another
 both_consumed : (u v w : Option (List ℕ)) (a b : List ℕ) → Consumes u v a → Consumes v w b → Consumes u w (a ++ b)
 both_consumed None v w a b x y = tt
 both_consumed (Some xs) None w a b x y = absurd x
 both_consumed (Some xs) (Some ys) None a b x y = absurd y
 both_consumed (Some xs) (Some ys) (Some zs) a b x y = x ∙ ap (λ (t : List ℕ). a ++ t) y ∙ sym (append_assoc a b zs)
 
-both_appended : (u v w : Option (List ℕ)) (a b : List ℕ) → Appends u v a → Appends v w b → Appends u w (a ++ b)
+-- what a writer took first and then stands behind one another
+pub both_appended : (u v w : Option (List ℕ)) (a b : List ℕ) → Appends u v a → Appends v w b → Appends u w (a ++ b)
 both_appended None v w a b x y = tt
 both_appended (Some xs) None w a b x y = absurd x
 both_appended (Some xs) (Some ys) None a b x y = absurd y

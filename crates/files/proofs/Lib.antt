@@ -1,2 +1,3 @@
 pub mod Inputs
 mod Known
+mod Given

@@ -1,5 +1,6 @@
 // Saying why a file could not be opened.
 ghost use Rattle.std.specs.Prelude.{◌≤◌, length};
+ghost use Rattle.files.specs.Output.{Says};
 
 use crate::output::write;
 use std::io;
@@ -17,14 +18,22 @@ fn text_length(text: &[u8]) -> usize
     text.len()
 }
 
-// Writes a line: what failed, as the caller names it, a colon and the system's text. That the line cannot be written is said
-// nowhere.
-pub fn fail<W: Write>(errors: &mut W, what: &[u8], error: &io::Error) {
+// Writes a line: what failed, as the caller names it, a colon and the system's text. Answers whether all of it was written.
+pub fn fail<W: Write>(errors: &mut W, what: &[u8], error: &io::Error) -> bool
+    ensures { Says (W.contents errors.old) (W.contents errors.new) result what.now }
+{
     let mut text = [0u8; 320];
     let mut room = &mut text[..];
     let _ = write!(room, "{error}");
-    write(errors, what, what.len());
-    write(errors, b": ", 2);
-    write(errors, &text, text_length(&text));
-    write(errors, b"\n", 1);
+    if !write(errors, what, what.len()) {
+        return false;
+    }
+    if !write(errors, b": ", 2) {
+        return false;
+    }
+    let length = text_length(&text);
+    if !write(errors, &text, length) {
+        return false;
+    }
+    write(errors, b"\n", 1)
 }

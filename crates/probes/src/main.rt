@@ -340,6 +340,8 @@ fn main(rt: HostRuntime) {
             let mut out = buffer();
             show_probes(&rt, &mut file, &mut out);
         }
-        Err(error) => files::failure::fail(&mut rt.stderr(), b"probes.bin", &error),
+        Err(error) => {
+            files::failure::fail(&mut rt.stderr(), b"probes.bin", &error);
+        }
     }
 }

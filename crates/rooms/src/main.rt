@@ -286,6 +286,8 @@ fn show_archives<F: Read>(rt: &(impl Print + Eprint), file: &mut F) {
 fn main(rt: HostRuntime) {
     match File::open(&rt, "rooms.bin") {
         Ok(mut file) => show_archives(&rt, &mut file),
-        Err(error) => files::failure::fail(&mut rt.stderr(), b"rooms.bin", &error),
+        Err(error) => {
+            files::failure::fail(&mut rt.stderr(), b"rooms.bin", &error);
+        }
     }
 }
