@@ -1,10 +1,17 @@
 -- `find` meets its contract: each turn leaves the entries behind one with another index (find_later). Assumes nothing.
-use mathlib.Core.Path.{refl, sym, ◌∙◌}
+use Prim.Native.Nat.{ℕ}
+use mathlib.Core.Path.{◌≡◌, refl, sym, ap, ◌∙◌}
+use mathlib.Core.List.{List}
 use native.Mathlib.Omega.{arith}
 use borrow.Author.Tests.{eq-eqb, ne_eqb}
-use Rattle.sheets.specs.Sheet.{find_of}
+use Rattle.sheets.specs.declared.Found.TheVariants.{At as FoundAt}
+use Rattle.sheets.specs.Sheet.{find_of, index_at, number_at}
 use Rattle.sheets.proofs.Turns.{whole_told, find_here, find_later, find_none, find_cut}
 use Rattle.sheets.proofs.find.Goals as goal
+
+-- what is found has its place and its length
+found_same : (p q m n : ℕ) → p ≡ q → m ≡ n → FoundAt p m ≡ FoundAt q n
+found_same p q m n e h = cc
 
 pub loop-at-init : goal.loop-at-init
 unfolding find_of
@@ -24,8 +31,11 @@ overflow_add-result c =
 
 pub returns-then-number-index : goal.returns-then-number-index
 returns-then-number-index c =
-    sym (c.loop-at.invariant ∙ find_here c.args.sheet.now c.args.index c.loop-at.at c.loop-at-test.true (sym c.is_whole.ensures
-    ∙ c.if-is_whole.true) (rw (← c.number.ensures.0) (eq-eqb _ _ c.if-number-index.true)) ∙ rw (← c.number-length.ensures.0))
+    let sheet : List ℕ = c.args.sheet.now in
+    let at : ℕ = c.loop-at.at in
+    let own : index_at sheet at ≡ c.args.index = ap (number_at sheet) (omega arith) ∙ sym c.number.ensures.0 ∙ c.if-number-index.true in
+    let here = find_here sheet c.args.index at c.loop-at-test.true (sym c.is_whole.ensures ∙ c.if-is_whole.true) (eq-eqb _ _ own) in
+    sym (c.loop-at.invariant ∙ here ∙ found_same _ _ _ _ (omega arith) (sym c.number-length.ensures.0))
 
 pub overflow_add-at-then-is_whole : goal.overflow_add-at-then-is_whole
 overflow_add-at-then-is_whole c =
@@ -37,8 +47,12 @@ overflow_add-at-then-is_whole-2 c =
 
 pub loop-at-preserved : goal.loop-at-preserved
 loop-at-preserved c =
-    c.loop-at.invariant ∙ find_later c.args.sheet.now c.args.index c.loop-at.at c.loop-at-test.true (sym c.is_whole.ensures
-    ∙ c.if-is_whole.true) (rw (← c.number.ensures.0) (ne_eqb _ _ c.if-number-index.false)) ∙ rw (← c.number-length.ensures.0)
+    let sheet : List ℕ = c.args.sheet.now in
+    let at : ℕ = c.loop-at.at in
+    let other : index_at sheet at ≡ c.args.index → ⊥ = λ e. c.if-number-index.false (c.number.ensures.0 ∙ ap (number_at sheet) (omega arith) ∙ e) in
+    c.loop-at.invariant
+    ∙ find_later sheet c.args.index at c.loop-at-test.true (sym c.is_whole.ensures ∙ c.if-is_whole.true) (ne_eqb _ _ other)
+    ∙ rw (← c.number-length.ensures.0)
 
 pub returns-else-is_whole : goal.returns-else-is_whole
 returns-else-is_whole c =
