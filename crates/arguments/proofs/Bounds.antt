@@ -8,6 +8,7 @@ use native.Mathlib.Omega.{arith}
 use borrow.Author.Tests.{ltb-true, ltb-false, eqb-false}
 use lib.Dec.{eqb, ltb}
 use lib.ListN.{length, take, drop}
+use Rattle.std.proofs.Common.{Result, Ok, Err}
 use Rattle.words.specs.Word.{word_at, field}
 use Rattle.words.proofs.Words.{AllBytes, bytes_left, bytes_before, word_at_lt}
 use Rattle.words.proofs.Signed.{SignedFits, signed-fits}
@@ -16,18 +17,15 @@ use Rattle.format.specs.declared.Format.{Format}
 use Rattle.format.specs.declared.Reference.{Reference}
 use Rattle.format.specs.declared.Reference.TheVariants.{Inline, Index}
 use Rattle.format.specs.declared.Taken.{Taken}
-use Rattle.format.specs.declared.Taken.TheVariants.{Refused as PartRefused, Part as PartRead}
+use Rattle.format.specs.declared.Reason.{Reason}
 use Rattle.format.specs.declared.Part.TheVariants.{Words as words}
 use Rattle.format.specs.Part.{take_words, take_stream, take_text, take_part, body, prepend, on_taken, take_parts, on_body, part, place_of}
 use Rattle.arguments.specs.declared.Scalar.{Scalar}
 use Rattle.arguments.specs.declared.Scalar.TheVariants.{Null, Signed32, Unsigned32, Signed64, Unsigned64, Double, Pointer, KernelObject, Boolean, Unknown}
 use Rattle.arguments.specs.declared.Value.{Value}
 use Rattle.arguments.specs.declared.Value.TheVariants.{Scalar as ScalarValue, Text as TextValue}
-use Rattle.arguments.specs.declared.Valued.{Valued}
-use Rattle.arguments.specs.declared.Valued.TheVariants.{Refused as ValueRefused, Value as ValueRead}
 use Rattle.arguments.specs.declared.Argument.{Argument}
 use Rattle.arguments.specs.declared.Argued.{Argued}
-use Rattle.arguments.specs.declared.Argued.TheVariants.{Refused as ArgumentRefused, Argument as ArgumentRead}
 use Rattle.arguments.specs.Argument.{argument_type, argument_size, header_scalar, holds_word, word_scalar, argument_of, on_argued, numbered_of}
 use Rattle.arguments.specs.Models.Reading.{take_value}
 use Rattle.arguments.specs.Loss.{argument_keeps, arguments_keep}
@@ -41,9 +39,9 @@ TextShort f (Inline place long) = long ≤ f.longest
 TextShort f (Index index) = Unit {0}
 
 -- what is taken is so
-abbrev pub TakenShort : Format → Taken → Type 0
-TakenShort f (PartRefused number) = Unit {0}
-TakenShort f (PartRead r next) = TextShort f r
+abbrev pub TakenShort : Format → Result Taken Reason → Type 0
+TakenShort f (Err reason) = Unit {0}
+TakenShort f (Ok t) = TextShort f t.reference
 
 stream-short : (f : Format) (n place : ℕ) (source : List ℕ) (start : ℕ) → TakenShort f (take_stream f n place source start)
 unfolding take_stream
@@ -101,9 +99,9 @@ header_bound header known no_text no_word =
     t : ℕ
     t = argument_type header
 
-abbrev ValuedBound : Format → Valued → Type 0
-ValuedBound f (ValueRefused number) = Unit {0}
-ValuedBound f (ValueRead v) = ValueBound f v
+abbrev ValuedBound : Format → Result Value Reason → Type 0
+ValuedBound f (Err reason) = Unit {0}
+ValuedBound f (Ok v) = ValueBound f v
 
 value_bound : (f : Format) (hd at : ℕ) (own : List ℕ) (place : ℕ) → AllBytes own → argument_type hd < 10
     → ValuedBound f (take_value f hd at own place)
@@ -112,13 +110,13 @@ value_bound f hd at own place bytes known =
     cases (eqb (argument_type hd) 6) (λ e. rw e (of_text (take_text f (field 32 47 hd) at own place) (text-short f (field 32 47 hd) at own place)))
     (λ e. cases (holds_word (argument_type hd)) (λ e'. rw (e, e') of_word) (λ e'. rw (e, e') (header_bound hd known e e')))
   where
-    of_text : (t : Taken) → TakenShort f t
-        → ValuedBound f (on_body (on_taken t (λ x next. prepend x (body [] next))) ValueRefused (λ rs next. ValueRead (TextValue (part 0 rs))))
-    of_text (PartRefused number) m = tt
-    of_text (PartRead x next) m = m
+    of_text : (t : Result Taken Reason) → TakenShort f t
+        → ValuedBound f (on_body (on_taken t (λ x next. prepend x (body [] next))) Err (λ rs next. Ok (TextValue (part 0 rs))))
+    of_text (Err reason) m = tt
+    of_text (Ok t) m = m
 
-    of_word : ValuedBound f (on_body (take_parts f (words 1 ∷ []) at own place) ValueRefused
-        (λ rs next. ValueRead (ScalarValue (word_scalar (argument_type hd) (word_at f.order own (place_of (part 0 rs) - place))))))
+    of_word : ValuedBound f (on_body (take_parts f (words 1 ∷ []) at own place) Err
+        (λ rs next. Ok (ScalarValue (word_scalar (argument_type hd) (word_at f.order own (place_of (part 0 rs) - place))))))
     of_word =
         cases (ltb (place + length own) (at + 8)) (λ q. rw q tt)
         (λ q. rw q (word_bound (argument_type hd) (word_at f.order own (at - place)) (word_at_lt f.order own (at - place) bytes)))
@@ -131,9 +129,9 @@ pub record ArgumentBound (f : Format) (a : Argument) : Type 0 where
   pub value : ValueBound f a.value
 
 -- what is said of an argument that is read, of any answer
-abbrev pub ArguedBound : Format → Argued → Type 0
-ArguedBound f (ArgumentRefused number) = Unit {0}
-ArguedBound f (ArgumentRead a size) = ArgumentBound f a
+abbrev pub ArguedBound : Format → Result Argued Reason → Type 0
+ArguedBound f (Err reason) = Unit {0}
+ArguedBound f (Ok r) = ArgumentBound f r.argument
 
 -- an argument of a known type that is read is so
 pub argument_bound : (f : Format) (rest : List ℕ) (place : ℕ) → AllBytes rest → argument_type (word_at f.order rest 0) < 10
@@ -152,16 +150,16 @@ argument_bound f rest place bytes known =
     size : ℕ
     size = argument_size hd
 
-    of_value : (name : Reference) → TextShort f name → (v : Valued) → ValuedBound f v → ArguedBound f (named name size v)
-    of_value name m (ValueRefused number) k = tt
-    of_value name m (ValueRead v) k = record { name = m; value = k }
+    of_value : (name : Reference) → TextShort f name → (v : Result Value Reason) → ValuedBound f v → ArguedBound f (named name size v)
+    of_value name m (Err reason) k = tt
+    of_value name m (Ok v) k = record { name = m; value = k }
 
-    of_name : (t : Taken) → TakenShort f t
+    of_name : (t : Result Taken Reason) → TakenShort f t
         → ArguedBound f (on_name t (λ name next. named name size (take_value f hd next (take size rest) place)))
-    of_name (PartRefused number) m = tt
-    of_name (PartRead name next) m =
-        of_value name m (take_value f hd next (take size rest) place)
-        (value_bound f hd next (take size rest) place (bytes_before size rest bytes) known)
+    of_name (Err reason) m = tt
+    of_name (Ok name) m =
+        of_value name.reference m (take_value f hd name.next (take size rest) place)
+        (value_bound f hd name.next (take size rest) place (bytes_before size rest bytes) known)
 
 -- where nothing of the arguments is lost, the argument of every number is so
 pub number_bound : (f : Format) (n count : ℕ) (rest : List ℕ) (place extra : ℕ) → AllBytes rest → n < count
@@ -171,22 +169,22 @@ number_bound f n zero rest place extra bytes low keep = absurd (omega arith)
 number_bound f zero (suc count) rest place extra bytes low keep =
     go (argument_of f rest place) keep (argument_bound f rest place bytes)
   where
-    go : (x : Argued)
-        → on_argued x (λ number. false) (λ a size. argument_keeps f rest place a size && arguments_keep f count (drop size rest) (place + size) extra) ≡ true
+    go : (x : Result Argued Reason)
+        → on_argued x (λ reason. false) (λ a size. argument_keeps f rest place a size && arguments_keep f count (drop size rest) (place + size) extra) ≡ true
         → (argument_type (word_at f.order rest 0) < 10 → ArguedBound f x) → ArguedBound f x
-    go (ArgumentRefused number) k b = tt
-    go (ArgumentRead a size) k b =
-        let keeps = (both_true (argument_keeps f rest place a size) (arguments_keep f count (drop size rest) (place + size) extra) k).0 in
+    go (Err reason) k b = tt
+    go (Ok r) k b =
+        let keeps = (both_true (argument_keeps f rest place r.argument r.size) (arguments_keep f count (drop r.size rest) (place + r.size) extra) k).0 in
         b (ltb-true (argument_type (word_at f.order rest 0)) 10 (both_true (ltb (argument_type (word_at f.order rest 0)) 10) _ keeps).0)
 number_bound f (suc n) (suc count) rest place extra bytes low keep =
     go (argument_of f rest place) keep
     (λ more at b k. number_bound f n count more at extra b (omega arith) k)
   where
-    go : (x : Argued)
-        → on_argued x (λ number. false) (λ a size. argument_keeps f rest place a size && arguments_keep f count (drop size rest) (place + size) extra) ≡ true
+    go : (x : Result Argued Reason)
+        → on_argued x (λ reason. false) (λ a size. argument_keeps f rest place a size && arguments_keep f count (drop size rest) (place + size) extra) ≡ true
         → ((more : List ℕ) (at : ℕ) → AllBytes more → arguments_keep f count more at extra ≡ true → ArguedBound f (numbered_of f n more at))
-        → ArguedBound f (on_argued x ArgumentRefused (λ a size. numbered_of f n (drop size rest) (place + size)))
-    go (ArgumentRefused number) k b = tt
-    go (ArgumentRead a size) k b =
-        b (drop size rest) (place + size) (bytes_left size rest bytes)
-        (both_true (argument_keeps f rest place a size) (arguments_keep f count (drop size rest) (place + size) extra) k).1
+        → ArguedBound f (on_argued x Err (λ a size. numbered_of f n (drop size rest) (place + size)))
+    go (Err reason) k b = tt
+    go (Ok r) k b =
+        b (drop r.size rest) (place + r.size) (bytes_left r.size rest bytes)
+        (both_true (argument_keeps f rest place r.argument r.size) (arguments_keep f count (drop r.size rest) (place + r.size) extra) k).1

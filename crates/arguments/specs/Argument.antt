@@ -1,11 +1,12 @@
 -- The arguments of an event, after "Argument" in document 01. An argument is read from the part of its event that starts at it;
 -- `place` is the byte place of that part in the archive.
-use Rattle.std.specs.Prelude.{ℕ, zero, suc, ◌+◌, ◌-◌, ◌*◌, [], List, ◌∷◌, Bool, false, take, length, drop, eqb, ltb}
+use Rattle.std.specs.Prelude.{ℕ, zero, suc, ◌+◌, ◌-◌, ◌*◌, [], List, ◌∷◌, Bool, false, take, length, drop, Result, Ok, Err, eqb, ltb}
 use Rattle.words.specs.Word.{pick, word_at, field, signed}
 use Rattle.format.specs.declared.Format.{Format}
 use Rattle.format.specs.declared.Reference.{Reference}
 use Rattle.format.specs.declared.Reference.TheVariants.{Inline}
-use Rattle.format.specs.Limits.{malformed}
+use Rattle.format.specs.declared.Reason.{Reason}
+use Rattle.format.specs.declared.Reason.TheVariants.{Malformed}
 use Rattle.format.specs.declared.Part.{Part}
 use Rattle.format.specs.declared.Part.TheVariants.{Words as words, Text as text}
 use Rattle.format.specs.Part.{take_parts, on_body, part, place_of}
@@ -15,9 +16,6 @@ use Rattle.arguments.specs.declared.Value.{Value}
 use Rattle.arguments.specs.declared.Value.TheVariants.{Scalar as ScalarValue, Text}
 use Rattle.arguments.specs.declared.Argument.{Argument}
 use Rattle.arguments.specs.declared.Argued.{Argued}
-use Rattle.arguments.specs.declared.Argued.TheVariants.{Refused, Argument as Read}
-use Rattle.arguments.specs.declared.Walked.{Walked}
-use Rattle.arguments.specs.declared.Walked.TheVariants.{Refused as WalkRefused, End}
 
 -- "type [0..3], size [4..15], name [16..31]"
 abbrev pub argument_type : ℕ → ℕ
@@ -87,35 +85,39 @@ value_of f header argument place reference =
     (pick (holds_word (argument_type header)) (ScalarValue (word_scalar (argument_type header) (word_at f.order argument (place_of reference - place))))
     (ScalarValue (header_scalar header)))
 
+-- an argument that is read, with its size in bytes
+abbrev pub argued : Argument → ℕ → Result Argued Reason
+argued a size = Ok (record { argument = a; size = size })
+
 -- "Argument: type [0..3], size [4..15], name [16..31], inline name stream, then the value"; its own bytes are the first of what is left
-unfoldable pub argument_body : Format → List ℕ → ℕ → Argued
+unfoldable pub argument_body : Format → List ℕ → ℕ → Result Argued Reason
 argument_body f rest place =
     let header = word_at f.order rest 0 in
     let argument = take (argument_size header) rest in
-    on_body (take_parts f (text (field 16 31 header) ∷ value_parts header) (place + 8) argument place) Refused
+    on_body (take_parts f (text (field 16 31 header) ∷ value_parts header) (place + 8) argument place) Err
     (λ references next.
-    Read (record { name = part 0 references; value = value_of f header argument place (part 1 references) }) (argument_size header))
+    argued (record { name = part 0 references; value = value_of f header argument place (part 1 references) }) (argument_size header))
 
 -- "for an argument first 6 for a size of 0 or past its record"
-unfoldable pub argument_of : Format → List ℕ → ℕ → Argued
+unfoldable pub argument_of : Format → List ℕ → ℕ → Result Argued Reason
 argument_of f rest place =
-    pick (ltb (length rest) 8) (Refused malformed)
-    (pick (eqb (argument_size (word_at f.order rest 0)) 0) (Refused malformed)
-    (pick (ltb (length rest) (argument_size (word_at f.order rest 0))) (Refused malformed)
+    pick (ltb (length rest) 8) (Err Malformed)
+    (pick (eqb (argument_size (word_at f.order rest 0)) 0) (Err Malformed)
+    (pick (ltb (length rest) (argument_size (word_at f.order rest 0))) (Err Malformed)
     (argument_body f rest place)))
 
 -- the arguments of an event in order, and the place right behind them
 pub data Arguments : Type 0 where
-  refused : ℕ → Arguments
+  refused : Reason → Arguments
   arguments : List Argument → ℕ → Arguments
 
 abbrev pub prepend : Argument → Arguments → Arguments
-prepend a (refused number) = refused number
+prepend a (refused reason) = refused reason
 prepend a (arguments l next) = arguments (a ∷ l) next
 
-abbrev pub on_argued : {A : Type 0} → Argued → (ℕ → A) → (Argument → ℕ → A) → A
-on_argued (Refused number) refuse then = refuse number
-on_argued (Read a size) refuse then = then a size
+abbrev pub on_argued : {A : Type 0} → Result Argued Reason → (Reason → A) → (Argument → ℕ → A) → A
+on_argued (Err reason) refuse then = refuse reason
+on_argued (Ok read) refuse then = then read.argument read.size
 
 -- the text of a value; an inline text of no bytes stands for none
 abbrev pub text_in : Value → Reference
@@ -131,15 +133,15 @@ arguments_of f (suc count) rest place =
 unfoldable pub arguments_read : Format → ℕ → List ℕ → ℕ → List Argument
 arguments_read f zero rest place = []
 arguments_read f (suc count) rest place =
-    on_argued (argument_of f rest place) (λ number. []) (λ a size. a ∷ arguments_read f count (drop size rest) (place + size))
+    on_argued (argument_of f rest place) (λ reason. []) (λ a size. a ∷ arguments_read f count (drop size rest) (place + size))
 
 -- where they end
-abbrev pub walked : Arguments → Walked
-walked (refused number) = WalkRefused number
-walked (arguments l next) = End next
+abbrev pub walked : Arguments → Result ℕ Reason
+walked (refused reason) = Err reason
+walked (arguments l next) = Ok next
 
 -- the argument of a number, from 0
-unfoldable pub numbered_of : Format → ℕ → List ℕ → ℕ → Argued
+unfoldable pub numbered_of : Format → ℕ → List ℕ → ℕ → Result Argued Reason
 numbered_of f zero rest place = argument_of f rest place
 numbered_of f (suc number) rest place =
-    on_argued (argument_of f rest place) Refused (λ a size. numbered_of f number (drop size rest) (place + size))
+    on_argued (argument_of f rest place) Err (λ a size. numbered_of f number (drop size rest) (place + size))

@@ -43,5 +43,5 @@ argument_keeps f argument place a size =
 unfoldable pub arguments_keep : Format → ℕ → List ℕ → ℕ → ℕ → Bool
 arguments_keep f zero rest place extra = eqb (length rest) extra
 arguments_keep f (suc count) rest place extra =
-    on_argued (argument_of f rest place) (λ number. false)
+    on_argued (argument_of f rest place) (λ reason. false)
     (λ a size. argument_keeps f rest place a size && arguments_keep f count (drop size rest) (place + size) extra)

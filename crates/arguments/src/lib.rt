@@ -2,10 +2,10 @@
 #![tactic(auto)]
 
 ghost use Rattle.std.specs.Prelude.{◌≡◌, ◌+◌, ◌-◌, ◌*◌, ◌^◌, ◌<◌, ◌≤◌, length};
-ghost use Rattle.arguments.specs.Argument.{header_scalar, word_scalar, holds_word, argument_of};
+ghost use Rattle.arguments.specs.Argument.{scalar_type, header_scalar, word_scalar, holds_word, argument_of};
 ghost use Rattle.arguments.specs.Models.Reading.{take_value, value_text, texts_of, sought_of};
 
-use format::{Format, MALFORMED, Reference, Taken};
+use format::{Format, Reason, Reference};
 
 // A value that is no text. A double is its 64 bits.
 #[derive(Clone, Copy)]
@@ -22,6 +22,26 @@ pub enum Scalar {
     Unknown(u8),
 }
 
+impl Scalar {
+    // The argument type of a value that is no text.
+    pub fn argument_type(self) -> u64
+        ensures { result ≡ scalar_type self }
+    {
+        match self {
+            Scalar::Null => 0,
+            Scalar::Signed32(_) => 1,
+            Scalar::Unsigned32(_) => 2,
+            Scalar::Signed64(_) => 3,
+            Scalar::Unsigned64(_) => 4,
+            Scalar::Double(_) => 5,
+            Scalar::Pointer(_) => 7,
+            Scalar::KernelObject(_) => 8,
+            Scalar::Boolean(_) => 9,
+            Scalar::Unknown(variant) => u64::from(variant),
+        }
+    }
+}
+
 #[derive(Clone, Copy)]
 pub enum Value {
     Scalar(Scalar),
@@ -34,49 +54,26 @@ pub struct Argument {
     pub value: Value,
 }
 
-#[derive(Clone, Copy)]
-pub enum Valued {
-    Refused(u8),
-    Value(Value),
-}
-
 // An argument with its size in bytes.
 #[derive(Clone, Copy)]
-pub enum Argued {
-    Refused(u8),
-    Argument { argument: Argument, size: usize },
-}
-
-// The text of a value, or an inline reference of no bytes where it has none.
-#[derive(Clone, Copy)]
-pub enum ValueTaken {
-    Refused(u8),
-    Text(Reference),
+pub struct Argued {
+    pub argument: Argument,
+    pub size: usize,
 }
 
 // The texts of an argument, its name and that of its value, with its size in bytes.
 #[derive(Clone, Copy)]
-pub enum Texts {
-    Refused(u8),
-    Texts {
-        name: Reference,
-        value: Reference,
-        size: usize,
-    },
-}
-
-// Where an event's arguments end.
-#[derive(Clone, Copy)]
-pub enum Walked {
-    Refused(u8),
-    End(usize),
+pub struct Texts {
+    pub name: Reference,
+    pub value: Reference,
+    pub size: usize,
 }
 
 // Where an event's arguments end, and where one of them starts.
 #[derive(Clone, Copy)]
-pub enum Sought {
-    Refused(u8),
-    End { at: usize, start: usize },
+pub struct Sought {
+    pub at: usize,
+    pub start: usize,
 }
 
 // The value that an argument's header holds itself, or that the type is unknown.
@@ -103,10 +100,7 @@ fn header_scalar(header: u64) -> Scalar
 pub fn holds_word(variant: u64) -> bool
     ensures { result ≡ holds_word variant }
 {
-    if variant < 3 {
-        return false;
-    }
-    variant < 9
+    3 <= variant && variant < 9
 }
 
 // The value of a type that has it in a word.
@@ -129,166 +123,135 @@ fn word_scalar(variant: u64, word: u64) -> Scalar
 }
 
 // The value of an argument with this header, whose name ends at the place `at`. Its bytes start at `place`.
-fn take_value(f: Format, header: u64, at: usize, argument: &[u8], place: usize) -> Valued
+fn take_value(
+    f: Format,
+    header: u64,
+    at: usize,
+    argument: &[u8],
+    place: usize,
+) -> Result<Value, Reason>
     requires { (place ≤ at) × (at ≤ place + length argument.now) × (place + length argument.now < 2 ^ 63) }
     ensures { result ≡ take_value f header at argument.now place }
 {
     let variant = words::field(header, 0, 3);
     if variant == 6 {
-        let text = format::take_text(f, words::field(header, 32, 47), at, argument, place);
-        match text {
-            Taken::Refused(number) => {
-                return Valued::Refused(number);
-            }
-            Taken::Part { reference, next: _ } => {
-                return Valued::Value(Value::Text(reference));
-            }
-        }
+        let text = format::take_text(f, words::field(header, 32, 47), at, argument, place)?;
+        return Ok(Value::Text(text.reference));
     }
     if holds_word(variant) {
         if place + argument.len() < at + 8 {
-            return Valued::Refused(MALFORMED);
+            return Err(Reason::Malformed);
         }
-        let order = f.order;
-        let word = words::word(order, argument, at - place);
-        return Valued::Value(Value::Scalar(word_scalar(variant, word)));
+        let word = words::word(f.order, argument, at - place);
+        return Ok(Value::Scalar(word_scalar(variant, word)));
     }
-    Valued::Value(Value::Scalar(header_scalar(header)))
+    Ok(Value::Scalar(header_scalar(header)))
 }
 
 // The argument at the start of what is left of an event, which stands at `place`.
-pub fn argument_of(f: Format, rest: &[u8], place: usize) -> Argued
+pub fn argument_of(f: Format, rest: &[u8], place: usize) -> Result<Argued, Reason>
     requires { place + length rest.now < 2 ^ 63 }
     ensures { result ≡ argument_of f rest.now place }
 {
     if rest.len() < 8 {
-        return Argued::Refused(MALFORMED);
+        return Err(Reason::Malformed);
     }
-    let order = f.order;
-    let header = words::word(order, rest, 0);
+    let header = words::word(f.order, rest, 0);
     let size = 8 * words::field(header, 4, 15) as usize;
     if size == 0 {
-        return Argued::Refused(MALFORMED);
+        return Err(Reason::Malformed);
     }
     if rest.len() < size {
-        return Argued::Refused(MALFORMED);
+        return Err(Reason::Malformed);
     }
     let argument = &rest[..size];
-    let named = format::take_text(f, words::field(header, 16, 31), place + 8, argument, place);
-    match named {
-        Taken::Refused(number) => Argued::Refused(number),
-        Taken::Part {
-            reference: name,
-            next,
-        } => {
-            let valued = take_value(f, header, next, argument, place);
-            match valued {
-                Valued::Refused(number) => Argued::Refused(number),
-                Valued::Value(value) => Argued::Argument {
-                    argument: Argument { name, value },
-                    size,
-                },
-            }
-        }
-    }
+    let name = format::take_text(f, words::field(header, 16, 31), place + 8, argument, place)?;
+    let value = take_value(f, header, name.next, argument, place)?;
+    Ok(Argued {
+        argument: Argument {
+            name: name.reference,
+            value,
+        },
+        size,
+    })
 }
 
-// The text of the value of an argument with this header, whose name ends at the place `at`. No scalar is made.
-fn value_text(f: Format, header: u64, at: usize, argument: &[u8], place: usize) -> ValueTaken
+// The text of the value of an argument with this header, whose name ends at the place `at`, or an inline reference of no
+// bytes where it has none. No scalar is made.
+fn value_text(
+    f: Format,
+    header: u64,
+    at: usize,
+    argument: &[u8],
+    place: usize,
+) -> Result<Reference, Reason>
     requires { (at ≤ place + length argument.now) × (place + length argument.now < 2 ^ 63) }
     ensures { result ≡ value_text f header at argument.now place }
 {
     let variant = words::field(header, 0, 3);
     if variant == 6 {
-        let text = format::take_text(f, words::field(header, 32, 47), at, argument, place);
-        match text {
-            Taken::Refused(number) => {
-                return ValueTaken::Refused(number);
-            }
-            Taken::Part { reference, next: _ } => {
-                return ValueTaken::Text(reference);
-            }
-        }
+        let text = format::take_text(f, words::field(header, 32, 47), at, argument, place)?;
+        return Ok(text.reference);
     }
     if holds_word(variant) {
         if place + argument.len() < at + 8 {
-            return ValueTaken::Refused(MALFORMED);
+            return Err(Reason::Malformed);
         }
-        return ValueTaken::Text(Reference::Inline {
-            place: 0,
-            length: 0,
-        });
     }
-    ValueTaken::Text(Reference::Inline {
+    Ok(Reference::Inline {
         place: 0,
         length: 0,
     })
 }
 
 // The texts and the size of the argument at the start of what is left of an event, which stands at `place`.
-pub fn texts_of(f: Format, rest: &[u8], place: usize) -> Texts
+pub fn texts_of(f: Format, rest: &[u8], place: usize) -> Result<Texts, Reason>
     requires { place + length rest.now < 2 ^ 63 }
     ensures { result ≡ texts_of f rest.now place }
 {
     let room = rest.len();
     if room < 8 {
-        return Texts::Refused(MALFORMED);
+        return Err(Reason::Malformed);
     }
-    let order = f.order;
-    let header = words::word(order, rest, 0);
+    let header = words::word(f.order, rest, 0);
     let size = 8 * words::field(header, 4, 15) as usize;
     if size == 0 {
-        return Texts::Refused(MALFORMED);
+        return Err(Reason::Malformed);
     }
     if room < size {
-        return Texts::Refused(MALFORMED);
+        return Err(Reason::Malformed);
     }
     let argument = &rest[..size];
-    let named = format::take_text(f, words::field(header, 16, 31), place + 8, argument, place);
-    match named {
-        Taken::Refused(number) => Texts::Refused(number),
-        Taken::Part {
-            reference: name,
-            next,
-        } => {
-            let valued = value_text(f, header, next, argument, place);
-            match valued {
-                ValueTaken::Refused(number) => Texts::Refused(number),
-                ValueTaken::Text(value) => Texts::Texts { name, value, size },
-            }
-        }
-    }
+    let name = format::take_text(f, words::field(header, 16, 31), place + 8, argument, place)?;
+    let value = value_text(f, header, name.next, argument, place)?;
+    Ok(Texts {
+        name: name.reference,
+        value,
+        size,
+    })
 }
 
 // Where so many arguments end, and where the one of this number, from 0, starts. Each is taken from the part that starts at it.
-pub fn seek(f: Format, part: &[u8], place: usize, count: usize, number: usize) -> Sought
+pub fn seek(
+    f: Format,
+    part: &[u8],
+    place: usize,
+    count: usize,
+    number: usize,
+) -> Result<Sought, Reason>
     requires { (place + length part.now < 2 ^ 63) × (number < count) }
     ensures { result ≡ sought_of f count number part.now place }
 {
     let mut rest = part;
     let mut at = place;
     let mut start = place;
-    let mut left = count;
-    let asked = count - number;
-    while 0 < left {
-        let texts = texts_of(f, rest, at);
-        match texts {
-            Texts::Refused(number) => {
-                return Sought::Refused(number);
-            }
-            Texts::Texts {
-                name: _,
-                value: _,
-                size,
-            } => {
-                if left == asked {
-                    start = at;
-                }
-                rest = &rest[size..];
-                at += size;
-                left -= 1;
-            }
+    for here in 0..count {
+        let texts = texts_of(f, rest, at)?;
+        if here == number {
+            start = at;
         }
+        rest = &rest[texts.size..];
+        at += texts.size;
     }
-    Sought::End { at, start }
+    Ok(Sought { at, start })
 }

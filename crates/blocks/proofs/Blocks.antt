@@ -2,17 +2,19 @@
 -- Assumes nothing.
 use Prim.Native.Nat.{ℕ, suc, ◌+◌, ◌<◌, ◌≤◌}
 use mathlib.Core.Path.{◌≡◌, refl, ap, ◌∙◌}
-use mathlib.Core.List.{List, ◌++◌, append_assoc}
+use mathlib.Core.List.{List, [], ◌∷◌, ◌++◌, append_assoc}
 use native.Mathlib.Omega.{arith}
-use lib.ListN.{length, length-append, length-replicate}
+use lib.ListN.{length, get_or, take, drop, replicate, length-append, length-take, length-drop, length-replicate}
+use lib.Seq.{drop-drop}
+use borrow.Rule.Slice.PartMut.{put_mid}
 use borrow.Author.Tests.{lt-ltb, le-ltb}
+use Rattle.words.proofs.Streams.{part_written}
 use Rattle.words.specs.Stream.{overwritten}
 use Rattle.words.proofs.Streams.{overwritten_twice}
 use Rattle.records.specs.declared.Own.{Own}
 use Rattle.records.specs.declared.Own.TheVariants.{Event as EventOwn, Log as LogOwn}
+use Rattle.std.specs.Prelude.{Option, Some, None}
 use Rattle.contexts.specs.declared.State.{State}
-use Rattle.contexts.specs.declared.Provider.{Provider}
-use Rattle.contexts.specs.declared.Provider.TheVariants.{None, Id}
 use Rattle.views.specs.declared.ShownText.{ShownText}
 use Rattle.views.specs.declared.ShownText.TheVariants.{At, Unresolved}
 use Rattle.views.specs.declared.ShownThread.{ShownThread}
@@ -22,8 +24,8 @@ use Rattle.views.specs.declared.ShownReferent.TheVariants.{Text as TextReferent,
 use Rattle.views.specs.declared.ShownReport.{ShownReport}
 use Rattle.views.specs.declared.ShownValue.{ShownValue}
 use Rattle.views.specs.declared.ShownValue.TheVariants.{Scalar as ScalarShown, Text as TextShown}
-use Rattle.reader.specs.declared.Asked.{Asked}
-use Rattle.reader.specs.declared.Asked.TheVariants.{Refused, Argument as ArgumentShown}
+use Rattle.std.specs.Prelude.{Ok, Err}
+use Rattle.reader.specs.Ask.{Asked}
 use Rattle.reader.specs.declared.Answer.{Answer}
 use Rattle.reader.specs.declared.Answer.TheVariants.{End, Nothing, Magic, ProviderInfo, Section, ProviderEvent, Initialization, Report, Skipped}
 use Rattle.reader.specs.Numbers.{text_values, thread_values, referent_values, provider_values, value_values, report_values, answer_values, asked_values}
@@ -34,7 +36,7 @@ length-block : (n : ℕ) (values : List ℕ) → length values ≤ n → length 
 length-block n values h = rw (length-append values, length-replicate) (omega arith)
 
 -- a text and a thread have three numbers each, so what a record refers to has three; a provider has two, a value four
-length-text : (t : ShownText) → length (text_values t) ≡ 3
+pub length-text : (t : ShownText) → length (text_values t) ≡ 3
 length-text (At place long) = refl
 length-text (Unresolved index) = refl
 
@@ -42,13 +44,13 @@ length-thread : (t : ShownThread) → length (thread_values t) ≡ 3
 length-thread (Words process thread) = refl
 length-thread (ThreadUnresolved index) = refl
 
-length_referent : (r : ShownReferent) → length (referent_values r) ≡ 3
+pub length_referent : (r : ShownReferent) → length (referent_values r) ≡ 3
 length_referent (TextReferent t) = length-text t
 length_referent (ThreadReferent t) = length-thread t
 
-length-provider : (p : Provider) → length (provider_values p) ≡ 2
+pub length-provider : (p : Option ℕ) → length (provider_values p) ≡ 2
 length-provider None = refl
-length-provider (Id id) = refl
+length-provider (Some id) = refl
 
 pub length-value : (v : ShownValue) → length (value_values v) ≡ 4
 length-value (ScalarShown s) = refl
@@ -73,8 +75,8 @@ answer_values_lem (Skipped type size) = omega arith
 
 -- what is answered for an argument has at most eight
 asked_values_lem : (a : Asked) → length (asked_values a) ≤ 8
-asked_values_lem (Refused number place) = omega arith
-asked_values_lem (ArgumentShown a) = simp (length-append, length-text, length-value) (omega arith)
+asked_values_lem (Err refused) = omega arith
+asked_values_lem (Ok a) = simp (length-append, length-text, length-value) (omega arith)
 
 -- the block of an answer and of an argument has the length that it is said to have
 pub length-answer : (a : Answer) → length (answer_numbers a) ≡ 20
@@ -89,6 +91,33 @@ length_asked a = length-block 20 (asked_values a) (omega (arith, asked_values_le
 pub length_reply : (a : Answer) (s : State) → length (answer_numbers a ++ state_numbers s) ≡ 40
 unfolding state_numbers
 length_reply a s = rw (length-append (answer_numbers a), length-answer a)
+
+-- a part of the lent words that is filled with zeros
+pub zeros_written : (out : List ℕ) (place k : ℕ) (part : List ℕ) → place + k ≤ length out → part ≡ replicate (length (take k (drop place out))) 0
+    → put_mid place k out part ≡ overwritten out place (replicate k 0)
+zeros_written out place k part h e =
+    let long : length (take k (drop place out)) ≡ k = omega (arith, length-take k (drop place out), length-drop place out) in
+    part_written out place k part (replicate k 0) (e ∙ ap (λ (n : ℕ). replicate n 0) long) (length-replicate k 0)
+
+-- two or three numbers of a list that has just so many are the list
+pub pair : {l : List ℕ} (m : List ℕ) → l ≡ m → length m ≡ 2 → get_or l 0 0 ∷ get_or l 1 0 ∷ [] ≡ m
+pair m e h = rw e (whole m h)
+  where
+    whole : (m : List ℕ) → length m ≡ 2 → get_or m 0 0 ∷ get_or m 1 0 ∷ [] ≡ m
+    whole [] h = absurd (omega arith)
+    whole (a ∷ []) h = absurd (omega arith)
+    whole (a ∷ b ∷ []) h = refl
+    whole (a ∷ b ∷ c ∷ m) h = absurd (omega arith)
+
+pub triple : {l : List ℕ} (m : List ℕ) → l ≡ m → length m ≡ 3 → get_or l 0 0 ∷ get_or l 1 0 ∷ get_or l 2 0 ∷ [] ≡ m
+triple m e h = rw e (whole m h)
+  where
+    whole : (m : List ℕ) → length m ≡ 3 → get_or m 0 0 ∷ get_or m 1 0 ∷ get_or m 2 0 ∷ [] ≡ m
+    whole [] h = absurd (omega arith)
+    whole (a ∷ []) h = absurd (omega arith)
+    whole (a ∷ b ∷ []) h = absurd (omega arith)
+    whole (a ∷ b ∷ c ∷ []) h = refl
+    whole (a ∷ b ∷ c ∷ d ∷ m) h = absurd (omega arith)
 
 -- numbers put right behind others are one writing with them
 pub onward : (out : List ℕ) {before after : List ℕ} (place at : ℕ) (a b : List ℕ) → place ≤ length out → at ≡ place + length a

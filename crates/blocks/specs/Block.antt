@@ -5,7 +5,7 @@ use Rattle.words.specs.Word.{pick}
 use Rattle.words.specs.Stream.{overwritten}
 use Rattle.contexts.specs.declared.State.{State}
 use Rattle.reader.specs.declared.Answer.{Answer}
-use Rattle.reader.specs.declared.Asked.{Asked}
+use Rattle.reader.specs.Ask.{Asked}
 use Rattle.reader.specs.declared.Reply.{Reply}
 use Rattle.reader.specs.Numbers.{answer_values, asked_values}
 

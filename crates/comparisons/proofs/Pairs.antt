@@ -1,5 +1,5 @@
 -- One turn of a loop over pairs of texts. Assumes nothing.
-use Prim.Native.Nat.{ℕ, zero, suc, ◌+◌, ◌-◌, ◌<◌, min}
+use Prim.Native.Nat.{ℕ, zero, suc, ◌+◌, ◌-◌, ◌<◌, ◌≤◌, min}
 use mathlib.Core.Path.{◌≡◌, refl, ap, ◌∙◌}
 use mathlib.Core.List.{[], List, ◌∷◌}
 use native.Mathlib.Numerals.{add-one}
@@ -7,6 +7,8 @@ use native.Mathlib.Nat.{zero-min, min-zero, suc-min-suc}
 use native.Mathlib.Omega.{arith}
 use lib.ListN.{length, get_or, take, drop, length-drop}
 use lib.Seq.{drop-cons, take_all}
+use mathlib.Core.Bool.{Bool, true, false}
+use Rattle.std.specs.Int.{from_bool}
 use Rattle.words.specs.Word.{pick}
 use Rattle.words.specs.Stream.{same_bytes}
 use Rattle.comparisons.specs.Pairs.{same_pairs}
@@ -32,6 +34,11 @@ pairs_from : (lengths a b : List ℕ) (i : ℕ) → i < length lengths → let n
     same_pairs (drop i lengths) a b ≡ pick (same_bytes (take n a) (take n b)) 1 0 + same_pairs (drop (i + 1) lengths) (drop n a) (drop n b)
 unfolding same_pairs
 pairs_from lengths a b i h = rw (drop-cons lengths i 0 h, add-one)
+
+-- a truth value as a number: one where it holds, and never more
+pub one_if : (same : Bool) → (from_bool same ≡ pick same 1 0) × (from_bool same ≤ 1)
+one_if true = (refl, omega arith)
+one_if false = (refl, omega arith)
 
 -- a loop over the pairs: `same` of those that are the same stand before the length at i; a turn takes n bytes of a and m of b, and adds r
 pub pairs_turn : (lengths a b : List ℕ) (i all same n m r : ℕ) → i < length lengths

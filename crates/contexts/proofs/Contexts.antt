@@ -2,45 +2,49 @@
 use Prim.Native.Nat.{ℕ, zero, suc, ◌+◌, ◌%◌, ◌<◌, ◌≤◌}
 use mathlib.Core.Path.{◌≡◌, refl, sym, subst, ◌∙◌}
 use mathlib.Core.List.{[], List, ◌∷◌}
-use mathlib.Core.Bool.{true, false, true≢false}
-use native.Mathlib.Numerals.{add-one}
+use mathlib.Core.Bool.{true, true≢false}
 use native.Mathlib.Omega.{arith}
 use native.Mathlib.Nat.{add-sub_cancel}
 use borrow.Author.Tests.{eqb-true, leb-true, eqb-false, eq-eqb, le-leb, ne_eqb}
 use lib.Dec.{eqb, leb}
-use lib.ListN.{length, get_or, drop, take, length-take, length-set}
-use lib.Seq.{drop-cons, get_or-take, length-take-le, get_or-set_same, get_or-set_other}
+use lib.ListN.{length, get_or, take, length-take, length-set}
+use lib.Seq.{get_or-take, length-take-le, get_or-set_same, get_or-set_other}
+use Rattle.std.specs.Prelude.{Option, Some, None}
+use Rattle.std.specs.List.{position, position_from}
+use Rattle.std.proofs.lemmas.Iterator.Adapters.{position_from-zero}
+use Rattle.std.proofs.lemmas.Option.{none-some, same_Some}
 use Rattle.words.specs.Word.{pick}
 use Rattle.words.proofs.Tests.{cases}
 use Rattle.contexts.specs.Context.{find_from, find_id, belongs_to, entering, on_found, in_context, with_id, provider_of}
 use Rattle.contexts.specs.declared.State.{State}
-use Rattle.contexts.specs.declared.Found.{Found}
-use Rattle.contexts.specs.declared.Found.TheVariants.{At, Nothing}
-use Rattle.contexts.specs.declared.Entered.{Entered}
-use Rattle.contexts.specs.declared.Provider.TheVariants.{Id}
 
 -- ---- the search for an id
 
--- one turn of the search
-pub find_turn : (ids : List ℕ) (n id i : ℕ) → i < n → n ≤ length ids
-    → find_from i (drop i (take n ids)) id ≡ pick (eqb (get_or ids i 0) id) (At i) (find_from (i + 1) (drop (i + 1) (take n ids)) id)
-find_turn ids n id i h hn =
-    let l : i < length (take n ids) = rw (length-take-le n ids hn) h in
-    rw (drop-cons (take n ids) i 0 l, get_or-take n ids i 0 h, add-one)
+-- a search counted from i finds what std's word for `position` says, counted from i
+find_from_position : (id i : ℕ) (xs : List ℕ) → find_from i xs id ≡ position_from (λ own. eqb own id) i xs
+find_from_position id i [] = refl
+find_from_position id i (x ∷ xs) =
+    cases (eqb x id) (λ e. rw e) (λ e. rw e (find_from_position id (i + 1) xs))
+
+-- the search is `position` among the first `count` ids
+pub find_position : (ids : List ℕ) (count id : ℕ) → find_id ids count id ≡ position (λ own. eqb own id) (take count ids)
+unfolding find_id
+find_position ids count id =
+    find_from_position id 0 (take count ids) ∙ sym (position_from-zero (λ own. eqb own id) (take count ids))
 
 -- what is found of an id in a list, counted from k: its first slot, or that it has none
-abbrev FoundIn : ℕ → List ℕ → ℕ → Found → Type 0
-FoundIn k xs id (At i) =
+abbrev FoundIn : ℕ → List ℕ → ℕ → Option ℕ → Type 0
+FoundIn k xs id (Some i) =
     (j : ℕ) × (i ≡ k + j) × (j < length xs) × (get_or xs j 0 ≡ id) × ((m : ℕ) → m < j → get_or xs m 0 ≡ id → ⊥)
-FoundIn k xs id Nothing = (m : ℕ) → m < length xs → get_or xs m 0 ≡ id → ⊥
+FoundIn k xs id None = (m : ℕ) → m < length xs → get_or xs m 0 ≡ id → ⊥
 
-found_later : (k x : ℕ) (xs : List ℕ) (id : ℕ) (r : Found) → (x ≡ id → ⊥) → FoundIn (k + 1) xs id r → FoundIn k (x ∷ xs) id r
-found_later k x xs id (At i) h (j, e, l, s, u) = (suc j, omega arith, omega arith, s, before)
+found_later : (k x : ℕ) (xs : List ℕ) (id : ℕ) (r : Option ℕ) → (x ≡ id → ⊥) → FoundIn (k + 1) xs id r → FoundIn k (x ∷ xs) id r
+found_later k x xs id (Some i) h (j, e, l, s, u) = (suc j, omega arith, omega arith, s, before)
   where
     before : (m : ℕ) → m < suc j → get_or (x ∷ xs) m 0 ≡ id → ⊥
     before zero l = h
     before (suc m) l = u m (omega arith)
-found_later k x xs id Nothing h u = after
+found_later k x xs id None h u = after
   where
     after : (m : ℕ) → m < suc (length xs) → get_or (x ∷ xs) m 0 ≡ id → ⊥
     after zero l = h
@@ -52,32 +56,32 @@ from_found k (x ∷ xs) id =
     cases (eqb x id) (λ e. rw e (0, omega arith, omega arith, eqb-true x id e, λ m l. absurd (omega arith)))
     (λ e. rw e (found_later k x xs id (find_from (k + 1) xs id) (eqb-false x id e) (from_found (k + 1) xs id)))
 
-found : (ids : List ℕ) (count id : ℕ) (r : Found) → find_id ids count id ≡ r → FoundIn 0 (take count ids) id r
+found : (ids : List ℕ) (count id : ℕ) (r : Option ℕ) → find_id ids count id ≡ r → FoundIn 0 (take count ids) id r
 unfolding find_id
 found ids count id r e = subst (FoundIn 0 (take count ids) id) e (from_found 0 (take count ids) id)
 
 -- a slot that is found is one of the first `count`
-pub found_lt : (ids : List ℕ) (count id i : ℕ) → find_id ids count id ≡ At i → i < count
-found_lt ids count id i e = let h = found ids count id (At i) e in omega (arith, h.1, h.2, length-take count ids)
+pub found_lt : (ids : List ℕ) (count id i : ℕ) → find_id ids count id ≡ Some i → i < count
+found_lt ids count id i e = let h = found ids count id (Some i) e in omega (arith, h.1, h.2, length-take count ids)
 
 -- it holds the id
-pub found-is : (ids : List ℕ) (count id i : ℕ) → find_id ids count id ≡ At i → get_or ids i 0 ≡ id
+pub found-is : (ids : List ℕ) (count id i : ℕ) → find_id ids count id ≡ Some i → get_or ids i 0 ≡ id
 found-is ids count id i e =
-    let h = found ids count id (At i) e in
+    let h = found ids count id (Some i) e in
     let p : i ≡ h.0 = omega (arith, h.1) in
     rw p (sym (get_or-take count ids h.0 0 (omega (arith, h.2, length-take count ids))) ∙ h.3)
 
 -- and no slot before it does
-pub found_first : (ids : List ℕ) (count id i j : ℕ) → find_id ids count id ≡ At i → j < i → get_or ids j 0 ≡ id → ⊥
+pub found_first : (ids : List ℕ) (count id i j : ℕ) → find_id ids count id ≡ Some i → j < i → get_or ids j 0 ≡ id → ⊥
 found_first ids count id i j e l s =
-    let h = found ids count id (At i) e in
+    let h = found ids count id (Some i) e in
     h.4 j (omega (arith, h.1)) (get_or-take count ids j 0 (omega (arith, h.1, h.2, length-take count ids)) ∙ s)
 
 -- where nothing is found, none of the first `count` slots holds the id
-pub found_none : (ids : List ℕ) (count id j : ℕ) → count ≤ length ids → find_id ids count id ≡ Nothing → j < count
+pub found_none : (ids : List ℕ) (count id j : ℕ) → count ≤ length ids → find_id ids count id ≡ None → j < count
     → get_or ids j 0 ≡ id → ⊥
 found_none ids count id j n e l s =
-    found ids count id Nothing e j (rw (length-take-le count ids n) l) (get_or-take count ids j 0 l ∙ s)
+    found ids count id None e j (rw (length-take-le count ids n) l) (get_or-take count ids j 0 l ∙ s)
 
 -- ---- states that belong
 
@@ -127,30 +131,23 @@ pub record InContext (s : State) (id place : ℕ) (t : State) : Type 0 where
   pub place_is : t.place ≡ place
   pub grown : s.count ≤ t.count
   pub ids_kept : (j : ℕ) → j < s.count → get_or t.ids j 0 ≡ get_or s.ids j 0
-  pub provider-is : provider_of t ≡ Id id
+  pub provider-is : provider_of t ≡ Some id
 
 -- where the id is not a ninth, the state that it makes current can belong again, and has the ids that it had
-pub entered_belongs : (s : State) (id place : ℕ) → s.count ≤ 8 → length s.ids ≡ 8 → (entering s id place).ninth ≡ false
-    → InContext s id place (entering s id place).state
+pub entered_belongs : (s : State) (id place : ℕ) (t : State) → s.count ≤ 8 → length s.ids ≡ 8 → entering s id place ≡ Some t → InContext s id place t
 unfolding entering provider_of
-entered_belongs s id place n l = go (find_id s.ids s.count id) refl
+entered_belongs s id place t n l = go (find_id s.ids s.count id) refl
   where
-    old : ℕ → Entered
-    old i = record { ninth = false; state = in_context s (i + 1) place }
+    old : ℕ → Option State
+    old i = Some (in_context s (i + 1) place)
 
-    new : Entered
-    new = record { ninth = false; state = with_id s id place }
+    new : Option State
+    new = Some (with_id s id place)
 
-    full : Entered
-    full = record { ninth = true; state = s }
-
-    P : Entered → Type 0
-    P e = e.ninth ≡ false → InContext s id place e.state
-
-    go : (r : Found) → find_id s.ids s.count id ≡ r → P (on_found r old (pick (eqb s.count 8) full new))
-    go (At i) e = λ z.
+    go : (r : Option ℕ) → find_id s.ids s.count id ≡ r → on_found r old (pick (eqb s.count 8) None new) ≡ Some t → InContext s id place t
+    go (Some i) e z =
         let h = found_lt s.ids s.count id i e in
-        record {
+        subst (InContext s id place) (same_Some (in_context s (i + 1) place) t z) (record {
           few = n;
           known = omega arith;
           slots = l;
@@ -158,12 +155,12 @@ entered_belongs s id place n l = go (find_id s.ids s.count id) refl
           grown = omega arith;
           ids_kept = λ j k. refl;
           provider-is = rw (ne_eqb (i + 1) 0 (λ q. omega arith), add-sub_cancel i 1, found-is s.ids s.count id i e);
-        }
-    go Nothing e =
-        cases (eqb s.count 8) (λ q. rw q (λ z. absurd (true≢false z)))
-        (λ q. rw q (λ z.
+        })
+    go None e z =
+        cases (eqb s.count 8) (λ q. absurd (none-some t (rw q at z)))
+        (λ q.
         let h : s.count < 8 = omega (arith, eqb-false s.count 8 q) in
-        record {
+        subst (InContext s id place) (same_Some (with_id s id place) t (rw q at z)) (record {
           few = omega arith;
           known = omega arith;
           slots = length-set s.ids s.count id ∙ l;

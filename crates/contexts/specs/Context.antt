@@ -1,12 +1,7 @@
 -- The state of a reading and its contexts, after "Contexts" and number 4 of document 01.
-use Rattle.std.specs.Prelude.{ℕ, ◌+◌, ◌-◌, ◌%◌, [], List, ◌∷◌, Bool, true, false, ◌&&◌, take, get_or, set, replicate, eqb, leb}
+use Rattle.std.specs.Prelude.{ℕ, ◌+◌, ◌-◌, ◌%◌, [], List, ◌∷◌, Bool, ◌&&◌, Option, Some, None, take, get_or, set, replicate, eqb, leb}
 use Rattle.words.specs.Word.{pick}
 use Rattle.contexts.specs.declared.State.{State}
-use Rattle.contexts.specs.declared.Found.{Found}
-use Rattle.contexts.specs.declared.Found.TheVariants.{At, Nothing}
-use Rattle.contexts.specs.declared.Entered.{Entered}
-use Rattle.contexts.specs.declared.Provider.{Provider}
-use Rattle.contexts.specs.declared.Provider.TheVariants.{None, Id}
 
 -- request W2: "Each context has its own rate, held in the state value, 1,000,000,000 from opening the archive or the context until its own
 -- initialization record"
@@ -22,12 +17,12 @@ unfoldable pub belongs_to : State → ℕ → Bool
 belongs_to s n = eqb (s.place % 8) 0 && (leb s.place n && (leb s.count 8 && leb s.current s.count))
 
 -- where an id first stands in a list, counted from i
-abbrev pub find_from : ℕ → List ℕ → ℕ → Found
-find_from i [] id = Nothing
-find_from i (x ∷ xs) id = pick (eqb x id) (At i) (find_from (i + 1) xs id)
+abbrev pub find_from : ℕ → List ℕ → ℕ → Option ℕ
+find_from i [] id = None
+find_from i (x ∷ xs) id = pick (eqb x id) (Some i) (find_from (i + 1) xs id)
 
 -- "Of equal ids the first counts."
-unfoldable pub find_id : List ℕ → ℕ → ℕ → Found
+unfoldable pub find_id : List ℕ → ℕ → ℕ → Option ℕ
 find_id ids count id = find_from 0 (take count ids) id
 
 -- the state at another place; with another rate of the current context; in another context; with one id more, whose context is opened
@@ -50,19 +45,18 @@ with_id s id place =
       current = s.count + 1;
     }
 
-abbrev pub on_found : Found → (ℕ → Entered) → Entered → Entered
-on_found (At i) found missing = found i
-on_found Nothing found missing = missing
+abbrev pub on_found : Option ℕ → (ℕ → Option State) → Option State → Option State
+on_found (Some i) found missing = found i
+on_found None found missing = missing
 
--- "provider info or a section makes its id current, and opens a context if the id is new; an id met again keeps its tables"
-unfoldable pub entering : State → ℕ → ℕ → Entered
+-- "provider info or a section makes its id current, and opens a context if the id is new; an id met again keeps its tables". None is a ninth id
+unfoldable pub entering : State → ℕ → ℕ → Option State
 entering s id place =
-    on_found (find_id s.ids s.count id) (λ i. record { ninth = false; state = in_context s (i + 1) place })
-    (pick (eqb s.count 8) (record { ninth = true; state = s }) (record { ninth = false; state = with_id s id place }))
+    on_found (find_id s.ids s.count id) (λ i. Some (in_context s (i + 1) place)) (pick (eqb s.count 8) None (Some (with_id s id place)))
 
 -- the provider of the current context: none, or the id of its slot
-unfoldable pub provider_of : State → Provider
-provider_of s = pick (eqb s.current 0) None (Id (get_or s.ids (s.current - 1) 0))
+unfoldable pub provider_of : State → Option ℕ
+provider_of s = pick (eqb s.current 0) None (Some (get_or s.ids (s.current - 1) 0))
 
 -- the rate in force: that of the current context
 abbrev pub rate_of : State → ℕ

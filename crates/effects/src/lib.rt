@@ -5,19 +5,12 @@
 ghost use Rattle.std.specs.Prelude.{◌≡◌, ◌^◌, ◌<◌, ◌≤◌};
 ghost use Rattle.records.specs.Effect.{effect_of};
 ghost use Rattle.tables.specs.Models.Entries.{FormatFits};
-ghost use Rattle.effects.specs.Follow.{followed_entered, followed, change_of, changed};
+ghost use Rattle.effects.specs.Follow.{followed, change_of, changed};
 ghost use Rattle.effects.specs.Models.Bounds.{EffectFits};
 
-use contexts::{Entered, State};
-use format::Format;
+use contexts::State;
+use format::{Format, Reason};
 use records::{Content, Effect};
-
-// The state to go on from, or, where the number is not 0, document 01's number by which the record stops the reading.
-#[derive(Clone, Copy)]
-pub struct Followed {
-    pub number: u8,
-    pub state: State,
-}
 
 // What a record does to the tables.
 #[derive(Clone, Copy)]
@@ -66,43 +59,24 @@ pub fn effect_of(content: Content) -> Effect
     }
 }
 
-// A provider's id was made current, unless it was a ninth one.
-fn follow_entered(entered: Entered) -> Followed
-    ensures { result ≡ followed_entered entered }
-{
-    let ninth = entered.ninth;
-    let state = entered.state;
-    if ninth {
-        return Followed { number: 9, state };
-    }
-    Followed { number: 0, state }
-}
-
-// The state after a record that ends at `next`.
-pub fn follow(s: State, effect: Effect, next: usize) -> Followed
+// The state to go on from after a record that ends at `next`, or the number of what the record stops the reading by: a number, not
+// a Reason, since this answers for any; 0 stops nothing.
+pub fn follow(s: State, effect: Effect, next: usize) -> Result<State, u8>
     requires { s.count ≤ 8 }
     ensures { result ≡ followed s effect next }
 {
     match effect {
-        Effect::Stop(number) => Followed { number, state: s },
-        Effect::Enter { id } => follow_entered(contexts::enter(s, id, next)),
-        Effect::SetRate { rate } => Followed {
-            number: 0,
-            state: contexts::set_rate(s, rate, next),
-        },
+        Effect::Stop(0) => Ok(s),
+        Effect::Stop(number) => Err(number),
+        Effect::Enter { id } => contexts::enter(s, id, next).ok_or(Reason::NinthProvider.number()),
+        Effect::SetRate { rate } => Ok(contexts::set_rate(s, rate, next)),
         Effect::Register {
             table: _,
             index: _,
             place: _,
             length: _,
-        } => Followed {
-            number: 0,
-            state: contexts::move_to(s, next),
-        },
-        Effect::Pass => Followed {
-            number: 0,
-            state: contexts::move_to(s, next),
-        },
+        } => Ok(contexts::move_to(s, next)),
+        Effect::Pass => Ok(contexts::move_to(s, next)),
     }
 }
 

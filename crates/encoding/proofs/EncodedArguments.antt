@@ -24,8 +24,7 @@ use Rattle.arguments.specs.declared.Scalar.TheVariants.{Null, Signed32, Unsigned
 use Rattle.arguments.specs.declared.Value.{Value as ReadValue}
 use Rattle.arguments.specs.declared.Value.TheVariants.{Scalar as ScalarValue, Text as TextValue}
 use Rattle.arguments.specs.declared.Argument.{Argument as ReadArgument}
-use Rattle.arguments.specs.declared.Argued.TheVariants.{Argument as Read}
-use Rattle.arguments.specs.Argument.{scalar_words, argument_type, header_scalar, holds_word, word_scalar, value_parts, value_of, argument_body, argument_of, arguments, arguments_of, scalar_type}
+use Rattle.arguments.specs.Argument.{argued, scalar_words, argument_type, header_scalar, holds_word, word_scalar, value_parts, value_of, argument_body, argument_of, arguments, arguments_of, scalar_type}
 use Rattle.arguments.proofs.Bounds.{ScalarFits}
 use Rattle.records.specs.Item.{known, unresolved, Text, Value, scalar, text, Argument, Key, text_key}
 use Rattle.encoding.specs.Encoded.{Encoded, word, text_inline, reference_of, part_bytes, parts_bytes, encoded_text, scalar_half, scalar_parts, record_bytes, encoded_argument, value_record, argument_record, arguments_records}
@@ -254,7 +253,7 @@ encoded_read : (f : Format) (type half : ℕ) (name : Encoded) (ws : List Encode
     → Valued f (word_at f.order (encoded_argument f type half name ws ++ more) 0) (encoded_argument f type half name ws) place
     (place + 8 + length (part_bytes f name)) ws v
     → argument_of f (encoded_argument f type half name ws ++ more) place
-    ≡ Read (record { name = reference_at name (place + 8); value = v }) (length (encoded_argument f type half name ws))
+    ≡ argued (record { name = reference_at name (place + 8); value = v }) (length (encoded_argument f type half name ws))
 unfolding argument_of argument_body
 encoded_read f type half name ws more place v fit t fine valued =
     let source = encoded_argument f type half name ws in
@@ -287,7 +286,7 @@ argument_fits f index a fit sized =
 -- an argument that fits is read as itself, whatever stands behind it
 pub argument_read : (f : Format) (index : Key → ℕ) (a : Argument) (more : List ℕ) (place : ℕ) → ArgumentFits f index a
     → argument_words index a < 2 ^ 12
-    → argument_of f (argument_record f index a ++ more) place ≡ Read (argument_at f index a place) (length (argument_record f index a))
+    → argument_of f (argument_record f index a ++ more) place ≡ argued (argument_at f index a place) (length (argument_record f index a))
 argument_read f index a more place fit sized =
     let v = a.value in
     let name = encoded_text index a.name in

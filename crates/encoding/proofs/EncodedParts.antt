@@ -14,10 +14,9 @@ use Rattle.words.proofs.Streams.{length-padded}
 use Rattle.format.specs.declared.Format.{Format}
 use Rattle.format.specs.declared.Reference.{Reference}
 use Rattle.format.specs.declared.Reference.TheVariants.{Inline, Index}
-use Rattle.format.specs.declared.Taken.TheVariants.{Part as Read}
 use Rattle.format.specs.declared.Part.{Part}
 use Rattle.format.specs.declared.Part.TheVariants.{Words as words_part, Stream as stream_part, Text as text_part, Thread as thread_part}
-use Rattle.format.specs.Part.{take_words, take_stream, take_text, take_thread, take_part, body, take_parts}
+use Rattle.format.specs.Part.{taken, take_words, take_stream, take_text, take_thread, take_part, body, take_parts}
 use Rattle.records.specs.Item.{thread}
 use Rattle.records.proofs.Bounds.{AllWords}
 use Rattle.encoding.specs.Encoded.{Encoded, word, words, stream, words_bytes, text_index, thread_index, text_inline, thread_inline, reference_of, part_bytes, parts_bytes}
@@ -106,17 +105,17 @@ length_parts f (w ∷ ws) = omega (arith, length-append (part_bytes f w) (parts_
 
 -- a stream that is short enough, and ends inside its record, is taken
 pub stream_read : (f : Format) (n place : ℕ) (source : List ℕ) (start : ℕ) → n ≤ f.longest → place + 8 * stream_words n ≤ (start + length source)
-    → take_stream f n place source start ≡ Read (Inline place n) (place + 8 * stream_words n)
+    → take_stream f n place source start ≡ taken (Inline place n) (place + 8 * stream_words n)
 unfolding take_stream
 stream_read f n place source start short inside = rw (le-ltb f.longest n short, le-ltb (start + length source) (place + 8 * stream_words n) inside)
 
 -- words that end inside their record are taken
-pub words_read_lem : (n place : ℕ) (source : List ℕ) (start : ℕ) → place + 8 * n ≤ (start + length source) → take_words n place source start ≡ Read (Inline place (8 * n)) (place + 8 * n)
+pub words_read_lem : (n place : ℕ) (source : List ℕ) (start : ℕ) → place + 8 * n ≤ (start + length source) → take_words n place source start ≡ taken (Inline place (8 * n)) (place + 8 * n)
 unfolding take_words
 words_read_lem n place source start inside = rw (le-ltb (start + length source) (place + 8 * n) inside)
 
 text_read : (f : Format) (b : List ℕ) (place : ℕ) (source : List ℕ) (start : ℕ) → length b ≤ f.longest → place + 8 * stream_words (length b) ≤ (start + length source)
-    → take_text f (reference_of (text_inline b)) place source start ≡ Read (Inline place (length b)) (place + 8 * stream_words (length b))
+    → take_text f (reference_of (text_inline b)) place source start ≡ taken (Inline place (length b)) (place + 8 * stream_words (length b))
 unfolding take_text
 text_read f [] place source start short inside = rw (add-zero place)
 text_read f (c ∷ b) place source start short inside =
@@ -125,7 +124,7 @@ text_read f (c ∷ b) place source start short inside =
     (stream_read f n place source start short inside)
 
 part_read : (f : Format) (w : Encoded) (place : ℕ) (source : List ℕ) (start : ℕ) → Fine f w → place + 8 * part_words w ≤ (start + length source)
-    → take_part f (part_of w) place source start ≡ Read (reference_at w place) (place + 8 * part_words w)
+    → take_part f (part_of w) place source start ≡ taken (reference_at w place) (place + 8 * part_words w)
 unfolding take_part take_text take_thread
 part_read f (word n) place source start fine inside = words_read_lem 1 place source start inside
 part_read f (words ns) place source start fine inside = words_read_lem (length ns) place source start inside

@@ -8,6 +8,7 @@ use native.Mathlib.Omega.{arith}
 use borrow.Author.Tests.{eqb-false, eqb-true, le-ltb, le-leb}
 use lib.Dec.{eqb}
 use lib.ListN.{length, drop, length-append}
+use Rattle.std.proofs.Common.{Ok}
 use Rattle.words.proofs.Tests.{cases}
 use Rattle.words.specs.Word.{word_at, word_bytes}
 use Rattle.words.proofs.Words.{At, at_left, at_right, word-is}
@@ -22,10 +23,8 @@ use Rattle.records.specs.declared.Own.{Own}
 use Rattle.records.specs.declared.Own.TheVariants.{Event as EventOwn, Log as LogOwn}
 use Rattle.records.specs.declared.Report.{Report as ReadReport}
 use Rattle.records.specs.declared.Layout.{Layout}
-use Rattle.records.specs.declared.Fields.TheVariants.{Fields as FieldsRead}
-use Rattle.records.specs.declared.Last.TheVariants.{Word}
 use Rattle.records.specs.declared.Content.TheVariants.{Report as ReportRead}
-use Rattle.records.specs.Layout.{is_event, event_layout, log_layout, layout_of, event_of, log_of, own_of, take_fields, last_word, lookup_of}
+use Rattle.records.specs.Layout.{fields, is_event, event_layout, log_layout, layout_of, event_of, log_of, own_of, take_fields, last_word, lookup_of}
 use Rattle.records.specs.Models.Layouts.{report_arguments}
 use Rattle.records.specs.Record.{content_of}
 use Rattle.records.specs.Item.{known, Referent, text_referent, Report, report, own_layout, last_words, report_layout, Key, text_key}
@@ -182,7 +181,7 @@ report_at f index r place =
 
 last_read : (f : Format) (source : List ℕ) (place at behind last : ℕ) → AllWords (last_words behind last) → (behind ≡ 0 → last ≡ 0)
     → At source (at - place) (words_bytes f (last_words behind last)) → at + 8 * behind ≤ place + length source
-    → last_word f source place at behind ≡ Word last
+    → last_word f source place at behind ≡ Ok last
 unfolding last_word
 last_read f source place at behind last small none there room =
     cases (eqb behind 0) (λ e. rw (le-ltb (place + length source) (at + 8 * behind) room, e, none (eqb-true behind 0 e)))
@@ -227,7 +226,7 @@ module _ (f : Format) (index : Key → ℕ) (r : Report) (place : ℕ) (fit : It
       )
 
   fields_there : take_fields f (layout_encoded index r) source place
-      ≡ FieldsRead (report_at f index r place).first.reference (report_at f index r place).second.reference (report_at f index r place).third.reference
+      ≡ fields (report_at f index r place).first.reference (report_at f index r place).second.reference (report_at f index r place).third.reference
       (report_at f index r place).stream first
   unfolding take_fields
   fields_there = rw (pieces_read f index (report_layout r) place fit.layout.pieces)
@@ -240,7 +239,7 @@ module _ (f : Format) (index : Key → ℕ) (r : Report) (place : ℕ) (fit : It
       let sized = all_sized index r.arguments (omega (arith, fit.layout.size)) in
       rw (there.1, append_assoc list end there.0) (arguments_read_lem f index r.arguments (end ++ there.0) first fit.layout.arguments sized)
 
-  last_there : last_word f source place (first + length list) (own_layout r.own).behind ≡ Word r.last
+  last_there : last_word f source place (first + length list) (own_layout r.own).behind ≡ Ok r.last
   last_there =
       let from : first - place + length list ≡ first + length list - place = omega arith in
       let there = rw from at (at_right source (first - place) list end (own_behind f index r place)) in

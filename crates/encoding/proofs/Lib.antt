@@ -7,4 +7,5 @@ pub mod EncodedItems
 pub mod EncodedKeeps
 pub mod Headers
 pub mod Parts
+pub mod Writing
 pub mod Signs

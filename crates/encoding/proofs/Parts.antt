@@ -1,6 +1,6 @@
 -- The parts of events and arguments as they are written one behind the other: references, lengths, and that header, name and value are one writing.
 -- Assumes nothing.
-use Prim.Native.Nat.{ℕ, ◌+◌, ◌*◌, ◌/◌, ◌^◌, ◌<◌, ◌≤◌}
+use Prim.Native.Nat.{ℕ, ◌+◌, ◌*◌, ◌/◌, ◌^◌, ◌<◌}
 use mathlib.Core.Path.{◌≡◌, refl, sym, ap, ◌∙◌}
 use mathlib.Core.List.{List, [], ◌∷◌, ◌++◌, append_assoc, append-nil}
 use mathlib.Core.Bool.{Bool, true, false}
@@ -9,10 +9,10 @@ use lib.ListN.{length, length-append}
 use lib.Dec.{eqb}
 use borrow.Author.Tests.{eq-eqb, ne_eqb, eqb-true}
 use Rattle.words.specs.Word.{pick, word_at, ◌of◌, pack, word_bytes}
-use Rattle.words.specs.Stream.{padded, overwritten}
+use Rattle.words.specs.Stream.{overwritten}
 use Rattle.words.proofs.Words.{length-word_bytes}
 use Rattle.words.proofs.Tests.{cases}
-use Rattle.words.proofs.Streams.{overwritten_twice, none-overwritten}
+use Rattle.words.proofs.Streams.{none-overwritten}
 use Rattle.format.specs.declared.Format.{Format}
 use Rattle.records.specs.Item.{Thread, thread}
 use Rattle.encoding.specs.Encoded.{Encoded, text_index, text_inline, thread_inline, reference_of, part_bytes, parts_bytes, encoded_argument}
@@ -75,41 +75,28 @@ argument_parts_lem f type more half name parts h =
     ∙ ap
     (λ (n : ℕ). word_bytes f.order (pack (type of 4 ∷ n of 12 ∷ reference_of name of 16 ∷ half of 32 ∷ [])) ++ parts_bytes f (name ∷ parts)) same
 
--- an argument's start, and right behind it its one other part, are one writing of the argument
-pub argument_written : (f : Format) (out : List ℕ) (place type more half : ℕ) (name part : Encoded) → place ≤ length out → length (part_bytes f part) ≡ more * 8
-    → overwritten (overwritten out place (argument_start f type more half name)) (place + length (argument_start f type more half name)) (part_bytes f part)
-    ≡ overwritten out place (encoded_argument f type half name (part ∷ []))
-argument_written f out place type more half name part h l =
-    let one : parts_bytes f (part ∷ []) ≡ part_bytes f part = append-nil (part_bytes f part) in
-    overwritten_twice out place (argument_start f type more half name) (part_bytes f part) h
-    ∙ ap (λ (b : List ℕ). overwritten out place (argument_start f type more half name ++ b)) (sym one)
-    ∙ ap (overwritten out place) (argument_parts_lem f type more half name (part ∷ []) (ap length one ∙ l))
-
--- a header, and right behind it the name, are one writing of the start
-pub start_written : (f : Format) (out : List ℕ) (place type more half size word : ℕ) (name : Encoded) → place ≤ length out
-    → size * 8 ≡ length (part_bytes f name)
+-- a header and the name are an argument's start
+pub start_joined : (f : Format) (type more half size word : ℕ) (name : Encoded) → size * 8 ≡ length (part_bytes f name)
     → word ≡ type + (1 + size + more) * 2 ^ 4 + reference_of name * 2 ^ 16 + half * 2 ^ 32
-    → overwritten (overwritten out place (word_bytes f.order word)) (place + 8) (part_bytes f name) ≡ overwritten out place (argument_start f type more half name)
-start_written f out place type more half size word name h l e =
+    → word_bytes f.order word ++ part_bytes f name ≡ argument_start f type more half name
+start_joined f type more half size word name l e =
     let same : word ≡ pack (type of 4 ∷ (1 + length (part_bytes f name) / 8 + more) of 12 ∷ reference_of name of 16 ∷ half of 32 ∷ []) =
     omega (arith, l, e) in
-    ap (λ (n : ℕ). overwritten (overwritten out place (word_bytes f.order word)) (place + n) (part_bytes f name)) (sym (length-word_bytes f.order word))
-    ∙ overwritten_twice out place (word_bytes f.order word) (part_bytes f name) h
-    ∙ ap (λ (n : ℕ). overwritten out place (word_bytes f.order n ++ part_bytes f name)) same
+    ap (λ (n : ℕ). word_bytes f.order n ++ part_bytes f name) same
+
+-- an argument is its start and its one other part
+pub argument_joined : (f : Format) (type more half : ℕ) (name part : Encoded) → length (part_bytes f part) ≡ more * 8
+    → argument_start f type more half name ++ part_bytes f part ≡ encoded_argument f type half name (part ∷ [])
+argument_joined f type more half name part l =
+    let one : parts_bytes f (part ∷ []) ≡ part_bytes f part = append-nil (part_bytes f part) in
+    ap (λ (b : List ℕ). argument_start f type more half name ++ b) (sym one)
+    ∙ argument_parts_lem f type more half name (part ∷ []) (ap length one ∙ l)
 
 -- an argument with one part behind its name is as long as its header and both
 pub length_argument_one : (f : Format) (type half : ℕ) (name part : Encoded)
     → length (encoded_argument f type half name (part ∷ [])) ≡ 8 + (length (part_bytes f name) + length (part_bytes f part))
 length_argument_one f type half name part =
     length_argument f type half name (part ∷ []) ∙ ap (λ (b : List ℕ). 8 + (length (part_bytes f name) + length b)) (append-nil (part_bytes f part))
-
--- an argument whose value stands in its header is its start
-pub short_argument : (f : Format) (type half : ℕ) (name : Encoded) → argument_start f type 0 half name ≡ encoded_argument f type half name []
-short_argument f type half name = sym (append-nil (argument_start f type 0 half name)) ∙ argument_parts_lem f type 0 half name [] refl
-
--- a text of index 0 stands inline
-pub inline_bytes_lem : (index : ℕ) (b : List ℕ) → index ≡ 0 → text_bytes index b ≡ padded b
-inline_bytes_lem index b h = simp (eq-eqb _ _ h)
 
 -- a thread of index 0 stands inline
 pub inline_thread : (f : Format) (index : ℕ) (t : Thread) → index ≡ 0 → part_bytes f (thread_part index t) ≡ part_bytes f (thread_inline t)
@@ -133,7 +120,3 @@ referent_reference_lem f table index b =
     cases (eqb table 3)
     (λ e. rw e (thread-reference index (thread (word_at f.order b 0) (word_at f.order b 8))))
     (λ e. rw e)
-
--- a thread of an index takes no bytes
-pub indexed-thread : (f : Format) (index : ℕ) (t : Thread) → (index ≡ 0 → ⊥) → part_bytes f (thread_part index t) ≡ []
-indexed-thread f index t h = rw (ne_eqb index 0 h)

@@ -11,10 +11,10 @@ ghost use Rattle.blocks.specs.Block.{asked_numbers, reply_numbers, given_state, 
 ghost use Rattle.exports.specs.Block.{packed_numbers};
 
 use blocks::{given_state, put_asked, put_four, put_reply};
-use packer::Packed;
+use format::Refused;
 
 // The block of what a repack answers, where the words hold it.
-fn put_packed(out: &mut [u64], packed: Packed) -> u64
+fn put_packed(out: &mut [u64], packed: Result<usize, Refused>) -> u64
     ensures value { result ≡ put_count (length out.old) 4 }
     ensures out_after { out.new ≡ put_numbers out.old (packed_numbers packed) }
 {
@@ -22,8 +22,8 @@ fn put_packed(out: &mut [u64], packed: Packed) -> u64
         return 0;
     }
     match packed {
-        Packed::Refused { number, place } => put_four(out, 0, 1, number as u64, place as u64, 0),
-        Packed::Written { length } => put_four(out, 0, 11, length as u64, 0, 0),
+        Err(refused) => put_four(out, 0, [1, refused.number as u64, refused.place as u64, 0]),
+        Ok(length) => put_four(out, 0, [11, length as u64, 0, 0]),
     }
     4
 }

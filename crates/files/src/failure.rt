@@ -1,5 +1,5 @@
 // Saying why a file could not be opened.
-ghost use Rattle.std.specs.Prelude.{◌≤◌, length};
+ghost use Rattle.std.specs.Prelude.{◌≤◌, length, is_ok};
 ghost use Rattle.files.specs.Output.{Says};
 
 use crate::output::write;
@@ -18,22 +18,16 @@ fn text_length(text: &[u8]) -> usize
     text.len()
 }
 
-// Writes a line: what failed, as the caller names it, a colon and the system's text. Answers whether all of it was written.
-pub fn fail<W: Write>(errors: &mut W, what: &[u8], error: &io::Error) -> bool
-    ensures { Says (W.contents errors.old) (W.contents errors.new) result what.now }
+// Writes a line: what failed, as the caller names it, a colon and the system's text.
+pub fn fail<W: Write>(errors: &mut W, what: &[u8], error: &io::Error) -> io::Result<()>
+    ensures { Says (W.contents errors.old) (W.contents errors.new) (is_ok result) what.now }
 {
     let mut text = [0u8; 320];
     let mut room = &mut text[..];
     let _ = write!(room, "{error}");
-    if !write(errors, what, what.len()) {
-        return false;
-    }
-    if !write(errors, b": ", 2) {
-        return false;
-    }
+    write(errors, what, what.len())?;
+    write(errors, b": ", 2)?;
     let length = text_length(&text);
-    if !write(errors, &text, length) {
-        return false;
-    }
+    write(errors, &text, length)?;
     write(errors, b"\n", 1)
 }

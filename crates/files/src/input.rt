@@ -3,56 +3,48 @@
 ghost use Rattle.std.specs.Prelude.{◌≡◌};
 ghost use Rattle.files.specs.Input.{Reads, ReadsBytes, Takes, TakesBytes};
 
+use std::io;
 use std::io::Read;
 
-// How many bytes came until the buffer was full or the input ended.
+// Why not all of the bytes that were asked for came: the input ended before the first, or anything else.
 #[derive(Clone, Copy)]
-pub enum Input {
-    Bytes(usize),
-    Failed,
-}
-
-// Of the bytes that were asked for all came, or the input ended before the first, or anything else.
-#[derive(Clone, Copy)]
-pub enum Outcome {
-    All,
+pub enum ReadError {
     End,
     Failed,
 }
 
-// Reads until the buffer is full or the input ends. A read that a signal interrupts is one that failed.
-pub fn read<R: Read>(reader: &mut R, buffer: &mut [u8]) -> Input
+// How many bytes came until the buffer was full or the input ended. A read that a signal interrupts is one that failed.
+pub fn read<R: Read>(reader: &mut R, buffer: &mut [u8]) -> io::Result<usize>
     ensures reads { Reads buffer.old result buffer.new }
     ensures takes { Takes (R.remaining reader.old) (R.remaining reader.new) result buffer.new }
 {
     let mut n = 0;
+    // No `for`: how far a read comes is known only behind it.
     while n < buffer.len() {
-        match reader.read(&mut buffer[n..]) {
-            Ok(0) => return Input::Bytes(n),
-            Ok(more) => n += more,
-            Err(_) => return Input::Failed,
+        match reader.read(&mut buffer[n..])? {
+            0 => return Ok(n),
+            more => n += more,
         }
     }
-    Input::Bytes(n)
+    Ok(n)
 }
 
 // Reads n bytes to the start of a buffer.
-pub fn read_bytes<R: Read>(reader: &mut R, buffer: &mut [u8], n: usize) -> Outcome
+pub fn read_bytes<R: Read>(reader: &mut R, buffer: &mut [u8], n: usize) -> Result<(), ReadError>
     ensures reads { ReadsBytes buffer.old n result buffer.new }
     ensures takes { TakesBytes (R.remaining reader.old) (R.remaining reader.new) n result buffer.new }
 {
     if buffer.len() < n {
-        return Outcome::Failed; // the buffer is not touched
+        return Err(ReadError::Failed); // the buffer is not touched
     }
-    let input = read(reader, &mut buffer[..n]);
-    let Input::Bytes(came) = input else {
-        return Outcome::Failed;
+    let Ok(came) = read(reader, &mut buffer[..n]) else {
+        return Err(ReadError::Failed);
     };
     if came == n {
-        return Outcome::All;
+        return Ok(());
     }
     if came == 0 {
-        return Outcome::End;
+        return Err(ReadError::End);
     }
-    Outcome::Failed
+    Err(ReadError::Failed)
 }

@@ -1,14 +1,12 @@
 -- What the first pass makes of one record: the number that it adds, its words, and the slots after it, against the record's item.
 -- Assumes nothing.
 use Prim.Native.Nat.{ℕ, ◌≤◌}
-use mathlib.Core.Path.{◌≡◌, refl, sym}
+use mathlib.Core.Path.{◌≡◌, refl, sym, ◌∙◌}
 use mathlib.Core.List.{List, [], ◌++◌, append-nil}
 use mathlib.Core.Bool.{Bool, true, false, true≢false}
 use mathlib.Core.Option.{Option, none, some}
 use mathlib.Core.Logic.{inl, inr}
 use native.Mathlib.Omega.{arith}
-use borrow.Author.Tests.{eqb-true, eqb-false}
-use lib.Dec.{eqb}
 use lib.ListN.{length}
 use Rattle.passes.specs.Models.Codes.{context_in}
 use Rattle.passes.specs.Models.Item.{report_at, plain_item, item_at}
@@ -38,9 +36,11 @@ use Rattle.reader.specs.Reads.{provider_item}
 use Rattle.views.proofs.Lookups.{record_whole}
 use Rattle.rule.specs.Refusal.{keeps_at, item_unresolved, passes_limit, item_uses}
 use Rattle.passes.proofs.Places.{report_stands, part-inside, opening-report}
-use Rattle.first_pass.specs.declared.Counted.{Counted}
-use Rattle.first_pass.specs.declared.Finding.{Finding}
-use Rattle.first_pass.specs.Models.Count.{report_good, report_slots, report_words, counts, report_checked, plain_words, keeps_to, record_checked, checked_slots}
+use Rattle.std.specs.Prelude.{Ok, Err, is_none, is_ok}
+use Rattle.std.specs.Result.{result_unwrap_or}
+use Rattle.format.specs.declared.Reason.TheVariants.{Loss, Unregistered, ManyKeys}
+use Rattle.first_pass.specs.Models.Found.{Finding}
+use Rattle.first_pass.specs.Models.Count.{Counted, report_good, report_slots, report_words, report_checked, plain_words, keeps_to, record_checked, checked_slots}
 use Rattle.first_pass.specs.Models.Left.{counted_uses}
 use Rattle.first_pass.proofs.Counts.{lookups_count}
 use Rattle.first_pass.proofs.Findings.{record_refusal, Says}
@@ -58,37 +58,37 @@ item_words (some i) = fixed_words i
 -- and where something was found before, they stay.
 pub record RecordCounted (f : Format) (archive : List ℕ) (last : State) (place : ℕ) (found : Finding) (before : List Use) (keeps : Bool)
     (item : Option Item) (slots slots' : List ℕ) (counted : Counted) : Type 0 where
-  pub says : Says found counted.number place (record_refusal f keeps item (before ++ item_uses item) place)
+  pub says : Says found counted place (record_refusal f keeps item (before ++ item_uses item) place)
   pub kept : SlotsKept f slots slots'
-  pub few_words : counted.words ≤ item_words item
-  pub told : found.number ≡ 0 → counted.number ≡ 0 → Told f archive last slots' (before ++ item_uses item)
-  pub tells_of : found.number ≡ 0 → Told f archive last slots' (pick keeps (counted_uses f before (item_uses item)) before)
-  pub rests : (found.number ≡ 0 → ⊥) → slots' ≡ slots
-  pub words : found.number ≡ 0 → counted.number ≡ 0 → counted.words ≡ item_words item
+  pub few_words : result_unwrap_or counted 0 ≤ item_words item
+  pub told : is_none found ≡ true → is_ok counted ≡ true → Told f archive last slots' (before ++ item_uses item)
+  pub tells_of : is_none found ≡ true → Told f archive last slots' (pick keeps (counted_uses f before (item_uses item)) before)
+  pub rests : is_none found ≡ false → slots' ≡ slots
+  pub words : is_none found ≡ true → is_ok counted ≡ true → result_unwrap_or counted 0 ≡ item_words item
 
 module _ (f : Format) (archive : List ℕ) (last : State) (few : last.count ≤ 8) (place : ℕ) (found : Finding) (before : List Use) (slots : List ℕ) where
   -- a record that shows no uses
-  plain-counted : (keeps : Bool) (item : Option Item) (words : ℕ) → (found.number ≡ 0 → Told f archive last slots before) → item_uses item ≡ []
+  plain-counted : (keeps : Bool) (item : Option Item) (words : ℕ) → (is_none found ≡ true → Told f archive last slots before) → item_uses item ≡ []
       → item_unresolved item ≡ false → (keeps ≡ true → words ≡ item_words item)
-      → RecordCounted f archive last place found before keeps item slots (pick keeps slots slots) (pick keeps (counts 0 words) (counts 10 0))
+      → RecordCounted f archive last place found before keeps item slots (pick keeps slots slots) (pick keeps (Ok words) (Err Loss))
   plain-counted false item words told no-uses resolved fixed =
       record {
         says = record { low = omega arith; tells = inl refl };
         kept = kept_same f slots;
         few_words = omega arith;
-        told = λ z q. absurd (omega arith);
+        told = λ z q. absurd (true≢false (sym q));
         tells_of = told;
         rests = λ n. refl;
-        words = λ z q. absurd (omega arith);
+        words = λ z q. absurd (true≢false (sym q));
       }
   plain-counted true item words told no-uses resolved fixed =
       record {
         says = record {
           low = omega arith;
           tells = rw (resolved, all)
-              (cases (eqb found.number 0)
-              (λ e. rw (told_limits f archive last few slots before (told (eqb-true found.number 0 e))) (inl refl))
-              (λ e. cases (passes_limit f before before) (λ o. rw o (inr (eqb-false found.number 0 e, refl, refl))) (λ o. rw o (inl refl))));
+              (cases (is_none found)
+              (λ e. rw (told_limits f archive last few slots before (told e)) (inl refl))
+              (λ e. cases (passes_limit f before before) (λ o. rw o (inr (e, refl, refl))) (λ o. rw o (inl refl))));
         };
         kept = kept_same f slots;
         few_words = omega (arith, fixed refl);
@@ -103,36 +103,36 @@ module _ (f : Format) (archive : List ℕ) (last : State) (few : last.count ≤ 
 
   -- a record that refers to texts and threads
   report-counted : (keeps good : Bool) (item : Option Item) (words : ℕ) (slots' : List ℕ)
-      → (found.number ≡ 0 → Outcome f archive last slots' (before ++ item_uses item) good (item_unresolved item))
-      → (found.number ≡ 0 → Told f archive last slots before)
-      → (found.number ≡ 0 → Told f archive last slots' (counted_uses f before (item_uses item)))
+      → (is_none found ≡ true → Outcome f archive last slots' (before ++ item_uses item) good (item_unresolved item))
+      → (is_none found ≡ true → Told f archive last slots before)
+      → (is_none found ≡ true → Told f archive last slots' (counted_uses f before (item_uses item)))
       → SlotsKept f slots slots' → words ≡ item_words item
-      → RecordCounted f archive last place found before keeps item slots (pick keeps (pick (eqb found.number 0) slots' slots) slots)
+      → RecordCounted f archive last place found before keeps item slots (pick keeps (pick (is_none found) slots' slots) slots)
       (pick keeps
-      (pick (eqb found.number 0) (pick good (counts 0 words) (pick (item_unresolved item) (counts 11 0) (counts 12 0)))
-      (pick (item_unresolved item) (counts 11 0) (counts 0 0)))
-      (counts 10 0))
+      (pick (is_none found) (pick good (Ok words) (pick (item_unresolved item) (Err Unregistered) (Err ManyKeys)))
+      (pick (item_unresolved item) (Err Unregistered) (Ok 0)))
+      (Err Loss))
   report-counted false good item words slots' outcome told Counts-of kept fixed =
       record {
         says = record { low = omega arith; tells = inl refl };
         kept = kept_same f slots;
         few_words = omega arith;
-        told = λ z q. absurd (omega arith);
+        told = λ z q. absurd (true≢false (sym q));
         tells_of = told;
         rests = λ n. refl;
-        words = λ z q. absurd (omega arith);
+        words = λ z q. absurd (true≢false (sym q));
       }
   report-counted true good item words slots' outcome told Counts-of kept fixed =
-      cases (eqb found.number 0)
-      (λ e. rw e (clean (eqb-true found.number 0 e) good (outcome (eqb-true found.number 0 e))))
-      (λ e. rw e (found_before (eqb-false found.number 0 e)))
+      cases (is_none found)
+      (λ e. rw e (clean e good (outcome e)))
+      (λ e. rw e (found_before (e)))
     where
       all : List Use
       all = before ++ item_uses item
 
-      clean : found.number ≡ 0 → (good : Bool) → Outcome f archive last slots' all good (item_unresolved item)
+      clean : is_none found ≡ true → (good : Bool) → Outcome f archive last slots' all good (item_unresolved item)
           → RecordCounted f archive last place found before true item slots slots'
-          (pick good (counts 0 words) (pick (item_unresolved item) (counts 11 0) (counts 12 0)))
+          (pick good (Ok words) (pick (item_unresolved item) (Err Unregistered) (Err ManyKeys)))
       clean none_before true o =
           let c = o.clean refl in
           record {
@@ -141,7 +141,7 @@ module _ (f : Format) (archive : List ℕ) (last : State) (few : last.count ≤ 
             few_words = omega (arith, fixed);
             told = λ z q. c.1;
             tells_of = Counts-of;
-            rests = λ n. absurd (n none_before);
+            rests = λ n. absurd (true≢false (sym none_before ∙ n));
             words = λ z q. fixed;
           }
       clean none_before false o =
@@ -150,33 +150,33 @@ module _ (f : Format) (archive : List ℕ) (last : State) (few : last.count ≤ 
             says = record { low = omega arith; tells = rw e (inl refl) };
             kept = kept;
             few_words = omega arith;
-            told = λ z q. absurd (omega arith);
+            told = λ z q. absurd (true≢false (sym q));
             tells_of = Counts-of;
-            rests = λ n. absurd (n none_before);
-            words = λ z q. absurd (omega arith);
+            rests = λ n. absurd (true≢false (sym none_before ∙ n));
+            words = λ z q. absurd (true≢false (sym q));
           }))
           (λ e. rw e (record {
             says = record { low = omega arith; tells = rw (e, o.over refl e) (inl refl) };
             kept = kept;
             few_words = omega arith;
-            told = λ z q. absurd (omega arith);
+            told = λ z q. absurd (true≢false (sym q));
             tells_of = Counts-of;
-            rests = λ n. absurd (n none_before);
-            words = λ z q. absurd (omega arith);
+            rests = λ n. absurd (true≢false (sym none_before ∙ n));
+            words = λ z q. absurd (true≢false (sym q));
           }))
 
-      found_before : (found.number ≡ 0 → ⊥)
-          → RecordCounted f archive last place found before true item slots slots (pick (item_unresolved item) (counts 11 0) (counts 0 0))
+      found_before : is_none found ≡ false
+          → RecordCounted f archive last place found before true item slots slots (pick (item_unresolved item) (Err Unregistered) (Ok 0))
       found_before n =
           cases (item_unresolved item)
           (λ e. rw e (record {
             says = record { low = omega arith; tells = rw e (inl refl) };
             kept = kept_same f slots;
             few_words = omega arith;
-            told = λ z q. absurd (n z);
-            tells_of = λ z. absurd (n z);
+            told = λ z q. absurd (true≢false (sym z ∙ n));
+            tells_of = λ z. absurd (true≢false (sym z ∙ n));
             rests = λ q. refl;
-            words = λ z q. absurd (n z);
+            words = λ z q. absurd (true≢false (sym z ∙ n));
           }))
           (λ e. rw e (record {
             says = record {
@@ -185,23 +185,23 @@ module _ (f : Format) (archive : List ℕ) (last : State) (few : last.count ≤ 
             };
             kept = kept_same f slots;
             few_words = omega arith;
-            told = λ z q. absurd (n z);
-            tells_of = λ z. absurd (n z);
+            told = λ z q. absurd (true≢false (sym z ∙ n));
+            tells_of = λ z. absurd (true≢false (sym z ∙ n));
             rests = λ q. refl;
-            words = λ z q. absurd (n z);
+            words = λ z q. absurd (true≢false (sym z ∙ n));
           }))
 
 -- what is found at the record at a state's place, with the tables after it, is counted so
 pub record_counted : (f : Format) (archive : List ℕ) → FormatFits f → (last : State) → last.count ≤ 8 → AllBytes archive → (tables : List ℕ) (s : State)
     → opening_number f archive (length tables) ≡ 0 → length archive ≤ longest_archive → s.place ≤ length archive → s.current ≤ 8
     → context_in last (provider_item (provider_of s)) ≡ s.current → (found : Finding) (before : List Use) (slots : List ℕ)
-    → (found.number ≡ 0 → Told f archive last slots before)
+    → (is_none found ≡ true → Told f archive last slots before)
     → RecordCounted f archive last s.place found before (keeps_at f archive s.place)
     (item_at f archive tables s (record_at f archive s.place).content (record_at f archive s.place).next) slots
     (checked_slots f archive (tables_after f tables s (record_at f archive s.place).content) slots s (record_at f archive s.place).content
-    (record_at f archive s.place).next (eqb found.number 0))
+    (record_at f archive s.place).next (is_none found))
     (record_checked f archive (tables_after f tables s (record_at f archive s.place).content) slots s (record_at f archive s.place).content
-    (record_at f archive s.place).next (eqb found.number 0))
+    (record_at f archive s.place).next (is_none found))
 unfolding record_checked checked_slots plain_item record_keeps report_checked plain_words effect_of change_of changed
 record_counted f archive fits last few bytes tables s opens small inside low here found before slots told =
     go (record_at f archive s.place).content refl (record_short f archive s.place) (record_whole f archive s.place).inside
@@ -215,8 +215,8 @@ record_counted f archive fits last few bytes tables s opens small inside low her
     of_report : (r : Report) → (record_at f archive s.place).content ≡ ReportRead r
         → RecordCounted f archive last s.place found before (keeps_to f archive s (ReportRead r) next)
         (some (report (report_at f archive tables s r next))) slots
-        (checked_slots f archive tables slots s (ReportRead r) next (eqb found.number 0))
-        (record_checked f archive tables slots s (ReportRead r) next (eqb found.number 0))
+        (checked_slots f archive tables slots s (ReportRead r) next (is_none found))
+        (record_checked f archive tables slots s (ReportRead r) next (is_none found))
     of_report r k =
         let ls = report_lookups f archive r next in
         let provider = provider_item (provider_of s) in
@@ -231,13 +231,13 @@ record_counted f archive fits last few bytes tables s opens small inside low her
         (λ z. rw (uses, bad) (c.outcome before (told z))) told (λ z. rw uses (c.counted before (told z))) c.kept refl)
 
     plain : (keeps : Bool) (item : Option Item) (words : ℕ) → item_uses item ≡ [] → item_unresolved item ≡ false → (keeps ≡ true → words ≡ item_words item)
-        → RecordCounted f archive last s.place found before keeps item slots (pick keeps slots slots) (pick keeps (counts 0 words) (counts 10 0))
+        → RecordCounted f archive last s.place found before keeps item slots (pick keeps slots slots) (pick keeps (Ok words) (Err Loss))
     plain keeps item words = λ a b c. plain-counted f archive last few s.place found before slots keeps item words told a b c
 
     go : (c : Content) → (record_at f archive s.place).content ≡ c → ContentShort c → ContentInside s.place next c
         → RecordCounted f archive last s.place found before (keeps_to f archive s c next) (item_at f archive tables s c next) slots
-        (checked_slots f archive (tables_after f tables s c) slots s c next (eqb found.number 0))
-        (record_checked f archive (tables_after f tables s c) slots s c next (eqb found.number 0))
+        (checked_slots f archive (tables_after f tables s c) slots s c next (is_none found))
+        (record_checked f archive (tables_after f tables s c) slots s c next (is_none found))
     go (Refused number) k b i = plain false none 0 refl refl (λ e. refl)
     go Magic k b i = plain true (plain_item archive Magic) 1 refl refl (λ e. refl)
     go (ProviderInfo id at long) k b i =

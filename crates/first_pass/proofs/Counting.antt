@@ -4,17 +4,17 @@
 use Prim.Native.Nat.{ℕ, zero, suc, ◌+◌, ◌*◌, ◌/◌, ◌≤◌, ◌<◌}
 use mathlib.Core.Path.{◌≡◌, refl, sym, ap, subst, ◌∙◌}
 use mathlib.Core.List.{List, [], ◌∷◌, ◌++◌, append_assoc, append-nil}
-use mathlib.Core.Bool.{Bool}
+use mathlib.Core.Bool.{Bool, true, false, true≢false}
+use Rattle.std.proofs.lemmas.Bool.{false_from_ne_true}
 use mathlib.Core.Option.{Option, none, some}
 use native.Mathlib.Omega.{arith}
 use native.Mathlib.Numerals.{add-one}
-use borrow.Author.Tests.{eqb-true, eqb-false, eq-eqb, ne_eqb}
-use lib.Dec.{eqb}
+use borrow.Author.Tests.{eq-eqb, ne_eqb}
 use lib.ListN.{length, get_or, replicate}
 use Rattle.passes.specs.Models.Codes.{codes, last_from, last_of}
 use Rattle.passes.specs.Models.Last.{tables_from, tables_of}
 use Rattle.passes.specs.Models.Item.{item_at}
-use Rattle.passes.specs.Models.Follow.{after_record, tables_after}
+use Rattle.passes.specs.Models.Follow.{stop_after, state_after, tables_after}
 use Rattle.tally.specs.Models.Tally.{Wide, Tallies}
 use Rattle.records.specs.Models.Fixed.{fixed_words}
 use Rattle.words.proofs.Words.{AllBytes}
@@ -41,12 +41,12 @@ use Rattle.passes.proofs.Last.{tables_open, tables_turn, tables_stop, tables_end
 use Rattle.passes.proofs.Turns.{run_turn, run_end, turn_state, turn_tables_step, turn_sound, turn_place, turn_tables}
 use Rattle.passes.proofs.Codes.{last_sound, last_context}
 use Rattle.format.specs.Limits.{longest_archive}
-use Rattle.first_pass.specs.declared.Counted.{Counted}
-use Rattle.first_pass.specs.declared.Finding.{Finding}
-use Rattle.first_pass.specs.Models.Count.{record_checked, checked_slots}
-use Rattle.first_pass.specs.Models.Found.{lowest_of, concluded, CountIs}
+use Rattle.std.specs.Prelude.{Some, None, is_none, is_ok}
+use Rattle.std.specs.Result.{result_unwrap_or}
+use Rattle.first_pass.specs.Models.Count.{Counted, record_checked, checked_slots}
+use Rattle.first_pass.specs.Models.Found.{Finding, lowest_of, concluded, CountIs}
 use Rattle.first_pass.specs.Models.Left.{counted_from, counted_of, FreeClear, SlotsLeft}
-use Rattle.first_pass.proofs.Findings.{refusal_in, lower, lower_none, lower_clean, lower_three, or_else_none, record_refusal, run_refusal, passed-refusal, found-low, found_turn, found_clean, found_none, counted-on, counted-last, says_none, says_some}
+use Rattle.first_pass.proofs.Findings.{refusal_in, Low, lower, lower_none, lower_clean, lower_three, or_else_none, record_refusal, run_refusal, passed-refusal, found-low, found_turn, found_clean, found_none, counted-on, counted-last, says_none, says_some}
 use Rattle.first_pass.proofs.Checked.{item_words, RecordCounted, record_counted}
 use Rattle.first_pass.proofs.Kept.{SlotsKept, kept_same, kept_then, kept-wide, kept_clear}
 use Rattle.first_pass.proofs.Told.{Told, told_noted}
@@ -125,12 +125,12 @@ pub record Counting (f : Format) (archive : List ℕ) (s : State) (tables slots�
   pub items : items_of (run_of f archive) ≡ done ++ items_of (run_from f archive (suc steps) s tables)
   pub stops : stop_refusal (run_of f archive) ≡ stop_refusal (run_from f archive (suc steps) s tables)
   pub finds : run_refusal f [] (run_of f archive) ≡ lower (refusal_in found) (run_refusal f (uses_all done) (run_from f archive (suc steps) s tables))
-  pub low : found.number ≤ 12
-  pub told : found.number ≡ 0 → Told f archive (last_of f archive) slots (uses_all done)
-  pub counted : found.number ≡ 0 → words ≡ sum_by fixed_words done
+  pub low : Low found
+  pub told : is_none found ≡ true → Told f archive (last_of f archive) slots (uses_all done)
+  pub counted : is_none found ≡ true → words ≡ sum_by fixed_words done
   pub clear : FreeClear (table_words f) slots
-  pub counts-on : found.number ≡ 0 → counted_of f archive ≡ counted_from f (uses_all done) (run_from f archive (suc steps) s tables)
-  pub counts_told : (found.number ≡ 0 → ⊥) → Told f archive (last_of f archive) slots (counted_of f archive)
+  pub counts-on : is_none found ≡ true → counted_of f archive ≡ counted_from f (uses_all done) (run_from f archive (suc steps) s tables)
+  pub counts_told : is_none found ≡ false → Told f archive (last_of f archive) slots (counted_of f archive)
   pub few_words : 8 * words ≤ s.place
 
 -- ---- the start
@@ -149,7 +149,7 @@ zeros_are (suc n) (x ∷ xs) e h =
 pub counting_start : (f : Format) (archive tables slots : List ℕ) → FormatFits f → AllBytes archive → opening_number f archive (table_words f) ≡ 0
     → length tables ≡ table_words f → ((i : ℕ) → i < table_words f → get_or tables i 0 ≡ 0)
     → Wide (table_words f) slots → ((i : ℕ) → i < 3 * table_words f → get_or slots i 0 ≡ 0)
-    → Counting f archive opening tables slots slots (record { number = 0; place = 0 }) 0
+    → Counting f archive opening tables slots slots None 0
 unfolding run_of last_of
 counting_start f archive tables slots fits bytes opens long zeros wide clear =
     let fresh = zeros_are (table_words f) tables long zeros in
@@ -169,7 +169,7 @@ counting_start f archive tables slots fits bytes opens long zeros wide clear =
       items = rw (fresh, n);
       stops = rw (fresh, n);
       finds = rw (fresh, n);
-      low = omega arith;
+      low = tt;
       told = λ z. record {
         plain = tt;
         contexts = tt;
@@ -179,7 +179,7 @@ counting_start f archive tables slots fits bytes opens long zeros wide clear =
       counted = λ z. refl;
       clear = λ s low e. (clear s (omega arith), λ l. clear (table_words f + s) (omega arith));
       counts-on = λ z. rw (fresh, n);
-      counts_told = λ other. absurd (other refl);
+      counts_told = λ other. absurd (true≢false other);
       few_words = omega arith;
     }
 
@@ -216,9 +216,9 @@ module _ (f : Format) (archive : List ℕ) (s : State) (tables slots₀ slots : 
   -- where the rest of the run adds no uses, the slots are those that the pass leaves
   slots_left : counted_from f (uses_all h.done) (run_from f archive (suc h.steps) s tables) ≡ uses_all h.done → SlotsLeft f archive slots
   slots_left rest = record {
-    tally = cases (eqb found.number 0)
-        (λ e. let z = eqb-true found.number 0 e in rw (h.counts-on z ∙ rest) (h.told z).tally)
-        (λ e. (h.counts_told (eqb-false found.number 0 e)).tally);
+    tally = cases (is_none found)
+        (λ e. let z = e in rw (h.counts-on z ∙ rest) (h.told z).tally)
+        (λ e. (h.counts_told e).tally);
     free = h.clear;
   }
 
@@ -232,9 +232,9 @@ module _ (f : Format) (archive : List ℕ) (s : State) (tables slots₀ slots : 
   here : RecordCounted f archive (last_of f archive) s.place found (uses_all h.done) (keeps_at f archive s.place)
       (item_at f archive tables s (record_at f archive s.place).content (record_at f archive s.place).next) slots
       (checked_slots f archive (tables_after f tables s (record_at f archive s.place).content) slots s (record_at f archive s.place).content
-      (record_at f archive s.place).next (eqb found.number 0))
+      (record_at f archive s.place).next (is_none found))
       (record_checked f archive (tables_after f tables s (record_at f archive s.place).content) slots s (record_at f archive s.place).content
-      (record_at f archive s.place).next (eqb found.number 0))
+      (record_at f archive s.place).next (is_none found))
   here =
       record_counted f archive h.fits (last_of f archive) (rw h.last at (last_sound f archive (suc h.steps) s tables h.sound).1.count) h.bytes tables s
       h.opens counting_short h.sound.before (omega (arith, h.sound.current, h.sound.count))
@@ -242,18 +242,18 @@ module _ (f : Format) (archive : List ℕ) (s : State) (tables slots₀ slots : 
 
   module _ (more : s.place < length archive) where
     -- a run whose record goes on
-    goes_on : (after_record s (record_at f archive s.place).content (record_at f archive s.place).next).number ≡ 0 → (steps : ℕ)
+    goes_on : (stop_after s (record_at f archive s.place).content (record_at f archive s.place).next) ≡ 0 → (steps : ℕ)
         → run_from f archive (suc steps) s tables
         ≡ passed s.place (keeps_at f archive s.place)
         (item_at f archive tables s (record_at f archive s.place).content (record_at f archive s.place).next)
-        (run_from f archive steps (after_record s (record_at f archive s.place).content (record_at f archive s.place).next).state
+        (run_from f archive steps (state_after s (record_at f archive s.place).content (record_at f archive s.place).next)
         (tables_after f tables s (record_at f archive s.place).content))
     goes_on goes steps =
         run_turn f archive tables s h.sound h.opens more steps
-        ∙ rw (eq-eqb (after_record s (record_at f archive s.place).content (record_at f archive s.place).next).number 0 goes)
+        ∙ rw (eq-eqb (stop_after s (record_at f archive s.place).content (record_at f archive s.place).next) 0 goes)
 
     -- the item that the record shows is the one that the step shows
-    item_shown : (after_record s (record_at f archive s.place).content (record_at f archive s.place).next).number ≡ 0
+    item_shown : (stop_after s (record_at f archive s.place).content (record_at f archive s.place).next) ≡ 0
         → item_of f archive (step_tables f archive tables s) (step_reply f archive tables s).state (step_reply f archive tables s).answer
         ≡ item_at f archive tables s (record_at f archive s.place).content (record_at f archive s.place).next
     unfolding run_from
@@ -269,7 +269,7 @@ module _ (f : Format) (archive : List ℕ) (s : State) (tables slots₀ slots : 
             (ended 0 (step_reply f archive tables s).state.place))
             ≡ passed s.place (keeps_at f archive s.place)
             (item_at f archive tables s (record_at f archive s.place).content (record_at f archive s.place).next)
-            (ended 0 (after_record s (record_at f archive s.place).content (record_at f archive s.place).next).state.place)
+            (ended 0 (state_after s (record_at f archive s.place).content (record_at f archive s.place).next).place)
             → item_of f archive (step_tables f archive tables s) (step_reply f archive tables s).state answer
             ≡ item_at f archive tables s (record_at f archive s.place).content (record_at f archive s.place).next
         go (End number place) e = let z : ◌≡◌ {A = ℕ} 0 1 = cc in absurd (omega arith)
@@ -283,7 +283,7 @@ module _ (f : Format) (archive : List ℕ) (s : State) (tables slots₀ slots : 
         go (SkippedShown type size) e = same e
 
     -- so its words stand in the record
-    item_words_lem : (after_record s (record_at f archive s.place).content (record_at f archive s.place).next).number ≡ 0
+    item_words_lem : (stop_after s (record_at f archive s.place).content (record_at f archive s.place).next) ≡ 0
         → s.place + 8 * item_words (item_at f archive tables s (record_at f archive s.place).content (record_at f archive s.place).next)
         ≤ (record_at f archive s.place).next
     item_words_lem goes =
@@ -299,23 +299,23 @@ module _ (f : Format) (archive : List ℕ) (s : State) (tables slots₀ slots : 
         go (some i) is at behind = omega (arith, at, fixed_words-low f archive s tables i h.sound is)
 
     -- and with them all words counted up to it stand in the archive
-    pub counting_words : (after_record s (record_at f archive s.place).content (record_at f archive s.place).next).number ≡ 0
+    pub counting_words : (stop_after s (record_at f archive s.place).content (record_at f archive s.place).next) ≡ 0
         → 8 * (words
-        + (record_checked f archive (tables_after f tables s (record_at f archive s.place).content) slots s (record_at f archive s.place).content
-        (record_at f archive s.place).next (eqb found.number 0)).words) ≤ (record_at f archive s.place).next
+        + result_unwrap_or (record_checked f archive (tables_after f tables s (record_at f archive s.place).content) slots s (record_at f archive s.place).content
+        (record_at f archive s.place).next (is_none found)) 0) ≤ (record_at f archive s.place).next
     counting_words goes = omega (arith, here.few_words, h.few_words, item_words_lem goes)
 
     -- behind a record that goes on it holds again
-    pub counting_turn : (after_record s (record_at f archive s.place).content (record_at f archive s.place).next).number ≡ 0
-        → Counting f archive (after_record s (record_at f archive s.place).content (record_at f archive s.place).next).state
+    pub counting_turn : (stop_after s (record_at f archive s.place).content (record_at f archive s.place).next) ≡ 0
+        → Counting f archive (state_after s (record_at f archive s.place).content (record_at f archive s.place).next)
         (tables_after f tables s (record_at f archive s.place).content) slots₀
         (checked_slots f archive (tables_after f tables s (record_at f archive s.place).content) slots s (record_at f archive s.place).content
-        (record_at f archive s.place).next (eqb found.number 0))
+        (record_at f archive s.place).next (is_none found))
         (lowest_of found (record_checked f archive (tables_after f tables s (record_at f archive s.place).content) slots s (record_at f archive s.place).content
-        (record_at f archive s.place).next (eqb found.number 0)).number s.place)
+        (record_at f archive s.place).next (is_none found)) s.place)
         (words
-        + (record_checked f archive (tables_after f tables s (record_at f archive s.place).content) slots s (record_at f archive s.place).content
-        (record_at f archive s.place).next (eqb found.number 0)).words)
+        + result_unwrap_or (record_checked f archive (tables_after f tables s (record_at f archive s.place).content) slots s (record_at f archive s.place).content
+        (record_at f archive s.place).next (is_none found)) 0)
     unfolding last_from
     counting_turn goes =
         go h.steps h.enough h.last h.last_tables h.items h.stops h.finds h.counts-on
@@ -324,16 +324,16 @@ module _ (f : Format) (archive : List ℕ) (s : State) (tables slots₀ slots : 
         next = (record_at f archive s.place).next
 
         s' : State
-        s' = (after_record s (record_at f archive s.place).content next).state
+        s' = (state_after s (record_at f archive s.place).content next)
 
         tables' : List ℕ
         tables' = tables_after f tables s (record_at f archive s.place).content
 
         slots' : List ℕ
-        slots' = checked_slots f archive tables' slots s (record_at f archive s.place).content next (eqb found.number 0)
+        slots' = checked_slots f archive tables' slots s (record_at f archive s.place).content next (is_none found)
 
         counted : Counted
-        counted = record_checked f archive tables' slots s (record_at f archive s.place).content next (eqb found.number 0)
+        counted = record_checked f archive tables' slots s (record_at f archive s.place).content next (is_none found)
 
         item : Option Item
         item = item_at f archive tables s (record_at f archive s.place).content next
@@ -348,7 +348,7 @@ module _ (f : Format) (archive : List ℕ) (s : State) (tables slots₀ slots : 
         before = uses_all h.done
 
         found' : Finding
-        found' = lowest_of found counted.number s.place
+        found' = lowest_of found counted s.place
 
         done' : List Item
         done' = h.done ++ shown item
@@ -356,16 +356,16 @@ module _ (f : Format) (archive : List ℕ) (s : State) (tables slots₀ slots : 
         uses_are : uses_all done' ≡ before ++ item_uses item
         uses_are = uses_both h.done (shown item) ∙ ap (λ (l : List Use). before ++ l) (shown_uses item)
 
-        clean : found'.number ≡ 0 → (found.number ≡ 0) × (counted.number ≡ 0)
-        clean = found_clean found counted.number s.place
+        clean : is_none found' ≡ true → (is_none found ≡ true) × (is_ok counted ≡ true)
+        clean = found_clean found counted s.place
 
         go : (steps : ℕ) → length archive < s.place + 8 * suc steps → last_from f archive (suc steps) s tables ≡ last_of f archive
             → tables_from f archive (suc steps) s tables ≡ tables_of f archive
             → items_of (run_of f archive) ≡ h.done ++ items_of (run_from f archive (suc steps) s tables)
             → stop_refusal (run_of f archive) ≡ stop_refusal (run_from f archive (suc steps) s tables)
             → run_refusal f [] (run_of f archive) ≡ lower (refusal_in found) (run_refusal f before (run_from f archive (suc steps) s tables))
-            → (found.number ≡ 0 → counted_of f archive ≡ counted_from f before (run_from f archive (suc steps) s tables))
-            → Counting f archive s' tables' slots₀ slots' found' (words + counted.words)
+            → (is_none found ≡ true → counted_of f archive ≡ counted_from f before (run_from f archive (suc steps) s tables))
+            → Counting f archive s' tables' slots₀ slots' found' (words + result_unwrap_or counted 0)
         go zero enough last stand items stops finds on = absurd (omega (arith, enough, place_is))
         go (suc steps) enough last stand items stops finds on =
             let rest = run_from f archive (suc steps) s' tables' in
@@ -391,29 +391,29 @@ module _ (f : Format) (archive : List ℕ) (s : State) (tables slots₀ slots : 
                   ∙ (ap (lower (refusal_in found)) (passed-refusal f before s.place keeps item rest)
                   ∙ (lower_three (refusal_in found) (record_refusal f keeps item (before ++ item_uses item) s.place) (run_refusal f (before ++ item_uses item) rest)
                   ∙ (ap (λ (x : Option Refusal). lower x (run_refusal f (before ++ item_uses item) rest))
-                  (found_turn found counted.number s.place (record_refusal f keeps item (before ++ item_uses item) s.place) h.low here.says)
+                  (found_turn found counted s.place (record_refusal f keeps item (before ++ item_uses item) s.place) h.low here.says)
                   ∙ ap (λ (l : List Use). lower (refusal_in found') (run_refusal f l rest)) (sym uses_are)))));
-              low = found-low found counted.number s.place h.low here.says.low;
+              low = found-low found counted s.place h.low here.says.low;
               told = λ z. rw uses_are (here.told (clean z).0 (clean z).1);
               counted = λ z.
                   let own = here.words (clean z).0 (clean z).1 in
                   omega (arith, own, h.counted (clean z).0, sum-append fixed_words h.done (shown item), shown_words item);
               clear = kept_clear here.kept h.wide h.clear;
               counts-on = λ z.
-                  let none-added = says_none found counted.number s.place _ (clean z).0 here.says (clean z).1 in
+                  let none-added = says_none found counted s.place _ (clean z).0 here.says (clean z).1 in
                   on (clean z).0
                   ∙ (ap (counted_from f before) run
                   ∙ (counted-on f before s.place keeps item rest none-added
                   ∙ ap (λ (l : List Use). counted_from f l rest) (sym uses_are)));
               counts_told = λ other.
-                  cases (eqb found.number 0)
-                  (λ e. let z = eqb-true found.number 0 e in
-                  let some_number : counted.number ≡ 0 → ⊥ = λ q. other (found_none found counted.number s.place z q) in
+                  cases (is_none found)
+                  (λ e. let z = e in
+                  let some_number : is_ok counted ≡ false = false_from_ne_true (is_ok counted) (λ q. true≢false (sym (found_none found counted s.place z q) ∙ other)) in
                   rw (on z
                   ∙ (ap (counted_from f before) run
-                  ∙ counted-last f before s.place keeps item rest (says_some found counted.number s.place _ z here.says some_number)))
+                  ∙ counted-last f before s.place keeps item rest (says_some found counted s.place _ z here.says some_number)))
                   (here.tells_of z))
-                  (λ e. let n = eqb-false found.number 0 e in
+                  (λ e. let n = e in
                   subst (λ (l : List ℕ). Told f archive (last_of f archive) l (counted_of f archive)) (sym (here.rests n)) (h.counts_told n));
               few_words = omega (arith, counting_words goes, place_is);
             }
@@ -421,25 +421,25 @@ module _ (f : Format) (archive : List ℕ) (s : State) (tables slots₀ slots : 
     -- ---- a record that stops the pass
 
     -- the archive is refused by its number, at its place
-    pub counting_stop : ((after_record s (record_at f archive s.place).content (record_at f archive s.place).next).number ≡ 0 → ⊥)
+    pub counting_stop : ((stop_after s (record_at f archive s.place).content (record_at f archive s.place).next) ≡ 0 → ⊥)
         → refusal_of f (run_of f archive)
-        ≡ some (refusal (after_record s (record_at f archive s.place).content (record_at f archive s.place).next).number s.place)
+        ≡ some (refusal (stop_after s (record_at f archive s.place).content (record_at f archive s.place).next) s.place)
     unfolding refusal_of
     counting_stop stop =
-        let test = ne_eqb (after_record s (record_at f archive s.place).content (record_at f archive s.place).next).number 0 stop in
+        let test = ne_eqb (stop_after s (record_at f archive s.place).content (record_at f archive s.place).next) 0 stop in
         let run = run_turn f archive tables s h.sound h.opens more h.steps in
         rw (h.stops ∙ ap stop_refusal run, test, test)
 
     -- the slots are those that the pass leaves
-    pub stop_slots : ((after_record s (record_at f archive s.place).content (record_at f archive s.place).next).number ≡ 0 → ⊥)
+    pub stop_slots : ((stop_after s (record_at f archive s.place).content (record_at f archive s.place).next) ≡ 0 → ⊥)
         → SlotsLeft f archive slots
     unfolding counted_from
     stop_slots stop =
-        let test = ne_eqb (after_record s (record_at f archive s.place).content (record_at f archive s.place).next).number 0 stop in
+        let test = ne_eqb (stop_after s (record_at f archive s.place).content (record_at f archive s.place).next) 0 stop in
         slots_left (rw (run_turn f archive tables s h.sound h.opens more h.steps, test))
 
     -- and the tables that it is followed in are those that the pass leaves
-    pub stop_tables : ((after_record s (record_at f archive s.place).content (record_at f archive s.place).next).number ≡ 0 → ⊥)
+    pub stop_tables : ((stop_after s (record_at f archive s.place).content (record_at f archive s.place).next) ≡ 0 → ⊥)
         → tables_after f tables s (record_at f archive s.place).content ≡ tables_of f archive
     stop_tables stop = sym (tables_stop f archive tables s (suc h.steps) h.sound h.opens more stop) ∙ h.last_tables
 
@@ -463,7 +463,9 @@ module _ (f : Format) (archive : List ℕ) (s : State) (tables slots₀ slots : 
       let finds : run_refusal f [] (run_of f archive) ≡ refusal_in found =
       h.finds ∙ (ap (λ (r : Run). lower (refusal_in found) (run_refusal f (uses_all h.done) r)) run ∙ lower_none (refusal_in found)) in
       let items : items_of (run_of f archive) ≡ h.done = h.items ∙ (ap (λ (r : Run). h.done ++ items_of r) run ∙ append-nil h.done) in
-      cases (eqb found.number 0)
-      (λ e. let z = eqb-true found.number 0 e in
-      rw e (rw stops (finds ∙ rw e), rw items (h.counted z)))
-      (λ e. rw e (rw stops (finds ∙ rw e)))
+      go found stops finds (λ z. rw items (h.counted z))
+    where
+      go : (x : Finding) → stop_refusal (run_of f archive) ≡ none → run_refusal f [] (run_of f archive) ≡ refusal_in x
+          → (is_none x ≡ true → words ≡ sum_by fixed_words (items_of (run_of f archive))) → CountIs f archive (concluded x words)
+      go None stops finds counted = (rw stops finds, counted refl)
+      go (Some refused) stops finds counted = rw stops finds

@@ -60,7 +60,7 @@ counts_both f archive last slots us vs bad good bad' good' slots' slots'' first 
 -- a word that is remembered keeps what slots must keep
 pub kept-noted : (f : Format) (slots after : List ℕ) → Noted f slots after → SlotsKept f slots after
 kept-noted f slots after (inl e) = rw e (kept_same f slots)
-kept-noted f slots after (inr (entry, word, low, e)) = rw e (remembering-kept f slots entry word low)
+kept-noted f slots after (inr (entry, slot, low, e)) = rw e (remembering-kept f slots entry slot low)
 
 -- some uses, and then a word that is remembered
 counts-noted : (f : Format) (archive : List ℕ) (last : State) (slots : List ℕ) (us : List Use) (bad good : Bool) (slots' after : List ℕ)

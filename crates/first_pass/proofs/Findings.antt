@@ -3,26 +3,51 @@
 use Prim.Native.Nat.{ℕ, ◌≤◌}
 use mathlib.Core.Path.{◌≡◌, refl, sym, ap, ◌∙◌}
 use mathlib.Core.List.{List, ◌++◌}
-use mathlib.Core.Bool.{Bool, true, false, ◌||◌}
+use mathlib.Core.Bool.{Bool, true, false, not, ◌||◌, true≢false}
 use mathlib.Core.Option.{Option, none, some}
 use mathlib.Core.Logic.{◌⊎◌, inl, inr}
 use native.Mathlib.Omega.{arith}
-use borrow.Author.Tests.{lt-ltb, le-ltb, ltb-true, ltb-false, eq-eqb, ne_eqb, eqb-true, eqb-false}
-use lib.Dec.{eqb, ltb}
+use borrow.Author.Tests.{lt-ltb, le-ltb, ltb-true, ltb-false}
+use lib.Dec.{ltb}
 use Rattle.words.specs.Word.{pick}
 use Rattle.words.proofs.Tests.{on-pick, cases}
 use Rattle.format.specs.declared.Format.{Format}
 use Rattle.records.specs.Item.{Item, Use}
 use Rattle.rule.specs.Refusal.{Run, ended, passed, Refusal, refusal, or_else, loss_refusal, item_unresolved, unresolved_refusal, passes_limit, item_uses, limit_refusal}
-use Rattle.first_pass.specs.declared.Finding.{Finding}
-use Rattle.first_pass.specs.Models.Found.{lowest_of}
+use Rattle.std.specs.Prelude.{Some, None, Ok, Err, is_some, is_none, is_ok}
+use Rattle.format.specs.Limits.{number_of}
+use Rattle.first_pass.specs.Models.Count.{Counted}
+use Rattle.first_pass.specs.Models.Found.{Finding, lowest_of}
 use Rattle.first_pass.specs.Models.Left.{counted_uses, counted_from}
+
+-- the number of what is found at a record, or 0 where nothing is
+abbrev pub number_or_zero : Counted → ℕ
+number_or_zero (Ok words) = 0
+number_or_zero (Err reason) = number_of reason
 
 -- ---- the lower of two refusals
 
--- what was found, as a refusal: none by the number 0
+-- what was found, as a refusal
 abbrev pub refusal_in : Finding → Option Refusal
-refusal_in found = pick (eqb found.number 0) none (some (refusal found.number found.place))
+refusal_in None = none
+refusal_in (Some refused) = some (refusal refused.number refused.place)
+
+-- what is found at a place, as a refusal
+abbrev pub refusal_at : Counted → ℕ → Option Refusal
+refusal_at (Ok words) place = none
+refusal_at (Err reason) place = some (refusal (number_of reason) place)
+
+-- a test that says whether nothing was found
+pub clean_is : (found : Finding) (clean : Bool) → is_some found ≡ not clean → clean ≡ is_none found
+clean_is None true e = refl
+clean_is None false e = absurd (true≢false (sym e))
+clean_is (Some refused) true e = absurd (true≢false e)
+clean_is (Some refused) false e = refl
+
+-- what was found has at most the number 12
+abbrev pub Low : Finding → Type 0
+Low None = Unit {0}
+Low (Some refused) = refused.number ≤ 12
 
 -- the refusal with the lower number, and of equal ones the first
 abbrev pub lower : Option Refusal → Option Refusal → Option Refusal
@@ -64,13 +89,13 @@ lower_three (some (refusal n p)) (some (refusal m q)) (some (refusal k r)) =
     (λ d. rw (e, d, e, le-ltb k n (omega (arith, ltb-false m n e, ltb-false k m d)))))
 
 -- the lower finding is the lower refusal
-lower_found : (found : Finding) (number place : ℕ)
-    → refusal_in (lowest_of found number place) ≡ lower (refusal_in found) (refusal_in (record { number = number; place = place }))
+lower_found : (found : Finding) (counted : Counted) (place : ℕ)
+    → refusal_in (lowest_of found counted place) ≡ lower (refusal_in found) (refusal_at counted place)
 unfolding lowest_of
-lower_found found number place =
-    cases (eqb number 0) (λ e. rw e (sym (lower_none (refusal_in found))))
-    (λ e. cases (eqb found.number 0) (λ d. rw (e, d, e))
-    (λ d. cases (ltb number found.number) (λ l. rw (e, d, l, e)) (λ l. rw (e, d, l, d))))
+lower_found found (Ok words) place = sym (lower_none (refusal_in found))
+lower_found None (Err reason) place = refl
+lower_found (Some earlier) (Err reason) place =
+    cases (ltb (number_of reason) earlier.number) (λ l. rw l) (λ l. rw l)
 
 -- ---- one record
 
@@ -135,43 +160,45 @@ passed-refusal f before place keeps item run =
     first_then place keeps (item_unresolved item) (passes_limit f uses uses) (loss_refusal run) (unresolved_refusal run) (limit_refusal f uses run) (loss_ten run)
     (unresolved_eleven run) (limit_twelve f uses run)
 
--- a number that says what a record adds; once something was found, number 12 need not be told
-pub record Says (found : Finding) (number place : ℕ) (own : Option Refusal) : Type 0 where
-  pub low : number ≤ 12
-  pub tells : (own ≡ refusal_in (record { number = number; place = place })) ⊎ ((found.number ≡ 0 → ⊥) × (number ≡ 0) × (own ≡ some (refusal 12 place)))
+-- what is counted says what a record adds; once something was found, number 12 need not be told
+pub record Says (found : Finding) (counted : Counted) (place : ℕ) (own : Option Refusal) : Type 0 where
+  pub low : number_or_zero counted ≤ 12
+  pub tells : (own ≡ refusal_at counted place) ⊎ ((is_none found ≡ false) × (is_ok counted ≡ true) × (own ≡ some (refusal 12 place)))
 
 -- what was found stays one of these numbers
-pub found-low : (found : Finding) (number place : ℕ) → found.number ≤ 12 → number ≤ 12 → (lowest_of found number place).number ≤ 12
+pub found-low : (found : Finding) (counted : Counted) (place : ℕ) → Low found → number_or_zero counted ≤ 12 → Low (lowest_of found counted place)
 unfolding lowest_of
-found-low found number place h k =
-    on-pick P (eqb number 0) _ _ (λ e. h)
-    (λ e. on-pick P (eqb found.number 0) _ _ (λ e. k) (λ e. on-pick P (ltb number found.number) _ _ (λ e. k) (λ e. h)))
-  where
-    P : Finding → Type 0
-    P x = x.number ≤ 12
+found-low found (Ok words) place h k = h
+found-low None (Err reason) place h k = k
+found-low (Some earlier) (Err reason) place h k = on-pick Low (ltb (number_of reason) earlier.number) _ _ (λ e. k) (λ e. h)
+
+-- a use over the limits adds nothing to what was found before
+late : (found : Finding) (counted : Counted) (place : ℕ) → Low found → is_none found ≡ false → is_ok counted ≡ true
+    → lower (refusal_in found) (some (refusal 12 place)) ≡ refusal_in (lowest_of found counted place)
+unfolding lowest_of
+late None counted place low before passes = absurd (true≢false before)
+late (Some earlier) (Err reason) place low before passes = absurd (true≢false (sym passes))
+late (Some earlier) (Ok words) place low before passes = rw (le-ltb 12 earlier.number low)
 
 -- and is the lower one of what was found before and what the record adds
-pub found_turn : (found : Finding) (number place : ℕ) (own : Option Refusal) → found.number ≤ 12 → Says found number place own
-    → lower (refusal_in found) own ≡ refusal_in (lowest_of found number place)
-found_turn found number place own low says = go says.tells
+pub found_turn : (found : Finding) (counted : Counted) (place : ℕ) (own : Option Refusal) → Low found → Says found counted place own
+    → lower (refusal_in found) own ≡ refusal_in (lowest_of found counted place)
+found_turn found counted place own low says = go says.tells
   where
-    go : (own ≡ refusal_in (record { number = number; place = place })) ⊎ ((found.number ≡ 0 → ⊥) × (number ≡ 0) × (own ≡ some (refusal 12 place)))
-        → lower (refusal_in found) own ≡ refusal_in (lowest_of found number place)
-    go (inl e) = ap (lower (refusal_in found)) e ∙ sym (lower_found found number place)
-    go (inr (before, zero_is, own_is)) =
-        let n = ne_eqb found.number 0 before in
-        let same : refusal_in (lowest_of found number place) ≡ refusal_in found =
-        lower_found found number place ∙ rw (eq-eqb number 0 zero_is) (lower_none (refusal_in found)) in
-        rw (own_is, same, n, le-ltb 12 found.number low)
+    go : (own ≡ refusal_at counted place) ⊎ ((is_none found ≡ false) × (is_ok counted ≡ true) × (own ≡ some (refusal 12 place)))
+        → lower (refusal_in found) own ≡ refusal_in (lowest_of found counted place)
+    go (inl e) = ap (lower (refusal_in found)) e ∙ sym (lower_found found counted place)
+    go (inr (before, passes, own_is)) = ap (lower (refusal_in found)) own_is ∙ late found counted place low before passes
 
 -- where nothing is found after a record, nothing was found before it, nor in it
-pub found_clean : (found : Finding) (number place : ℕ) → (lowest_of found number place).number ≡ 0 → (found.number ≡ 0) × (number ≡ 0)
+pub found_clean : (found : Finding) (counted : Counted) (place : ℕ) → is_none (lowest_of found counted place) ≡ true
+    → (is_none found ≡ true) × (is_ok counted ≡ true)
 unfolding lowest_of
-found_clean found number place =
-    cases (eqb number 0) (λ e. rw e (λ z. (z, eqb-true number 0 e)))
-    (λ e. let n = eqb-false number 0 e in
-    cases (eqb found.number 0) (λ d. rw (e, d) (λ z. absurd (n z)))
-    (λ d. cases (ltb number found.number) (λ l. rw (e, d, l) (λ z. absurd (n z))) (λ l. rw (e, d, l) (λ z. absurd (eqb-false found.number 0 d z)))))
+found_clean found (Ok words) place e = (e, refl)
+found_clean None (Err reason) place e = absurd (true≢false (sym e))
+found_clean (Some earlier) (Err reason) place e =
+    on-pick (λ (x : Finding). is_none x ≡ true → (◌≡◌ {A = Bool} false true) × (◌≡◌ {A = Bool} false true)) (ltb (number_of reason) earlier.number) _ _
+    (λ l q. absurd (true≢false (sym q))) (λ l q. absurd (true≢false (sym q))) e
 
 -- ---- the uses that are counted
 
@@ -204,29 +231,37 @@ module _ (f : Format) (uses : List Use) (place : ℕ) (keeps : Bool) (item : Opt
       go true true l n = refl
       go false u l n = refl
 
--- where nothing was found before a record, it adds nothing if its number is 0
-pub says_none : (found : Finding) (number place : ℕ) (own : Option Refusal) → found.number ≡ 0 → Says found number place own → number ≡ 0
-    → own ≡ none
-says_none found number place own before says zero_is = go says.tells
+-- where nothing was found before a record, it adds nothing if it passes
+pub says_none : (found : Finding) (counted : Counted) (place : ℕ) (own : Option Refusal) → is_none found ≡ true → Says found counted place own
+    → is_ok counted ≡ true → own ≡ none
+says_none found counted place own before says passes = go says.tells
   where
-    go : (own ≡ refusal_in (record { number = number; place = place })) ⊎ ((found.number ≡ 0 → ⊥) × (number ≡ 0) × (own ≡ some (refusal 12 place)))
-        → own ≡ none
-    go (inl e) = e ∙ rw (eq-eqb number 0 zero_is)
-    go (inr (n, _, _)) = absurd (n before)
+    nothing : (counted : Counted) → is_ok counted ≡ true → refusal_at counted place ≡ none
+    nothing (Ok words) e = refl
+    nothing (Err reason) e = absurd (true≢false (sym e))
 
--- and something if it is not
-pub says_some : (found : Finding) (number place : ℕ) (own : Option Refusal) → found.number ≡ 0 → Says found number place own → (number ≡ 0 → ⊥)
-    → own ≡ none → ⊥
-says_some found number place own before says other none_is = go says.tells
+    go : (own ≡ refusal_at counted place) ⊎ ((is_none found ≡ false) × (is_ok counted ≡ true) × (own ≡ some (refusal 12 place)))
+        → own ≡ none
+    go (inl e) = e ∙ nothing counted passes
+    go (inr (n, _, _)) = absurd (true≢false (sym before ∙ n))
+
+-- and something if it does not
+pub says_some : (found : Finding) (counted : Counted) (place : ℕ) (own : Option Refusal) → is_none found ≡ true → Says found counted place own
+    → is_ok counted ≡ false → own ≡ none → ⊥
+says_some found counted place own before says refused none_is = go says.tells
   where
-    go : (own ≡ refusal_in (record { number = number; place = place })) ⊎ ((found.number ≡ 0 → ⊥) × (number ≡ 0) × (own ≡ some (refusal 12 place)))
+    something : (counted : Counted) → is_ok counted ≡ false → refusal_at counted place ≡ none → ⊥
+    something (Ok words) e q = true≢false e
+    something (Err reason) e q = let z : ◌≡◌ {A = ℕ} 0 1 = cc in omega arith
+
+    go : (own ≡ refusal_at counted place) ⊎ ((is_none found ≡ false) × (is_ok counted ≡ true) × (own ≡ some (refusal 12 place)))
         → ⊥
-    go (inl e) =
-        let is : own ≡ some (refusal number place) = e ∙ rw (ne_eqb number 0 other) in
-        let z : ◌≡◌ {A = ℕ} 0 1 = cc in omega arith
-    go (inr (n, _, _)) = absurd (n before)
+    go (inl e) = something counted refused (sym e ∙ none_is)
+    go (inr (n, _, _)) = true≢false (sym before ∙ n)
 
 -- where nothing is found up to a record, nor in it, nothing is found
-pub found_none : (found : Finding) (number place : ℕ) → found.number ≡ 0 → number ≡ 0 → (lowest_of found number place).number ≡ 0
+pub found_none : (found : Finding) (counted : Counted) (place : ℕ) → is_none found ≡ true → is_ok counted ≡ true
+    → is_none (lowest_of found counted place) ≡ true
 unfolding lowest_of
-found_none found number place before zero_is = rw (eq-eqb number 0 zero_is) before
+found_none found (Ok words) place before passes = before
+found_none found (Err reason) place before passes = absurd (true≢false (sym passes))

@@ -1,6 +1,7 @@
 -- Counting a use changes only the words of the tally: the slots keep their number, free ones all their words, and so does what stands
 -- behind the three stretches.
 -- Assumes nothing.
+use Rattle.std.specs.Prelude.{Option}
 use Prim.Native.Nat.{ℕ, ◌+◌, ◌-◌, ◌*◌, ◌/◌, ◌<◌}
 use mathlib.Core.Path.{◌≡◌, refl, sym, ap, ◌∙◌}
 use mathlib.Core.List.{List}
@@ -14,7 +15,7 @@ use Rattle.words.proofs.Tests.{cases}
 use Rattle.tally.specs.declared.Slot.{Slot}
 use Rattle.tally.specs.declared.Slot.TheVariants.{Here, Free, Full}
 use Rattle.tally.specs.Models.Tally.{Wide}
-use Rattle.tally.specs.Models.Slots.{key_of, place_in, place_at, counter_at, find_of, added, filled, remembering}
+use Rattle.tally.specs.Models.Slots.{key_of, place_in, place_at, counter_at, find_of, added, filled, slot_word, remembering}
 use Rattle.tally.proofs.Frames.{filled_other, filled-place, added-length, added-behind}
 use Rattle.tally.proofs.Probing.{found-low, here_key}
 use Rattle.tally.proofs.Stays.{used_other, remembering_other}
@@ -115,15 +116,15 @@ added-kept f archive slots place label most behind small mark =
       free = λ wide. added-free archive stretch slots key place label most behind small mark wide slot refl;
     }
 
--- and so does a word that is remembered
-pub remembering-kept : (f : Format) (slots : List ℕ) (entry word : ℕ) → entry < table_words f
-    → SlotsKept f slots (remembering (table_words f) slots entry word)
-remembering-kept f slots entry word low =
+-- and so does a slot that is remembered, or none
+pub remembering-kept : (f : Format) (slots : List ℕ) (entry : ℕ) (slot : Option ℕ) → entry < table_words f
+    → SlotsKept f slots (remembering (table_words f) slots entry slot)
+remembering-kept f slots entry slot low =
     let stretch = table_words f in
     record {
-      long = length-set slots (2 * stretch + entry) word;
-      behind = drop-set-lt (3 * stretch) slots (2 * stretch + entry) word (omega arith);
+      long = length-set slots (2 * stretch + entry) (slot_word slot);
+      behind = drop-set-lt (3 * stretch) slots (2 * stretch + entry) (slot_word slot) (omega arith);
       free = λ wide s below e.
-          let first = remembering_other stretch slots entry word s (omega arith) in
-          (ap place_in (sym first) ∙ e, first, λ l. remembering_other stretch slots entry word (stretch + s) (omega arith));
+          let first = remembering_other stretch slots entry slot s (omega arith) in
+          (ap place_in (sym first) ∙ e, first, λ l. remembering_other stretch slots entry slot (stretch + s) (omega arith));
     }

@@ -1,5 +1,6 @@
 -- Laws of the first pass that the code's proofs go by: the room taken apart, references counted one after the other, the walks over arguments,
 -- and records that refer to nothing. Assumes nothing.
+use Rattle.std.specs.Prelude.{Some}
 use Prim.Native.Nat.{ℕ, zero, suc, ◌+◌, ◌-◌, ◌*◌, ◌/◌, ◌≤◌, ◌<◌}
 use mathlib.Core.Path.{◌≡◌, refl, sym, ap, subst, ◌∙◌}
 use mathlib.Core.List.{List, [], ◌∷◌, ◌++◌}
@@ -11,7 +12,7 @@ use lib.Dec.{eqb, ltb}
 use lib.ListN.{length, take, drop, length-append, length-drop, take-append-drop}
 use lib.Seq.{length-take-le, take_at, drop_at}
 use Rattle.records.specs.Models.Bounds.{ContentInside}
-use Rattle.arguments.specs.Models.Reading.{texts_of}
+use Rattle.arguments.specs.Models.Reading.{texts, texts_of}
 use Rattle.format.specs.Models.Bounds.{Inside}
 use Rattle.format.specs.declared.Format.{Format}
 use Rattle.words.specs.Word.{word_at}
@@ -25,10 +26,10 @@ use Rattle.arguments.specs.declared.Value.{Value}
 use Rattle.arguments.specs.declared.Value.TheVariants.{Scalar as ScalarValue, Text}
 use Rattle.arguments.specs.declared.Argument.{Argument}
 use Rattle.arguments.specs.declared.Argued.{Argued}
-use Rattle.arguments.specs.declared.Argued.TheVariants.{Refused, Argument as Read}
+use Rattle.format.specs.declared.Reason.{Reason}
+use Rattle.std.specs.Prelude.{Result, Ok, Err}
 use Rattle.arguments.specs.declared.Texts.{Texts}
-use Rattle.arguments.specs.declared.Texts.TheVariants.{Refused as TextsRefused, Texts as TextsRead}
-use Rattle.arguments.specs.Argument.{argument_type, scalar_words, argument_of, on_argued, text_in, arguments_read}
+use Rattle.arguments.specs.Argument.{argument_type, scalar_words, argued, argument_of, on_argued, text_in, arguments_read}
 use Rattle.arguments.specs.Loss.{value_bytes, argument_bytes, reserved_bits, value_padding_zero, argument_keeps, arguments_keep}
 use Rattle.arguments.proofs.Arguments.{argument_read, texts_read, keep_turn}
 use Rattle.records.specs.declared.Lookup.{Lookup}
@@ -141,7 +142,7 @@ module _ (f : Format) (archive tables : List ℕ) (context until : ℕ) where
   unfolding any_unresolved
   unresolved_turn n rest place h = ap (any_unresolved f archive tables context until) (lookups_turn f n rest place h) ∙ go (texts_of f rest place)
     where
-      go : (x : Texts)
+      go : (x : Result Texts Reason)
           → any_unresolved f archive tables context until
           (on_texts x [] (λ name value size.
           text_lookup name ∷ text_lookup value ∷ argument_lookups (arguments_read f (n - 1) (drop size rest) (place + size))))
@@ -149,8 +150,8 @@ module _ (f : Format) (archive tables : List ℕ) (context until : ℕ) where
           (λ name value size. unresolved_in (resolved f archive tables context 2 until name)
           || (unresolved_in (resolved f archive tables context 2 until value)
           || any_unresolved f archive tables context until (argument_lookups (arguments_read f (n - 1) (drop size rest) (place + size)))))
-      go (TextsRefused number) = refl
-      go (TextsRead name value size) = refl
+      go (Err reason) = refl
+      go (Ok read) = refl
 
 -- ---- the words of arguments
 
@@ -179,23 +180,23 @@ unfolding arguments_read words_read
 words-few f zero rest place = omega arith
 words-few f (suc n) rest place = go (λ more at. words-few f n more at) (argument_of f rest place)
   where
-    go : ((more : List ℕ) (at : ℕ) → words_read (arguments_read f n more at) ≤ 2 * n) → (x : Argued)
-        → words_read (on_argued x (λ number. []) (λ a size. a ∷ arguments_read f n (drop size rest) (place + size))) ≤ 2 * suc n
-    go few (Refused number) = omega arith
-    go few (Read a size) = omega (arith, words_in_few a.value, few (drop size rest) (place + size))
+    go : ((more : List ℕ) (at : ℕ) → words_read (arguments_read f n more at) ≤ 2 * n) → (x : Result Argued Reason)
+        → words_read (on_argued x (λ reason. []) (λ a size. a ∷ arguments_read f n (drop size rest) (place + size))) ≤ 2 * suc n
+    go few (Err reason) = omega arith
+    go few (Ok read) = omega (arith, words_in_few read.argument.value, few (drop read.size rest) (place + read.size))
 
 -- ---- the walk that counts so many arguments
 
 -- one turn of it: the first argument, then the rest
 read_turn : (f : Format) (n : ℕ) (rest : List ℕ) (place : ℕ) → 0 < n
     → arguments_read f n rest place
-    ≡ on_argued (argument_of f rest place) (λ number. []) (λ a size. a ∷ arguments_read f (n - 1) (drop size rest) (place + size))
+    ≡ on_argued (argument_of f rest place) (λ reason. []) (λ a size. a ∷ arguments_read f (n - 1) (drop size rest) (place + size))
 unfolding arguments_read
 read_turn f zero rest place h = absurd (omega arith)
 read_turn f (suc n) rest place h = let e : suc n - 1 ≡ n = omega arith in rw e
 
 -- where all arguments lose nothing, the first of them does not, nor do those behind it
-kept_turn : (f : Format) (n : ℕ) (rest : List ℕ) (place : ℕ) (a : Argument) (size : ℕ) → 0 < n → argument_of f rest place ≡ Read a size
+kept_turn : (f : Format) (n : ℕ) (rest : List ℕ) (place : ℕ) (a : Argument) (size : ℕ) → 0 < n → argument_of f rest place ≡ argued a size
     → AllKept f n rest place → (argument_keeps f rest place a size ≡ true) × AllKept f (n - 1) (drop size rest) (place + size)
 kept_turn f n rest place a size h e (extra, k) =
     let turn = rw (keep_turn f n rest place extra h, e) at k in
@@ -260,11 +261,11 @@ module _ (f : Format) (archive start : List ℕ) (context until : ℕ) (all : Li
   none_left z = rw z
 
   -- and at one that is refused
-  pub none_read : (number : ℕ) → 0 < left → argument_of f rest at ≡ Refused number → arguments_read f left rest at ≡ []
-  none_read number h e = read_turn f left rest at h ∙ rw e
+  pub none_read : (reason : Reason) → 0 < left → argument_of f rest at ≡ Err reason → arguments_read f left rest at ≡ []
+  none_read reason h e = read_turn f left rest at h ∙ rw e
 
   -- an argument is counted, and the walk goes on behind it
-  pub walk_turns : (a : Argument) (size : ℕ) (counted : Bool) (after : List ℕ) → 0 < left → argument_of f rest at ≡ Read a size
+  pub walk_turns : (a : Argument) (size : ℕ) (counted : Bool) (after : List ℕ) → 0 < left → argument_of f rest at ≡ argued a size
       → table_words f ≤ length room → length after ≡ length room → Counted f archive room context until (argument_lookups (a ∷ [])) counted after
       → Recalls f archive after until
       → Walk f archive start context until all end after (left - 1) (drop size rest) (at + size) (good && counted) (words + (1 + words_in a.value)) most
@@ -293,15 +294,15 @@ module _ (f : Format) (archive start : List ℕ) (context until : ℕ) (all : Li
 
   -- the same by the texts of the argument, and by its size
   pub walk_turns_texts : (name value : Reference) (size : ℕ) (counted : Bool) (after : List ℕ) → 0 < left
-      → texts_of f rest at ≡ TextsRead name value size → table_words f ≤ length room → length after ≡ length room
+      → texts_of f rest at ≡ texts name value size → table_words f ≤ length room → length after ≡ length room
       → Counted f archive room context until (text_lookup name ∷ text_lookup value ∷ []) counted after → Recalls f archive after until
       → Walk f archive start context until all end after (left - 1) (drop size rest) (at + size) (good && counted)
       (words + (size - (inline_bytes name + inline_bytes value)) / 8) most
-  walk_turns_texts name value size counted after h texts wide long x recalls =
-      let q = texts_read f rest at name value size texts in
+  walk_turns_texts name value size counted after h read wide long x recalls =
+      let q = texts_read f rest at name value size read in
       go q.0 q.1 q.2 q.3 x
     where
-      go : (a : Argument) → argument_of f rest at ≡ Read a size → a.name ≡ name → text_in a.value ≡ value
+      go : (a : Argument) → argument_of f rest at ≡ argued a size → a.name ≡ name → text_in a.value ≡ value
           → Counted f archive room context until (text_lookup name ∷ text_lookup value ∷ []) counted after
           → Walk f archive start context until all end after (left - 1) (drop size rest) (at + size) (good && counted)
           (words + (size - (inline_bytes name + inline_bytes value)) / 8) most
@@ -310,13 +311,13 @@ module _ (f : Format) (archive start : List ℕ) (context until : ℕ) (all : Li
           (λ x. walk_turns a size counted after h e wide long x recalls)
 
   -- the texts of the argument stand in it, it stands in what is left, and one word at most stands beside its header
-  pub turn_few : (name value : Reference) (size : ℕ) → 0 < left → texts_of f rest at ≡ TextsRead name value size
+  pub turn_few : (name value : Reference) (size : ℕ) → 0 < left → texts_of f rest at ≡ texts name value size
       → (inline_bytes name + inline_bytes value ≤ size) × (size ≤ length rest) × ((size - (inline_bytes name + inline_bytes value)) / 8 ≤ 2)
-  turn_few name value size h texts =
-      let q = texts_read f rest at name value size texts in
+  turn_few name value size h read =
+      let q = texts_read f rest at name value size read in
       go q.0 q.1 q.2 q.3
     where
-      go : (a : Argument) → argument_of f rest at ≡ Read a size → a.name ≡ name → text_in a.value ≡ value
+      go : (a : Argument) → argument_of f rest at ≡ argued a size → a.name ≡ name → text_in a.value ≡ value
           → (inline_bytes name + inline_bytes value ≤ size) × (size ≤ length rest) × ((size - (inline_bytes name + inline_bytes value)) / 8 ≤ 2)
       go a e named valued =
           let fits = argument_read f rest at a size e in
@@ -388,17 +389,17 @@ report-kept f archive s r next is keeps =
 
 -- so do those of an argument that was read behind the archive's first byte
 pub argument_countable : (f : Format) (archive rest : List ℕ) (place : ℕ) (a : Argument) (size : ℕ) → 0 < place → place + length rest ≤ length archive
-    → argument_of f rest place ≡ Read a size → LookupsStand archive (argument_lookups (a ∷ []))
+    → argument_of f rest place ≡ argued a size → LookupsStand archive (argument_lookups (a ∷ []))
 unfolding arguments_read
 argument_countable f archive rest place a size behind inside e =
     let stands = arguments_stand f archive 1 rest place behind inside in rw e at stands
 
 -- so do the texts of an argument by themselves
 pub texts_countable : (f : Format) (archive rest : List ℕ) (place : ℕ) (name value : Reference) (size : ℕ) → 0 < place
-    → place + length rest ≤ length archive → texts_of f rest place ≡ TextsRead name value size
+    → place + length rest ≤ length archive → texts_of f rest place ≡ texts name value size
     → LookupsStand archive (text_lookup name ∷ text_lookup value ∷ [])
-texts_countable f archive rest place name value size behind inside texts =
-    let q = texts_read f rest place name value size texts in
+texts_countable f archive rest place name value size behind inside read =
+    let q = texts_read f rest place name value size read in
     let stands = argument_countable f archive rest place q.0 size behind inside q.1 in
     subst (λ (x : Reference). LookupsStand archive (text_lookup x ∷ text_lookup value ∷ [])) q.2
     (subst (λ (x : Reference). LookupsStand archive (text_lookup q.0.name ∷ text_lookup x ∷ [])) q.3 stands)
@@ -435,36 +436,32 @@ module _ (f : Format) (archive room : List ℕ) (context until : ℕ) (can : Can
 
 -- ---- a slot that is remembered, whose room is lent from its n-th word on
 
-module _ (f : Format) (archive room : List ℕ) (context until : ℕ) (l : Lookup) (n word : ℕ) (can : CanCount f archive room context)
+module _ (f : Format) (archive room : List ℕ) (context until : ℕ) (l : Lookup) (n s : ℕ) (can : CanCount f archive room context)
     (recalls : Recalls f archive room until) (least : 2 ≤ l.table) (most : l.table ≤ 3) (words : n ≡ table_words f)
-    (told : word ≡ recalled f (take (length room - n) (drop n room)) context l.table l.reference) (some : word ≡ 0 → ⊥) where
+    (told : Some s ≡ recalled f (take (length room - n) (drop n room)) context l.table l.reference) where
   -- what is told of the slots that are lent is told of the room's
-  told_in : recalled f (slots_in f room) context l.table l.reference ≡ word
+  told_in : recalled f (slots_in f room) context l.table l.reference ≡ Some s
   told_in = sym (rw (part_from n room, words) at told)
 
   -- the slots are wide, and the one that is remembered is one of them
-  pub again_fits : Wide n (take (length room - n) (drop n room)) × (word - 1 < n - 18)
+  pub again_fits : Wide n (take (length room - n) (drop n room)) × (s < n - 18)
   again_fits =
       let wide = slots_wide f archive room context can in (
         rw (part_from n room, words) wide,
         omega (
           arith,
           words,
-          recalled-low f archive (tables_in f room) (slots_in f room) context l.table until l.reference word wide recalls can.low least
-              most some told_in,
+          recalled-low f archive (tables_in f room) (slots_in f room) context l.table until l.reference s wide recalls can.low least most told_in,
         ),
       )
 
   -- one use more of its key counts the reference, and the room has the slots back
-  pub again_counts : (slots : List ℕ) → slots ≡ used_again n (take (length room - n) (drop n room)) (word - 1)
+  pub again_counts : (slots : List ℕ) → slots ≡ used_again n (take (length room - n) (drop n room)) s
       → (true ≡ lookup_good f archive (tables_in f room) (slots_in f room) context until l)
       × (take n room ++ (slots ++ drop (length room - n) (drop n room))
       ≡ tables_in f room ++ lookup_slots f archive (tables_in f room) (slots_in f room) context until l)
   again_counts slots used =
-      let is : word ≡ word - 1 + 1 = omega arith in
-      let r = recalled-is f archive (tables_in f room) (slots_in f room) context l.table until l.reference (word - 1) recalls can.low least most
-      (told_in ∙ is) in
-      let q = recalled-counts f archive (tables_in f room) context until (slots_in f room) l (word - 1)
-      (slots_wide f archive room context can) r (told_in ∙ is) in
+      let r = recalled-is f archive (tables_in f room) (slots_in f room) context l.table until l.reference s recalls can.low least most told_in in
+      let q = recalled-counts f archive (tables_in f room) context until (slots_in f room) l s (slots_wide f archive room context can) r told_in in
       let used-in = rw (part_from n room, words) at used in
       (sym q.0, slots_back n room slots ∙ rw words (ap (λ (x : List ℕ). tables_in f room ++ x) (used-in ∙ sym q.1)))

@@ -1,5 +1,6 @@
 -- What counting leaves of the slots that are remembered: each is still that of its entry's bytes, and where one is remembered for a reference, a use
 -- of it is a use of that slot's key. Assumes nothing.
+use Rattle.std.specs.Prelude.{Option, Some, is_some}
 use Prim.Native.Nat.{ℕ, ◌+◌, ◌-◌, ◌*◌, ◌/◌, ◌≤◌, ◌<◌}
 use mathlib.Core.Path.{◌≡◌, refl, sym, ap, ◌∙◌}
 use mathlib.Core.List.{List, [], ◌∷◌}
@@ -9,7 +10,7 @@ use native.Mathlib.Omega.{arith}
 use borrow.Author.Tests.{eqb-false, ne_eqb}
 use lib.Dec.{eqb, ltb}
 use lib.ListN.{length, get_or, length-set}
-use lib.Seq.{get_or-drop, get_or-set_other, set-get_or}
+use lib.Seq.{get_or-drop, get_or-set_other}
 use Rattle.words.specs.Word.{pick}
 use Rattle.words.proofs.Tests.{cases}
 use Rattle.format.specs.declared.Format.{Format}
@@ -32,12 +33,12 @@ use Rattle.tables.proofs.Tables.{position_lt}
 use Rattle.reader.proofs.Changes.{IsTable}
 use Rattle.tally.specs.declared.Slot.{Slot}
 use Rattle.tally.specs.declared.Slot.TheVariants.{Here, Free, Full}
-use Rattle.tally.specs.Models.Slots.{label_of, key_of, find_of, count_at, used_again, is_added, added_slot, added}
+use Rattle.tally.specs.Models.Slots.{label_of, key_of, find_of, count_at, used_again, slot_word, slot_of_word, is_added, added_slot, added}
 use Rattle.tally.specs.Models.Tally.{Wide}
 use Rattle.tally.proofs.Laws.{label_mark}
 use Rattle.tally.proofs.Frames.{added-length, added-behind}
 use Rattle.tally.proofs.Probing.{found-low}
-use Rattle.tally.proofs.Stays.{added_still, added-found}
+use Rattle.tally.proofs.Stays.{added_still, added-found, remembering_same}
 use Rattle.passes.specs.Models.Follow.{tables_after}
 use Rattle.effects.specs.Follow.{change_of, changed}
 use Rattle.reader.specs.Step.{opening_number}
@@ -52,24 +53,24 @@ use Rattle.first_pass.specs.Models.Count.{CanStand, count_good, count_slots, loo
 use Rattle.first_pass.proofs.Kept.{kept-wide}
 use Rattle.first_pass.proofs.References.{Noted}
 
--- ---- a word that is noted
+-- ---- a slot that is noted
 
 -- it keeps the number of slots
-noted-length : (f : Format) (slots : List ℕ) (context table : ℕ) (r : Reference) (word : ℕ) → length (noted f slots context table r word) ≡ length slots
+noted-length : (f : Format) (slots : List ℕ) (context table : ℕ) (r : Reference) (slot : Option ℕ) → length (noted f slots context table r slot) ≡ length slots
 unfolding noted
-noted-length f slots context table (Inline place long) word = refl
-noted-length f slots context table (Index index) word =
+noted-length f slots context table (Inline place long) slot = refl
+noted-length f slots context table (Index index) slot =
     cases (ltb (highest_of f table) index) (λ q. rw q)
-    (λ q. rw q (length-set slots (2 * table_words f + position f context table index) word))
+    (λ q. rw q (length-set slots (2 * table_words f + position f context table index) (slot_word slot)))
 
 -- where it is what was remembered, nothing changes
-noted_same : (f : Format) (slots : List ℕ) (context table : ℕ) (r : Reference) (word : ℕ) → recalled f slots context table r ≡ word
-    → noted f slots context table r word ≡ slots
+noted_same : (f : Format) (slots : List ℕ) (context table : ℕ) (r : Reference) (slot : Option ℕ) → recalled f slots context table r ≡ slot
+    → noted f slots context table r slot ≡ slots
 unfolding recalled noted
-noted_same f slots context table (Inline place long) word = λ e. refl
-noted_same f slots context table (Index index) word =
+noted_same f slots context table (Inline place long) slot = λ e. refl
+noted_same f slots context table (Index index) slot =
     cases (ltb (highest_of f table) index) (λ q e. rw q)
-    (λ q e. let is = rw q at e in rw (q, ← is) (set-get_or slots (2 * table_words f + position f context table index) 0))
+    (λ q e. let is = rw q at e in rw (q, ← is) (remembering_same (table_words f) slots (position f context table index)))
 
 -- one use more of a slot's key changes nothing that is remembered
 used-recalled : (f : Format) (slots : List ℕ) (context table : ℕ) (r : Reference) (s : ℕ) → s < table_words f - 18
@@ -78,9 +79,9 @@ unfolding recalled
 used-recalled f slots context table (Inline place long) s low = refl
 used-recalled f slots context table (Index index) s low =
     cases (ltb (highest_of f table) index) (λ q. rw q)
-    (λ q. rw q (get_or-set_other slots (table_words f + s) (2 * table_words f + position f context table index) _ 0 (λ z. omega arith)))
+    (λ q. rw q (ap slot_of_word (get_or-set_other slots (table_words f + s) (2 * table_words f + position f context table index) _ 0 (λ z. omega arith))))
 
--- an entry that is renewed is a word that is remembered
+-- an entry that is renewed is a slot that is remembered, or none
 pub renewed-noted : (f : Format) (archive slots : List ℕ) (s : State) (c : Content) → s.current ≤ 8 → RenewFits f (effect_of c)
     → Noted f slots (renewed f archive slots s c)
 unfolding renewed_by
@@ -110,35 +111,26 @@ stands_can archive (Index index) h = tt
 pub mark_low : (context table long : ℕ) → context ≤ 8 → table ≤ 3 → long < 65536 → label_of context table long / 65536 < 18
 mark_low context table long low most short = omega (arith, label_mark context table long short)
 
--- a key that has no slot after its use was not counted
-pub slot_none : (stretch : ℕ) (slots : List ℕ) (label most : ℕ) (slot : Slot) → added_slot stretch slots label most slot ≡ 0
-    → is_added stretch slots label most slot ≡ false
-slot_none stretch slots label most (Here s) = λ e. absurd (omega arith)
-slot_none stretch slots label most (Free s) =
-    cases (ltb (count_at stretch slots label) most) (λ q e. let z : ◌≡◌ {A = ℕ} (s + 1) 0 = rw q at e in absurd (omega arith)) (λ q e. q)
-slot_none stretch slots label most Full = λ e. refl
-
--- and one that has one was
-pub slot_some : (stretch : ℕ) (slots : List ℕ) (label most : ℕ) (slot : Slot) → (added_slot stretch slots label most slot ≡ 0 → ⊥)
-    → is_added stretch slots label most slot ≡ true
-slot_some stretch slots label most (Here s) = λ n. refl
-slot_some stretch slots label most (Free s) =
-    cases (ltb (count_at stretch slots label) most) (λ q n. q) (λ q n. absurd (n (rw q)))
-slot_some stretch slots label most Full = λ n. absurd (n refl)
+-- a key has a slot after its use exactly where it was counted
+pub slot_added : (stretch : ℕ) (slots : List ℕ) (label most : ℕ) (slot : Slot)
+    → is_some (added_slot stretch slots label most slot) ≡ is_added stretch slots label most slot
+slot_added stretch slots label most (Here s) = refl
+slot_added stretch slots label most (Free s) =
+    cases (ltb (count_at stretch slots label) most) (λ q. rw q) (λ q. rw q)
+slot_added stretch slots label most Full = refl
 
 -- a slot that is remembered for a reference is one of the slots
-pub recalled-low : (f : Format) (archive tables slots : List ℕ) (context table until : ℕ) (r : Reference) (word : ℕ) → Wide (table_words f) slots
-    → Remembers f archive tables slots until → context ≤ 8 → 2 ≤ table → table ≤ 3 → (word ≡ 0 → ⊥) → recalled f slots context table r ≡ word
-    → word - 1 < table_words f - 18
-recalled-low f archive tables slots context table until r word wide h low least most some e =
-    let is : word ≡ word - 1 + 1 = omega arith in
-    let k = recalled-is f archive tables slots context table until r (word - 1) h low least most (e ∙ is) in
-    found-low archive (table_words f) slots _ wide.some (Here (word - 1)) k.found
+pub recalled-low : (f : Format) (archive tables slots : List ℕ) (context table until : ℕ) (r : Reference) (s : ℕ) → Wide (table_words f) slots
+    → Remembers f archive tables slots until → context ≤ 8 → 2 ≤ table → table ≤ 3 → recalled f slots context table r ≡ Some s
+    → s < table_words f - 18
+recalled-low f archive tables slots context table until r s wide h low least most e =
+    let k = recalled-is f archive tables slots context table until r s h low least most e in
+    found-low archive (table_words f) slots _ wide.some (Here s) k.found
 
 module _ (f : Format) (archive tables : List ℕ) (context until : ℕ) where
   -- a slot that is remembered for a reference: a use of the reference is one more of the slot's key, and nothing else changes
   pub recalled-counts : (slots : List ℕ) (l : Lookup) (s : ℕ) → Wide (table_words f) slots
-      → Recalled f archive tables slots context l.table until l.reference s → recalled f slots context l.table l.reference ≡ s + 1
+      → Recalled f archive tables slots context l.table until l.reference s → recalled f slots context l.table l.reference ≡ Some s
       → (lookup_good f archive tables slots context until l ≡ true)
       × (lookup_slots f archive tables slots context until l ≡ used_again (table_words f) slots s)
   unfolding count_good count_slots
@@ -146,7 +138,7 @@ module _ (f : Format) (archive tables : List ℕ) (context until : ℕ) where
       let low = found-low archive (table_words f) slots _ wide.some (Here s) r.found in
       rw (r.known, ne_eqb r.long 0 (λ z. omega (arith, r.some)), r.found) (
         refl,
-        noted_same f (used_again (table_words f) slots s) context l.table l.reference (s + 1)
+        noted_same f (used_again (table_words f) slots s) context l.table l.reference (Some s)
             (used-recalled f slots context l.table l.reference s low ∙ e),
       )
 
@@ -194,7 +186,8 @@ module _ (f : Format) (archive tables : List ℕ) (context until : ℕ) where
           let small : place < 16777216 = omega (arith, k.inside) in
           let behind = added-behind stretch slots place label limit slot mark (found-low archive stretch slots key wide.some slot refl) in
           let still = remembers_still f archive tables slots until h after (added_still archive stretch slots wide place label limit some small mark)
-          (λ entry below. sym (get_or-drop (2 * stretch) after entry 0) ∙ (ap (λ (x : List ℕ). get_or x entry 0) behind ∙ get_or-drop (2 * stretch) slots entry 0)) in
+          (λ entry below. ap slot_of_word
+          (sym (get_or-drop (2 * stretch) after entry 0) ∙ (ap (λ (x : List ℕ). get_or x entry 0) behind ∙ get_or-drop (2 * stretch) slots entry 0))) in
           rw q (remembers_noted f archive tables after until still context l.table l.reference (added_slot stretch slots label limit slot)
           (kept-wide (added-length stretch slots place label limit slot) wide) low least most
           (λ s a. record {

@@ -5,6 +5,7 @@ use mathlib.Core.Path.{◌≡◌, refl, sym}
 use mathlib.Core.List.{List, [], ◌∷◌, ◌++◌}
 use mathlib.Core.Bool.{Bool, true, false}
 use mathlib.Core.Option.{Option, some}
+use Rattle.std.specs.Prelude.{Option as RustOption}
 use mathlib.Core.Logic.{◌⊎◌, inl, inr}
 use native.Mathlib.Omega.{arith}
 use borrow.Author.Tests.{eqb-true, eqb-false, ltb-false}
@@ -73,17 +74,17 @@ no_use : (provider : Option ℕ) (bytes : List ℕ) → length bytes ≡ 0 → t
 no_use provider [] h = refl
 no_use provider (b ∷ bs) h = absurd (omega arith)
 
--- slots in which a word is remembered, or the same slots
+-- slots in which a slot is remembered under a number, or none, or the same slots
 abbrev pub Noted : Format → List ℕ → List ℕ → Type 0
-Noted f slots after = (after ≡ slots) ⊎ ((entry word : ℕ) × (entry < table_words f) × (after ≡ remembering (table_words f) slots entry word))
+Noted f slots after = (after ≡ slots) ⊎ ((entry : ℕ) × (slot : RustOption ℕ) × (entry < table_words f) × (after ≡ remembering (table_words f) slots entry slot))
 
 -- what is noted for a reference in one of the nine contexts is so
-noted-is : (f : Format) (slots : List ℕ) (context table : ℕ) (r : Reference) (word : ℕ) → context ≤ 8 → Noted f slots (noted f slots context table r word)
+noted-is : (f : Format) (slots : List ℕ) (context table : ℕ) (r : Reference) (slot : RustOption ℕ) → context ≤ 8 → Noted f slots (noted f slots context table r slot)
 unfolding noted
-noted-is f slots context table (Inline place long) word low = inl refl
-noted-is f slots context table (Index index) word low =
+noted-is f slots context table (Inline place long) slot low = inl refl
+noted-is f slots context table (Index index) slot low =
     cases (ltb (highest_of f table) index) (λ q. rw q (inl refl))
-    (λ q. rw q (inr (position f context table index, word, position_lt f context table index low (ltb-false (highest_of f table) index q), refl)))
+    (λ q. rw q (inr (position f context table index, slot, position_lt f context table index low (ltb-false (highest_of f table) index q), refl)))
 
 -- a key whose bytes stand at a place under this label of a context: it is plain, `most` is its limit, and both fit a slot
 pub record KeyStands (f : Format) (archive : List ℕ) (context : ℕ) (key : Key) (place label most : ℕ) : Type 0 where

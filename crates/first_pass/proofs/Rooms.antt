@@ -6,11 +6,10 @@ use mathlib.Core.Path.{◌≡◌, refl, sym, ap, ◌∙◌}
 use mathlib.Core.List.{List, ◌++◌}
 use mathlib.Core.Bool.{true}
 use native.Mathlib.Omega.{arith}
-use lib.Dec.{eqb}
 use lib.ListN.{length, take, drop, get_or, length-append, length-drop}
 use lib.Seq.{length-take-le, take_at, drop_at, drop-drop, get_or-take, get_or-drop}
 use Rattle.passes.specs.Models.Last.{tables_of}
-use Rattle.passes.specs.Models.Follow.{after_record, tables_after}
+use Rattle.passes.specs.Models.Follow.{after_record, stop_after, state_after, tables_after}
 use Rattle.tables.specs.Models.Entries.{FormatFits}
 use Rattle.words.proofs.Words.{AllBytes}
 use Rattle.format.specs.declared.Format.{Format}
@@ -20,21 +19,25 @@ use Rattle.contexts.specs.declared.State.{State}
 use Rattle.contexts.specs.Context.{opening}
 use Rattle.tables.specs.Table.{table_words}
 use Rattle.reader.specs.Step.{opening_number}
-use Rattle.effects.specs.declared.Followed.{Followed}
+use Rattle.std.specs.Prelude.{Result, Ok, Err}
 use Rattle.passes.proofs.Rooms.{slots_back}
+use Rattle.records.specs.Effect.{effect_of}
+use Rattle.effects.proofs.Stops.{stop_above}
 use Rattle.passes.proofs.Turns.{turn_tables, turn_place}
-use Rattle.first_pass.specs.declared.Counted.{Counted}
-use Rattle.first_pass.specs.declared.Finding.{Finding}
-use Rattle.first_pass.specs.declared.Count.{Count}
-use Rattle.first_pass.specs.declared.Count.TheVariants.{Refused}
-use Rattle.first_pass.specs.Models.Count.{Recalls, record_checked, checked_slots}
-use Rattle.first_pass.specs.Models.Found.{lowest_of, concluded, CountIs}
+use Rattle.std.specs.Prelude.{Bool, not, None, is_some, is_none}
+use Rattle.std.specs.Result.{result_unwrap_or}
+use Rattle.format.specs.declared.Refused.{Refused}
+use Rattle.format.specs.Limits.{refused_at}
+use Rattle.first_pass.specs.Models.Count.{Counted, Recalls, record_checked, checked_slots}
+use Rattle.first_pass.specs.Models.Found.{Finding, lowest_of, concluded, CountIs}
 use Rattle.first_pass.specs.Models.Left.{SlotsLeft}
 use Rattle.first_pass.proofs.Counting.{Counting, counting_noted, counting_start, counting_short, counting_words, counting_turn, counting_stop, stop_slots, stop_tables, end_tables, end_slots, counting_end}
+use Rattle.first_pass.proofs.Findings.{clean_is}
 use Rattle.first_pass.proofs.Laws.{RoomAfter, room_after}
 use Rattle.first_pass.proofs.References.{Noted}
 use Rattle.first_pass.proofs.Counts.{kept-noted}
 use Rattle.first_pass.proofs.Memory.{renewed-noted, report_remembers, checked_remembers}
+use Rattle.tally.specs.Models.Slots.{slot_of_word}
 use Rattle.passes.specs.Models.Memory.{renewed, Remembers}
 use Rattle.passes.proofs.Memory.{remembers_none, record_renews}
 use Rattle.format.specs.Limits.{longest_archive}
@@ -53,7 +56,7 @@ abbrev pub RoomKept : Format → List ℕ → List ℕ → Type 0
 RoomKept f start room = (length room ≡ length start) × (drop (4 * table_words f) room ≡ drop (4 * table_words f) start)
 
 -- what the pass says of the room where it stops or ends: what it found, the tables, the slots, and that the rest is kept
-abbrev RoomLeft : Format → List ℕ → List ℕ → List ℕ → Count → Type 0
+abbrev RoomLeft : Format → List ℕ → List ℕ → List ℕ → Result ℕ Refused → Type 0
 RoomLeft f archive start room count =
     CountIs f archive count
     × ((take (table_words f) room ≡ tables_of f archive) × (SlotsLeft f archive (drop (table_words f) room) × RoomKept f start room))
@@ -61,7 +64,7 @@ RoomLeft f archive start room count =
 -- it holds at first in a room of zeros
 pub room_starts : (f : Format) (archive room : List ℕ) → FormatFits f → AllBytes archive → opening_number f archive (table_words f) ≡ 0
     → 4 * table_words f ≤ length room → ((i : ℕ) → i < 4 * table_words f → get_or room i 0 ≡ 0)
-    → RoomCounting f archive room room opening (record { number = 0; place = 0 }) 0
+    → RoomCounting f archive room room opening None 0
 room_starts f archive room fits bytes opens wide zeros =
     record {
       counting = counting_start f archive (take (table_words f) room) (drop (table_words f) room) fits bytes opens
@@ -70,7 +73,8 @@ room_starts f archive room fits bytes opens wide zeros =
           (record { some = omega arith; low = omega (arith, fits.indexes); long = omega (arith, length-drop (table_words f) room) })
           (λ i l. get_or-drop (table_words f) room i 0 ∙ zeros (table_words f + i) (omega arith));
       remembers = remembers_none f archive (take (table_words f) room) (drop (table_words f) room) 0
-          (λ entry l. get_or-drop (table_words f) room (2 * table_words f + entry) 0 ∙ zeros (table_words f + (2 * table_words f + entry)) (omega arith));
+          (λ entry l. ap slot_of_word
+          (get_or-drop (table_words f) room (2 * table_words f + entry) 0 ∙ zeros (table_words f + (2 * table_words f + entry)) (omega arith)));
       long = refl;
       wide = wide;
     }
@@ -111,7 +115,7 @@ module _ (f : Format) (archive start room : List ℕ) (s : State) (found : Findi
       )
 
   -- a record that was read at the state's place and followed in the tables, so that these tables stand in the room before the slots
-  module _ (more : s.place < length archive) (r : Record) (reads : r ≡ record_at f archive s.place) (step : Followed)
+  module _ (more : s.place < length archive) (r : Record) (reads : r ≡ record_at f archive s.place) (step : Result State ℕ)
       (steps : step ≡ after_record s r.content r.next) (stretch : ℕ) (words_are : stretch ≡ table_words f) (tables : List ℕ)
       (follows : tables ≡ tables_after f (take stretch room) s r.content) where
     -- the tables are those of the archive's record
@@ -138,15 +142,17 @@ module _ (f : Format) (archive start room : List ℕ) (s : State) (found : Findi
         rw (length-append tables (drop stretch room), tables_long, length-drop stretch room) (omega (arith, words_are, room_wide, h.long))
 
     -- a record that stops the pass is what the archive is refused by
-    pub room_stops : (step.number ≡ 0 → ⊥) → RoomLeft f archive start (tables ++ drop stretch room) (Refused step.number s.place)
-    room_stops stop =
+    pub room_stops : (number : ℕ) → step ≡ Err number
+        → RoomLeft f archive start (tables ++ drop stretch room) (refused_at number s.place)
+    room_stops number stop =
         let before = take (table_words f) room in
         let slots = drop (table_words f) room in
         let content = (record_at f archive s.place).content in
         let next = (record_at f archive s.place).next in
-        let number : step.number ≡ (after_record s content next).number = rw (steps, reads) in
-        let stop' : (after_record s content next).number ≡ 0 → ⊥ = λ z. stop (number ∙ z) in (
-          rw number (counting_stop f archive s before (drop (table_words f) start) slots found words h.counting more stop'),
+        let after : after_record s content next ≡ Err number = rw (← reads, ← steps) stop in
+        let by : number ≡ stop_after s content next = rw after in
+        let stop' : stop_after s content next ≡ 0 → ⊥ = λ z. absurd (omega (arith, by, z, stop_above s (effect_of content) next number after)) in (
+          rw by (counting_stop f archive s before (drop (table_words f) start) slots found words h.counting more stop'),
           (
             tables_first ∙ stop_tables f archive s before (drop (table_words f) start) slots found words h.counting more stop',
             (
@@ -159,15 +165,19 @@ module _ (f : Format) (archive start room : List ℕ) (s : State) (found : Findi
           ),
         )
 
-    module _ (goes : step.number ≡ 0) where
+    module _ (t : State) (goes : step ≡ Ok t) where
       -- a record that goes on does so by the archive's record
-      goes_on : (after_record s (record_at f archive s.place).content (record_at f archive s.place).next).number ≡ 0
-      goes_on = rw (← reads, ← steps) goes
+      goes_on : (stop_after s (record_at f archive s.place).content (record_at f archive s.place).next) ≡ 0
+      goes_on = rw (← reads, ← steps, goes)
+
+      -- to the state that follows it
+      goes_to : t ≡ (state_after s (record_at f archive s.place).content (record_at f archive s.place).next)
+      goes_to = rw (← reads, ← steps, goes)
 
       -- it takes a word at least, and ends inside the archive, where the state then stands
-      pub record_ends : (step.state.place ≡ r.next) × (s.place + 8 ≤ r.next) × (r.next ≤ length archive)
+      pub record_ends : (t.place ≡ r.next) × (s.place + 8 ≤ r.next) × (r.next ≤ length archive)
       record_ends =
-          rw (steps, reads) (turn_place f archive (take (table_words f) room) s h.counting.sound h.counting.opens more goes_on)
+          rw (goes_to, reads) (turn_place f archive (take (table_words f) room) s h.counting.sound h.counting.opens more goes_on)
 
       -- the room when the entry that the record sets is renewed in the slots
       module _ (left : List ℕ) (renews : left ≡ renewed f archive (drop stretch (tables ++ drop stretch room)) s r.content) where
@@ -222,17 +232,18 @@ module _ (f : Format) (archive start room : List ℕ) (s : State) (found : Findi
             h.remembers true (record_at f archive s.place).content q refl (ap (λ x. x.content) (sym reads) ∙ e))
 
       module _ (left : List ℕ) (renews : left ≡ renewed f archive (drop stretch (tables ++ drop stretch room)) s r.content) (counted : Counted)
+          (clean : Bool) (cleans : is_some found ≡ not clean)
           (checks : counted
           ≡ record_checked f archive (take (table_words f) (room' left renews)) (drop (table_words f) (room' left renews)) s r.content r.next
-          (eqb found.number 0)) where
+          clean) where
         -- what is found at it is by the archive's record
         checked_so : counted
             ≡ record_checked f archive (tables_after f (take (table_words f) room) s (record_at f archive s.place).content) (slots' left renews) s
-            (record_at f archive s.place).content (record_at f archive s.place).next (eqb found.number 0)
-        checked_so = checks ∙ rw (renewed-first left renews, (room_renewed left renews).stand, reads)
+            (record_at f archive s.place).content (record_at f archive s.place).next (is_none found)
+        checked_so = checks ∙ rw (clean_is found clean cleans, renewed-first left renews, (room_renewed left renews).stand, reads)
 
         -- all words counted up to it stand in the archive
-        pub room_words_lem : 8 * (words + counted.words) ≤ length archive
+        pub room_words_lem : 8 * (words + result_unwrap_or counted 0) ≤ length archive
         room_words_lem =
             let all = counting_words f archive s (take (table_words f) room) (drop (table_words f) start) (slots' left renews) found words
             (counting' left renews) more goes_on in
@@ -243,20 +254,19 @@ module _ (f : Format) (archive start room : List ℕ) (s : State) (found : Findi
         pub room_turns : (last : List ℕ) (worst : Finding) → length last ≡ length (room' left renews)
             → last
             ≡ take (table_words f) (room' left renews)
-            ++ checked_slots f archive (take (table_words f) (room' left renews)) (drop (table_words f) (room' left renews)) s r.content r.next (eqb found.number 0)
-            → worst ≡ lowest_of found counted.number s.place
-            → RoomCounting f archive start last step.state worst (words + counted.words)
+            ++ checked_slots f archive (take (table_words f) (room' left renews)) (drop (table_words f) (room' left renews)) s r.content r.next clean
+            → worst ≡ lowest_of found counted s.place
+            → RoomCounting f archive start last t worst (words + result_unwrap_or counted 0)
         room_turns last worst long leaves lowers =
             let wide : table_words f ≤ length (room' left renews) = omega (arith, renewed-long left renews, h.wide) in
-            let q = room_after (table_words f) (room' left renews) _ last wide leaves in
-            let state : step.state ≡ (after_record s (record_at f archive s.place).content (record_at f archive s.place).next).state = rw (steps, reads) in
+            let q = room_after (table_words f) (room' left renews) _ last wide (rw (clean_is found clean cleans) at leaves) in
             record {
-              counting = rw (q.tables, q.stand, lowers, checked_so, renewed-first left renews, (room_renewed left renews).stand, state, reads)
+              counting = rw (q.tables, q.stand, lowers, checked_so, renewed-first left renews, (room_renewed left renews).stand, goes_to, reads)
                   (counting_turn f archive s (take (table_words f) room) (drop (table_words f) start) (slots' left renews) found words
                   (counting' left renews) more goes_on);
               remembers = rw (q.tables, q.stand, renewed-first left renews, (room_renewed left renews).stand, record_ends.0, reads)
                   (checked_remembers f archive (take (table_words f) room) (drop (table_words f) room) s h.counting.sound h.counting.opens
-                  h.counting.wide h.remembers (eqb found.number 0) (record_at f archive s.place).content refl);
+                  h.counting.wide h.remembers (is_none found) (record_at f archive s.place).content refl);
               long = long ∙ renewed-long left renews;
               wide = h.wide;
             }

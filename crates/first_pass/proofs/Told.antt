@@ -84,15 +84,15 @@ pub record Outcome (f : Format) (archive : List ℕ) (last : State) (slots : Lis
   pub clean : good ≡ true → (bad ≡ false) × Told f archive last slots uses
   pub over : good ≡ false → bad ≡ false → passes_limit f uses uses ≡ true
 
--- where a word is remembered, slots tell of what they told of
+-- where a slot is remembered, or none, slots tell of what they told of
 pub told_noted : (f : Format) (archive : List ℕ) (last : State) (slots after : List ℕ) (uses : List Use) → Noted f slots after
     → Told f archive last slots uses → Told f archive last after uses
 told_noted f archive last slots after uses (inl e) told = rw e told
-told_noted f archive last slots after uses (inr (entry, word, low, e)) told =
+told_noted f archive last slots after uses (inr (entry, slot, low, e)) told =
     rw e (record {
       plain = told.plain;
       contexts = told.contexts;
-      tally = remembering-tally told.tally entry word;
+      tally = remembering-tally told.tally entry slot;
       within = told.within;
     })
 

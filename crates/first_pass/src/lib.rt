@@ -16,31 +16,10 @@ ghost use Rattle.first_pass.specs.Models.Count.{lookups_slots, any_unresolved, r
 ghost use Rattle.first_pass.specs.Models.Found.{lowest_of, concluded, CountIs};
 ghost use Rattle.first_pass.specs.Models.Left.{SlotsLeft};
 
-use arguments::Texts;
 use contexts::State;
-use format::{Format, Reference};
+use format::{Format, Reason, Reference, Refused};
 use records::{Content, Report};
-use tables::Resolved;
-
-// What a record adds to the findings: document 01's number 10, 11 or 12, or 0; and the words that its item takes without texts and threads.
-#[derive(Clone, Copy)]
-pub struct Counted {
-    pub number: u8,
-    pub words: usize,
-}
-
-// What was found so far: the lowest of these numbers and its first place, or the number 0.
-#[derive(Clone, Copy)]
-pub struct Finding {
-    pub number: u8,
-    pub place: usize,
-}
-
-#[derive(Clone, Copy)]
-pub enum Count {
-    Refused { number: u8, place: usize },
-    Words(usize),
-}
+use tables::{Registrations, Resolved};
 
 // Bytes that a reference stands for are counted, and their slot is remembered for it; false where they are new and their table would hold no
 // more.
@@ -66,10 +45,7 @@ fn count_known(
     let highest = tables::highest_of(f, table);
     let slot = tally::add_use(archive, &mut room[words..], words, place, label, highest);
     passes::note(f, &mut room[words..], context, table, reference, slot);
-    if slot == 0 {
-        return false;
-    }
-    true
+    slot.is_some()
 }
 
 // What a reference stands for is looked up and counted; false where it is unresolved, or where it is new and its table would hold no more. It has
@@ -88,8 +64,14 @@ fn count_resolved(
     ensures room_after { room.new ≡ tables_in f room.old ++ lookup_slots f archive.now (tables_in f room.old) (slots_in f room.old) context until (record { table = table; reference = reference }) }
 {
     let words = tables::table_words(f);
-    let resolved = tables::resolve(f, archive, &room[..words], context, table, reference, until);
-    match resolved {
+    let registrations = Registrations {
+        format: f,
+        archive,
+        words: &room[..words],
+        context,
+        until,
+    };
+    match registrations.resolve(table, reference) {
         Resolved::Bad => false,
         Resolved::Unresolved { index: _ } => false,
         Resolved::Known { place, length } => {
@@ -113,9 +95,8 @@ fn count_reference(
     ensures room_after { room.new ≡ tables_in f room.old ++ lookup_slots f archive.now (tables_in f room.old) (slots_in f room.old) context until (record { table = table; reference = reference }) }
 {
     let words = tables::table_words(f);
-    let known = passes::recall(f, &room[words..], context, table, reference);
-    if known != 0 {
-        tally::use_again(&mut room[words..], words, known - 1);
+    if let Some(slot) = passes::recall(f, &room[words..], context, table, reference) {
+        tally::use_again(&mut room[words..], words, slot);
         return true;
     }
     count_resolved(f, archive, room, context, table, reference, until)
@@ -135,9 +116,8 @@ fn count_text(
     ensures room_after { room.new ≡ tables_in f room.old ++ lookup_slots f archive.now (tables_in f room.old) (slots_in f room.old) context until (record { table = 2; reference = reference }) }
 {
     let words = tables::table_words(f);
-    let known = passes::recall(f, &room[words..], context, 2, reference);
-    if known != 0 {
-        tally::use_again(&mut room[words..], words, known - 1);
+    if let Some(slot) = passes::recall(f, &room[words..], context, 2, reference) {
+        tally::use_again(&mut room[words..], words, slot);
         return true;
     }
     count_resolved(f, archive, room, context, 2, reference, until)
@@ -162,7 +142,8 @@ fn count_texts(
     words::both(named, valued)
 }
 
-// What counting adds: whether all uses were counted, and the words without them.
+// What counting adds: whether all uses were counted, and the words without them. A struct and no Result: both are wanted, since the words
+// are counted whether the uses were or not.
 #[derive(Clone, Copy)]
 struct Added {
     good: bool,
@@ -187,27 +168,20 @@ fn count_arguments(
 {
     let mut rest = part;
     let mut at = place;
-    let mut left = count;
     let mut good = true;
     let mut words = 0;
-    while 0 < left {
-        let texts = arguments::texts_of(f, rest, at);
-        match texts {
-            Texts::Refused(_) => {
-                return Added { good, words };
-            }
-            Texts::Texts { name, value, size } => {
-                good = words::both(
-                    good,
-                    count_texts(f, archive, room, context, name, value, until),
-                );
-                let spelled = format::inline_bytes(name) + format::inline_bytes(value);
-                words += (size - spelled) / 8;
-                rest = &rest[size..];
-                at += size;
-                left -= 1;
-            }
-        }
+    for _ in 0..count {
+        let Ok(texts) = arguments::texts_of(f, rest, at) else {
+            return Added { good, words };
+        };
+        good = words::both(
+            good,
+            count_texts(f, archive, room, context, texts.name, texts.value, until),
+        );
+        let spelled = format::inline_bytes(texts.name) + format::inline_bytes(texts.value);
+        words += (texts.size - spelled) / 8;
+        rest = &rest[texts.size..];
+        at += texts.size;
     }
     Added { good, words }
 }
@@ -268,20 +242,10 @@ fn count_report(
     }
 }
 
-fn is_unresolved(
-    f: Format,
-    archive: &[u8],
-    tables: &[u32],
-    context: usize,
-    table: u64,
-    reference: Reference,
-    until: usize,
-) -> bool
-    requires { FormatFits f × (length archive.now ≤ longest_archive) × (table_words f ≤ length tables.now) × (context ≤ 8) }
-    ensures { result ≡ unresolved_in (resolved f archive.now tables.now context table until reference) }
+fn is_unresolved(registrations: &Registrations, table: u64, reference: Reference) -> bool
+    ensures { result ≡ unresolved_in (resolved registrations.now.format registrations.now.archive.now registrations.now.words.now registrations.now.context table registrations.now.until reference) }
 {
-    let resolved = tables::resolve(f, archive, tables, context, table, reference, until);
-    match resolved {
+    match registrations.resolve(table, reference) {
         Resolved::Bad => true,
         Resolved::Unresolved { index: _ } => true,
         Resolved::Known {
@@ -293,39 +257,29 @@ fn is_unresolved(
 
 // Whether a reference of so many arguments is unresolved.
 fn arguments_unresolved(
-    f: Format,
-    archive: &[u8],
-    tables: &[u32],
-    context: usize,
-    until: usize,
+    registrations: &Registrations,
     part: &[u8],
     place: usize,
     count: usize,
 ) -> bool
-    requires { FormatFits f × (length archive.now ≤ longest_archive) × (table_words f ≤ length tables.now) × (context ≤ 8) × (place + length part.now ≤ longest_archive) }
-    ensures { result ≡ any_unresolved f archive.now tables.now context until (argument_lookups (arguments_read f count part.now place)) }
+    requires { place + length part.now ≤ longest_archive }
+    ensures { result ≡ any_unresolved registrations.now.format registrations.now.archive.now registrations.now.words.now registrations.now.context registrations.now.until (argument_lookups (arguments_read registrations.now.format count part.now place)) }
 {
+    let f = registrations.format;
     let mut rest = part;
     let mut at = place;
-    let mut left = count;
-    while 0 < left {
-        let texts = arguments::texts_of(f, rest, at);
-        match texts {
-            Texts::Refused(_) => {
-                return false;
-            }
-            Texts::Texts { name, value, size } => {
-                if is_unresolved(f, archive, tables, context, 2, name, until) {
-                    return true;
-                }
-                if is_unresolved(f, archive, tables, context, 2, value, until) {
-                    return true;
-                }
-                rest = &rest[size..];
-                at += size;
-                left -= 1;
-            }
+    for _ in 0..count {
+        let Ok(texts) = arguments::texts_of(f, rest, at) else {
+            return false;
+        };
+        if is_unresolved(registrations, 2, texts.name) {
+            return true;
         }
+        if is_unresolved(registrations, 2, texts.value) {
+            return true;
+        }
+        rest = &rest[texts.size..];
+        at += texts.size;
     }
     false
 }
@@ -342,8 +296,13 @@ fn report_unresolved(
     requires { (table_words f ≤ length tables.now) × FormatFits f × (length archive.now ≤ longest_archive) × (s.current ≤ 8) × RecordIs f archive.now s (Content.Report report) next }
     ensures { result ≡ report_unresolved f archive.now tables.now s report next }
 {
-    let place = s.place;
-    let context = s.current;
+    let registrations = Registrations {
+        format: f,
+        archive,
+        words: tables,
+        context: s.current,
+        until: s.place,
+    };
     let one = report.first;
     let one_reference = one.reference;
     let two = report.second;
@@ -352,37 +311,21 @@ fn report_unresolved(
     let three_reference = three.reference;
     let from = report.arguments;
     let count = report.count;
-    if is_unresolved(f, archive, tables, context, one.table, one_reference, place) {
+    if is_unresolved(&registrations, one.table, one_reference) {
         return true;
     }
-    if is_unresolved(f, archive, tables, context, two.table, two_reference, place) {
+    if is_unresolved(&registrations, two.table, two_reference) {
         return true;
     }
-    if is_unresolved(
-        f,
-        archive,
-        tables,
-        context,
-        three.table,
-        three_reference,
-        place,
-    ) {
+    if is_unresolved(&registrations, three.table, three_reference) {
         return true;
     }
-    arguments_unresolved(
-        f,
-        archive,
-        tables,
-        context,
-        place,
-        &archive[from..next],
-        from,
-        count,
-    )
+    arguments_unresolved(&registrations, &archive[from..next], from, count)
 }
 
-// The number of a record that refers to texts and threads and loses nothing, and its words. Once something is found the uses
-// are counted no more.
+// What is found at a record that refers to texts and threads and loses nothing: the words that its item takes without them, or
+// what it is refused by. Once something is found the uses are counted no more; `clean` is a flag, since the pass knows once for
+// the whole record whether something was.
 fn check_report(
     f: Format,
     archive: &[u8],
@@ -391,7 +334,7 @@ fn check_report(
     report: Report,
     next: usize,
     clean: bool,
-) -> Counted
+) -> Result<usize, Reason>
     requires { CanCount f archive.now room.old s.current × RecordIs f archive.now s (Content.Report report) next × (0 < s.place) × Recalls f archive.now room.old s.place × (keeps_to f archive.now s (Content.Report report) next ≡ true) }
     ensures value { result ≡ report_checked f archive.now (tables_in f room.old) (slots_in f room.old) s report next clean }
     ensures room_after { room.new ≡ tables_in f room.old ++ pick clean (report_slots f archive.now (tables_in f room.old) (slots_in f room.old) s report next) (slots_in f room.old) }
@@ -400,32 +343,17 @@ fn check_report(
     if clean {
         let counted = count_report(f, archive, room, s, report, next);
         if counted.good {
-            return Counted {
-                number: 0,
-                words: counted.words,
-            };
+            return Ok(counted.words);
         }
         if report_unresolved(f, archive, &room[..words], s, report, next) {
-            return Counted {
-                number: 11,
-                words: 0,
-            };
+            return Err(Reason::Unregistered);
         }
-        return Counted {
-            number: 12,
-            words: 0,
-        };
+        return Err(Reason::ManyKeys);
     }
     if report_unresolved(f, archive, &room[..words], s, report, next) {
-        return Counted {
-            number: 11,
-            words: 0,
-        };
+        return Err(Reason::Unregistered);
     }
-    Counted {
-        number: 0,
-        words: 0,
-    }
+    Ok(0)
 }
 
 // The words of a record that refers to nothing, where it shows an item.
@@ -458,7 +386,8 @@ fn plain_words(content: Content) -> usize
     }
 }
 
-// What is found at a record that ends at `next`, and loses nothing or something.
+// What is found at a record that ends at `next`, and loses nothing or something: `keeps` is a flag, since the walk that read the
+// record has found it.
 fn check_record(
     f: Format,
     archive: &[u8],
@@ -468,7 +397,7 @@ fn check_record(
     next: usize,
     keeps: bool,
     clean: bool,
-) -> Counted
+) -> Result<usize, Reason>
     requires { CanCount f archive.now room.old s.current × RecordIs f archive.now s content next × (keeps ≡ keeps_to f archive.now s content next) × ((q : Report) → content ≡ Content.Report q → Recalls f archive.now room.old s.place × (0 < s.place)) }
     ensures value { result ≡ record_checked f archive.now (tables_in f room.old) (slots_in f room.old) s content next clean }
     ensures room_after { room.new ≡ tables_in f room.old ++ checked_slots f archive.now (tables_in f room.old) (slots_in f room.old) s content next clean }
@@ -479,50 +408,42 @@ fn check_record(
                 return check_report(f, archive, room, s, report, next, clean);
             }
             _ => {
-                return Counted {
-                    number: 0,
-                    words: plain_words(content),
-                };
+                return Ok(plain_words(content));
             }
         }
     }
-    Counted {
-        number: 10,
-        words: 0,
-    }
+    Err(Reason::Loss)
 }
 
 // Of what was found and what is found at a place, what has the lower number; of equal ones the first.
-fn lowest(found: Finding, number: u8, place: usize) -> Finding
-    ensures { result ≡ lowest_of found number place }
+fn lowest(found: Option<Refused>, counted: Result<usize, Reason>, place: usize) -> Option<Refused>
+    ensures { result ≡ lowest_of found counted place }
 {
-    if number == 0 {
+    let Err(reason) = counted else {
         return found;
-    }
-    if found.number == 0 {
-        return Finding { number, place };
-    }
-    if number < found.number {
-        return Finding { number, place };
+    };
+    let own = reason.at(place);
+    let Some(earlier) = found else {
+        return Some(own);
+    };
+    if own.number < earlier.number {
+        return Some(own);
     }
     found
 }
 
 // What was found in all, once no record stopped the pass.
-fn conclude(found: Finding, words: usize) -> Count
+fn conclude(found: Option<Refused>, words: usize) -> Result<usize, Refused>
     ensures { result ≡ concluded found words }
 {
-    if found.number == 0 {
-        return Count::Words(words);
-    }
-    Count::Refused {
-        number: found.number,
-        place: found.place,
+    match found {
+        Some(refused) => Err(refused),
+        None => Ok(words),
     }
 }
 
-// Passes over the whole archive.
-pub fn count_all(f: Format, archive: &[u8], room: &mut [u32]) -> Count
+// Passes over the whole archive: the words that its items take without texts and threads, or what it is refused by.
+pub fn count_all(f: Format, archive: &[u8], room: &mut [u32]) -> Result<usize, Refused>
     requires { FormatFits f × (opening_number f archive.now (table_words f) ≡ 0) × (4 * table_words f ≤ length room.old) × ((i : ℕ) → i < 4 * table_words f → get_or room.old i 0 ≡ 0) }
     ensures count_is { CountIs f archive.now result }
     ensures room_after { take (table_words f) room.new ≡ tables_of f archive.now }
@@ -531,30 +452,25 @@ pub fn count_all(f: Format, archive: &[u8], room: &mut [u32]) -> Count
 {
     let stretch = tables::table_words(f);
     let mut s = contexts::opening_state();
-    let mut found = Finding {
-        number: 0,
-        place: 0,
-    };
+    let mut found = None;
     let mut words = 0;
+    // No `for`: a record says itself how far it reaches.
     while s.place < archive.len() {
         let place = s.place;
         let checked = losses::checked_record_at(f, archive, place);
         let record = checked.record;
         let content = record.content;
         let next = record.next;
-        let followed = passes::follow(f, &mut room[..stretch], s, content, next);
-        if followed.number != 0 {
-            return Count::Refused {
-                number: followed.number,
-                place,
-            };
-        }
+        let state = match passes::follow(f, &mut room[..stretch], s, content, next) {
+            Err(number) => return Err(Refused { number, place }),
+            Ok(state) => state,
+        };
         passes::renew(f, archive, &mut room[stretch..], s, content);
-        let clean = found.number == 0;
+        let clean = found.is_none();
         let counted = check_record(f, archive, room, s, content, next, checked.keeps, clean);
-        found = lowest(found, counted.number, place);
-        words += counted.words;
-        s = followed.state;
+        found = lowest(found, counted, place);
+        words += counted.unwrap_or(0);
+        s = state;
     }
     conclude(found, words)
 }

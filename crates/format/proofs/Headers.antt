@@ -7,11 +7,11 @@ use borrow.Author.Tests.{ltb-false, eqb-false}
 use lib.Dec.{eqb, ltb}
 use lib.ListN.{length, take, drop, length-drop}
 use lib.Seq.{take_all}
+use Rattle.std.proofs.Common.{Result, Ok, Err}
 use Rattle.words.specs.Word.{word_at, field}
 use Rattle.words.proofs.Tests.{on-pick}
 use Rattle.format.specs.declared.Format.{Format}
-use Rattle.format.specs.declared.Extent.{Extent}
-use Rattle.format.specs.declared.Extent.TheVariants.{Refused, Bytes}
+use Rattle.format.specs.declared.Reason.{Reason}
 use Rattle.format.specs.Header.{record_words, extent_of}
 
 -- a size has at most 32 bits
@@ -25,9 +25,9 @@ pub record Whole (f : Format) (rest : List ℕ) (size : ℕ) : Type 0 where
   pub some : 8 ≤ size
   pub inside : size ≤ length rest
 
-abbrev pub ExtentWhole : Format → List ℕ → Extent → Type 0
-ExtentWhole f rest (Refused number) = Unit {0}
-ExtentWhole f rest (Bytes size) = Whole f rest size
+abbrev pub ExtentWhole : Format → List ℕ → Result ℕ Reason → Type 0
+ExtentWhole f rest (Err reason) = Unit {0}
+ExtentWhole f rest (Ok size) = Whole f rest size
 
 -- every extent is such a record's
 pub extent_whole : (f : Format) (rest : List ℕ) → ExtentWhole f rest (extent_of f rest)
@@ -46,5 +46,5 @@ pub part_from : (n : ℕ) (l : List ℕ) → take (length l - n) (drop n l) ≡ 
 part_from n l = take_all (length l - n) (drop n l) (omega (arith, length-drop n l))
 
 -- the same of an extent that is known
-pub extent_read : (f : Format) (rest : List ℕ) (size : ℕ) → extent_of f rest ≡ Bytes size → Whole f rest size
+pub extent_read : (f : Format) (rest : List ℕ) (size : ℕ) → extent_of f rest ≡ Ok size → Whole f rest size
 extent_read f rest size e = subst (ExtentWhole f rest) e (extent_whole f rest)

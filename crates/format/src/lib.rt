@@ -2,7 +2,7 @@
 #![tactic(auto)]
 
 ghost use Rattle.std.specs.Prelude.{◌≡◌, ◌+◌, ◌*◌, ◌^◌, ◌<◌, length};
-ghost use Rattle.format.specs.Limits.{small_format};
+ghost use Rattle.format.specs.Limits.{small_format, number_of, Checks};
 ghost use Rattle.format.specs.Header.{record_words, extent_of, archive_number};
 ghost use Rattle.format.specs.Part.{take_words, take_stream, take_text, take_thread, take_part, table_of, inline_bytes, padding_zero};
 ghost use Rattle.format.specs.Models.Bounds.{PartFits, Inside};
@@ -18,14 +18,73 @@ pub struct Format {
     pub order: Order,
 }
 
-// Document 01's numbers for what a record can be refused by.
-pub const CUT: u8 = 5;
+// What a trace or a record is refused by, in the order of document 01's numbers, which begin with 1.
+#[derive(Clone, Copy, PartialEq, Eq)]
+pub enum Reason {
+    NoTrace,
+    LongArchive,
+    ShortTables,
+    ForeignState,
+    Cut,
+    Malformed,
+    LongText,
+    HighIndex,
+    NinthProvider,
+    Loss,
+    Unregistered,
+    ManyKeys,
+    ShortRoom,
+    ShortOutput,
+}
 
-pub const MALFORMED: u8 = 6;
+impl Reason {
+    // Document 01's number.
+    pub fn number(self) -> u8
+        ensures { result ≡ number_of self }
+    {
+        match self {
+            Reason::NoTrace => 1,
+            Reason::LongArchive => 2,
+            Reason::ShortTables => 3,
+            Reason::ForeignState => 4,
+            Reason::Cut => 5,
+            Reason::Malformed => 6,
+            Reason::LongText => 7,
+            Reason::HighIndex => 8,
+            Reason::NinthProvider => 9,
+            Reason::Loss => 10,
+            Reason::Unregistered => 11,
+            Reason::ManyKeys => 12,
+            Reason::ShortRoom => 13,
+            Reason::ShortOutput => 14,
+        }
+    }
 
-pub const LONG_TEXT: u8 = 7;
+    // A refusal by this, at a place.
+    pub fn at(self, place: usize) -> Refused
+        ensures { result ≡ record { number = number_of self; place = place } }
+    {
+        let number = self.number();
+        Refused { number, place }
+    }
+}
 
-pub const HIGH_INDEX: u8 = 8;
+// A refusal is answered by its number.
+impl From<Reason> for u8 {
+    ghost from_gives = { λ reason number. number ≡ number_of reason };
+
+    fn from(reason: Reason) -> u8 {
+        reason.number()
+    }
+}
+
+// A refusal by its number and byte place. The number is no `Reason`, since `check_archive` hands on any `short`, and `blocks::put_asked` answers
+// for any number.
+#[derive(Clone, Copy)]
+pub struct Refused {
+    pub number: u8,
+    pub place: usize,
+}
 
 // The most bytes that an archive may have.
 pub const LONGEST_ARCHIVE: usize = 16777216;
@@ -48,16 +107,9 @@ pub enum Part {
 
 // A part of a record with the place right behind it.
 #[derive(Clone, Copy)]
-pub enum Taken {
-    Refused(u8),
-    Part { reference: Reference, next: usize },
-}
-
-// How many bytes a record takes.
-#[derive(Clone, Copy)]
-pub enum Extent {
-    Refused(u8),
-    Bytes(usize),
+pub struct Taken {
+    pub reference: Reference,
+    pub next: usize,
 }
 
 // The small size, the one of the base.
@@ -82,96 +134,113 @@ pub fn record_words(header: u64) -> u64
     }
 }
 
-// The extent of the record at the start of what is left of the archive.
-pub fn extent_of(f: Format, rest: &[u8]) -> Extent
+// How many bytes the record takes at the start of what is left of the archive.
+pub fn extent_of(f: Format, rest: &[u8]) -> Result<usize, Reason>
     ensures { result ≡ extent_of f rest.now }
 {
     if rest.len() < 8 {
-        return Extent::Refused(CUT);
+        return Err(Reason::Cut);
     }
-    let order = f.order;
-    let size = record_words(words::word(order, rest, 0)) as usize;
+    let size = record_words(words::word(f.order, rest, 0)) as usize;
     if size == 0 {
-        return Extent::Refused(MALFORMED);
+        return Err(Reason::Malformed);
     }
     if rest.len() < 8 * size {
-        return Extent::Refused(CUT);
+        return Err(Reason::Cut);
     }
-    Extent::Bytes(8 * size)
+    Ok(8 * size)
 }
 
 // So many words at a place of a record, whose bytes are `source` and start at the place `start`.
-pub fn take_words(n: usize, place: usize, source: &[u8], start: usize) -> Taken
+pub fn take_words(n: usize, place: usize, source: &[u8], start: usize) -> Result<Taken, Reason>
     requires { (n < 2 ^ 32) × (place < 2 ^ 63) × (start + length source.now < 2 ^ 63) }
     ensures { result ≡ take_words n place source.now start }
 {
     let next = place + 8 * n;
     if start + source.len() < next {
-        return Taken::Refused(MALFORMED);
+        return Err(Reason::Malformed);
     }
-    Taken::Part {
+    Ok(Taken {
         reference: Reference::Inline {
             place,
             length: 8 * n,
         },
         next,
-    }
+    })
 }
 
 // A stream of n bytes.
-pub fn take_stream(f: Format, n: usize, place: usize, source: &[u8], start: usize) -> Taken
+pub fn take_stream(
+    f: Format,
+    n: usize,
+    place: usize,
+    source: &[u8],
+    start: usize,
+) -> Result<Taken, Reason>
     requires { (n < 2 ^ 32) × (place < 2 ^ 63) × (start + length source.now < 2 ^ 63) }
     ensures { result ≡ take_stream f n place source.now start }
 {
     if (f.longest as usize) < n {
-        return Taken::Refused(LONG_TEXT);
+        return Err(Reason::LongText);
     }
     let next = place + 8 * words::stream_words(n);
     if start + source.len() < next {
-        return Taken::Refused(MALFORMED);
+        return Err(Reason::Malformed);
     }
-    Taken::Part {
+    Ok(Taken {
         reference: Reference::Inline { place, length: n },
         next,
-    }
+    })
 }
 
 // A string reference with its inline stream.
-pub fn take_text(f: Format, reference: u64, place: usize, source: &[u8], start: usize) -> Taken
+pub fn take_text(
+    f: Format,
+    reference: u64,
+    place: usize,
+    source: &[u8],
+    start: usize,
+) -> Result<Taken, Reason>
     requires { (reference < 2 ^ 16) × (place < 2 ^ 63) × (start + length source.now < 2 ^ 63) }
     ensures { result ≡ take_text f reference place source.now start }
 {
     if reference == 0 {
-        return Taken::Part {
+        return Ok(Taken {
             reference: Reference::Inline { place, length: 0 },
             next: place,
-        };
+        });
     }
     if reference < 0x8000 {
-        return Taken::Part {
+        return Ok(Taken {
             reference: Reference::Index(reference as usize),
             next: place,
-        };
+        });
     }
     take_stream(f, (reference - 0x8000) as usize, place, source, start)
 }
 
 // A thread reference with its inline process and thread words.
-fn take_thread(reference: u64, place: usize, source: &[u8], start: usize) -> Taken
+fn take_thread(reference: u64, place: usize, source: &[u8], start: usize) -> Result<Taken, Reason>
     requires { (reference < 2 ^ 8) × (place < 2 ^ 63) × (start + length source.now < 2 ^ 63) }
     ensures { result ≡ take_thread reference place source.now start }
 {
     if reference == 0 {
         return take_words(2, place, source, start);
     }
-    Taken::Part {
+    Ok(Taken {
         reference: Reference::Index(reference as usize),
         next: place,
-    }
+    })
 }
 
 // A part at a place of a record.
-pub fn take_part(f: Format, part: Part, place: usize, source: &[u8], start: usize) -> Taken
+pub fn take_part(
+    f: Format,
+    part: Part,
+    place: usize,
+    source: &[u8],
+    start: usize,
+) -> Result<Taken, Reason>
     requires { PartFits part × (place < 2 ^ 63) × (start + length source.now < 2 ^ 63) }
     ensures { result ≡ take_part f part place source.now start }
 {
@@ -183,7 +252,8 @@ pub fn take_part(f: Format, part: Part, place: usize, source: &[u8], start: usiz
     }
 }
 
-// The table that a part is looked up in: 3 for a thread, 2 for a text and for what is looked up in none.
+// The table that a part is looked up in: 3 for a thread, 2 for a text and for what is looked up in none. One arm for each kind, since the
+// goals of an arm of several stay open.
 pub fn table_of(part: Part) -> u64
     ensures { result ≡ table_of part }
 {
@@ -221,7 +291,8 @@ pub fn padding_zero(source: &[u8], start: usize, reference: Reference) -> bool
     }
 }
 
-// The number that an archive is refused by, or by `short` where fewer words are lent than wanted, or 0.
+// The number that an archive is refused by, or by `short` where fewer words are lent than wanted, or 0. It is no Result over a Reason, since
+// `short` may be any number, 0 too.
 pub fn archive_number(archive: &[u8], short: u8, wanted: usize, lent: usize) -> u8
     ensures { result ≡ archive_number archive.now short wanted lent }
 {
@@ -235,6 +306,16 @@ pub fn archive_number(archive: &[u8], short: u8, wanted: usize, lent: usize) -> 
         return 0;
     }
     1
+}
+
+// Whether an archive is taken; the refusal is at its start.
+pub fn check_archive(archive: &[u8], short: u8, wanted: usize, lent: usize) -> Result<(), Refused>
+    ensures { Checks (archive_number archive.now short wanted lent) result }
+{
+    match archive_number(archive, short, wanted, lent) {
+        0 => Ok(()),
+        number => Err(Refused { number, place: 0 }),
+    }
 }
 
 // The lowest 16 bits of a header: a type and a size in words.

@@ -2,29 +2,15 @@
 #![tactic(auto)]
 
 ghost use Rattle.std.specs.Prelude.{◌≡◌, ◌+◌, ◌^◌, ◌<◌, ◌≤◌, length};
-ghost use Rattle.hashing.specs.Models.Hash.{swapped_of, spread_of, join_of, least_of, block_of, half_at, few_of, hash_of, folded_of};
+ghost use Rattle.hashing.specs.Models.Hash.{spread_of, join_of, block_of, half_at, few_of, hash_of, folded_of};
 
-// A word with its halves exchanged.
-fn swapped(word: u64) -> u64
-    ensures { result ≡ swapped_of word }
-{
-    words::with_field(
-        words::field(word, 32, 63),
-        32,
-        63,
-        words::field(word, 0, 31),
-    )
-}
-
-// Each half of a word times a number. The exchange puts the high bits of one product beside the low bits of the other.
+// Each half of a word times a number. The rotation puts the high bits of one product beside the low bits of the other.
 fn spread(word: u64, low: u64, high: u64) -> u64
     requires { (low < 2 ^ 32) × (high < 2 ^ 32) }
     ensures { result ≡ spread_of low high word }
 {
-    std::num::wrapping_add_u64(
-        words::field(word, 0, 31) * low,
-        swapped(words::field(word, 32, 63) * high),
-    )
+    let above = words::field(word, 32, 63) * high;
+    (words::field(word, 0, 31) * low).wrapping_add(above.rotate_left(32))
 }
 
 // A hash and four words more. The eight products wait for nothing but their words, and their constants have 31 bits, so that each stands in its
@@ -32,25 +18,11 @@ fn spread(word: u64, low: u64, high: u64) -> u64
 fn join(hash: u64, a: u64, b: u64, c: u64, d: u64) -> u64
     ensures { result ≡ join_of hash a b c d }
 {
-    std::num::wrapping_add_u64(
-        std::num::wrapping_add_u64(
-            spread(std::num::wrapping_add_u64(hash, a), 0x11cb92d9, 0x150665e9),
-            spread(b, 0x190f16e3, 0x79204595),
-        ),
-        std::num::wrapping_add_u64(
-            spread(c, 0x1f740b41, 0x545c46f3),
-            spread(d, 0x732eb6d7, 0x7e0cc889),
-        ),
-    )
-}
-
-fn least(a: usize, b: usize) -> usize
-    ensures { (result ≡ least_of a b) × (result ≤ a) × (result ≤ b) }
-{
-    if a < b {
-        return a;
-    }
-    b
+    spread(hash.wrapping_add(a), 0x11cb92d9, 0x150665e9)
+        .wrapping_add(spread(b, 0x190f16e3, 0x79204595))
+        .wrapping_add(spread(c, 0x1f740b41, 0x545c46f3).wrapping_add(spread(
+            d, 0x732eb6d7, 0x7e0cc889,
+        )))
 }
 
 // A hash and the bytes from `first` to the end of the word at `last`, at most 32 of them. Any number of bytes from 8 to 32 takes the same
@@ -59,7 +31,7 @@ fn block(bytes: &[u8], hash: u64, first: usize, last: usize) -> u64
     requires { (first ≤ last) × (last + 8 ≤ length bytes.now) }
     ensures { result ≡ block_of bytes.now hash first last }
 {
-    let step = least(8, last - first);
+    let step = usize::min(8, last - first);
     join(
         hash,
         words::little_word(bytes, first),
@@ -74,10 +46,7 @@ fn first_half(bytes: &[u8]) -> u64
     requires { 4 ≤ length bytes.now }
     ensures { (result ≡ half_at bytes.now 0) × (result < 2 ^ 32) }
 {
-    words::byte(bytes, 0)
-        + 256 * words::byte(bytes, 1)
-        + 65536 * words::byte(bytes, 2)
-        + 16777216 * words::byte(bytes, 3)
+    u64::from(u32::from_le_bytes([bytes[0], bytes[1], bytes[2], bytes[3]]))
 }
 
 fn half(bytes: &[u8], place: usize) -> u64
@@ -109,16 +78,14 @@ pub fn hash(bytes: &[u8], seed: u64) -> u64
 {
     let n = bytes.len();
     if n < 8 {
-        return std::num::wrapping_add_u64(seed, few(bytes));
+        return seed.wrapping_add(few(bytes));
     }
     let blocks = (n - 1) / 32;
     let mut hash = seed;
-    let mut i = 0;
-    while i < blocks {
+    for i in 0..blocks {
         hash = block(bytes, hash, 32 * i, 32 * i + 24);
-        i += 1;
     }
-    block(bytes, hash, least(32 * blocks, n - 8), n - 8)
+    block(bytes, hash, usize::min(32 * blocks, n - 8), n - 8)
 }
 
 // 32 bits of a hash, in which each of its bits has a part.

@@ -1,23 +1,16 @@
--- Keys that wait for an index: one turn of the search for one, and that a table in which none waits gives no index and stays as it is. Assumes nothing.
-use Prim.Native.Nat.{ℕ, ◌+◌, ◌<◌}
+-- Keys that wait for an index: a table in which none waits gives no index and stays as it is. Assumes nothing.
+use Rattle.std.specs.Prelude.{Option, Some, None, is_some, MatchOption}
+use Prim.Native.Nat.{ℕ, ◌-◌, ◌<◌}
 use mathlib.Core.Path.{◌≡◌, refl}
 use mathlib.Core.List.{List}
-use native.Mathlib.Omega.{arith}
-use lib.Dec.{eqb}
-use borrow.Author.Tests.{eqb-true, eqb-false, ne_eqb}
-use Rattle.words.proofs.Tests.{cases}
+use mathlib.Core.Bool.{false, true≢false}
+use borrow.Author.Tests.{ne_eqb}
 use Rattle.tally.specs.declared.Slot.{Slot}
 use Rattle.tally.specs.declared.Slot.TheVariants.{Here, Free, Full}
 use Rattle.tally.specs.Models.Slots.{uses_at, find_of}
 use Rattle.tally.specs.Models.Tally.{Wide}
 use Rattle.tally.proofs.Laws.{here_below}
-use Rattle.indexing.specs.Models.Indexes.{new_index, indexed, Settled}
-
--- where no key below a slot waits, and its own does not, none below the next slot does
-pub none-waits : (stretch : ℕ) (slots : List ℕ) (s : ℕ) → ((x : ℕ) → x < s → uses_at stretch slots x ≡ 1 → ⊥) → (uses_at stretch slots s ≡ 1 → ⊥)
-    → (x : ℕ) → x < s + 1 → uses_at stretch slots x ≡ 1 → ⊥
-none-waits stretch slots s below own x low one =
-    cases (eqb x s) (λ e. own (rw (eqb-true x s e) at one)) (λ e. let other = eqb-false x s e in below x (omega arith) one)
+use Rattle.indexing.specs.Models.Indexes.{new_index, indexed, Settled, Waiting}
 
 module _ {stretch : ℕ} {slots : List ℕ} (archive key : List ℕ) (label : ℕ) (wide : Wide stretch slots) (settled : Settled stretch slots) where
   -- where none waits, no key gets an index
@@ -37,3 +30,16 @@ module _ {stretch : ℕ} {slots : List ℕ} (archive key : List ℕ) (label : �
       after (Here s) e = rw (ne_eqb (uses_at stretch slots s) 1 (settled s (here_below archive key wide e refl)))
       after (Free s) e = refl
       after Full e = refl
+
+-- ---- the slot whose key waits
+
+-- where none is known, no key waits
+pub waiting_none : (stretch : ℕ) (slots : List ℕ) (slot : Option ℕ) → Waiting stretch slots slot → is_some slot ≡ false → Settled stretch slots
+waiting_none stretch slots None w e = w
+waiting_none stretch slots (Some s) w e = absurd (true≢false e)
+
+-- in a table where none waits if none did, it can be asked for again: it is one of the slots, or none waits still
+pub waiting_on : (stretch : ℕ) (slots after : List ℕ) (slot : Option ℕ) → Waiting stretch slots slot → (Settled stretch slots → Settled stretch after)
+    → MatchOption slot (Settled stretch after) (λ s. s < stretch - 18)
+waiting_on stretch slots after None w still = still w
+waiting_on stretch slots after (Some s) w still = w.0

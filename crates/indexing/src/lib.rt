@@ -2,7 +2,7 @@
 // 1 where it is registered and has no index yet, and one more than its index where it has one. The counters of the marks count the indexes given.
 #![tactic(auto)]
 
-ghost use Rattle.std.specs.Prelude.{◌≡◌, ◌-◌, ◌*◌, ◌^◌, ◌<◌, ◌≤◌};
+ghost use Rattle.std.specs.Prelude.{◌≡◌, ◌-◌, ◌*◌, ◌^◌, ◌<◌, MatchOption};
 ghost use Rattle.tally.specs.declared.Slot.TheVariants.{Here};
 ghost use Rattle.tally.specs.Models.Slots.{key_of, find_of, raised, count_at};
 ghost use Rattle.tally.specs.Models.Tally.{Wide};
@@ -12,6 +12,7 @@ use tally::Slot;
 
 // The second word of a slot once the uses are counted: 0 stands for them where its key is spelled inline, 1 where it is registered and has no
 // index yet. Without a key the word is 0.
+#[tactic(auto, unfolding(crate::specs::Models::Indexes::chosen_word))]
 fn choice(first: u32, second: u32) -> u32
     ensures { result ≡ chosen_word first second }
 {
@@ -26,30 +27,26 @@ fn choice(first: u32, second: u32) -> u32
 }
 
 // The uses of each key become its choice; no slot stands at the counters, so they become 0.
+#[tactic(auto, using(crate::proofs::Frames::chosen_none))]
 pub fn choose(slots: &mut [u32], stretch: usize)
     requires { Wide stretch slots.old }
     ensures { slots.new ≡ chosen_to stretch stretch slots.old }
 {
-    let mut s = 0;
-    while s < stretch {
+    for s in 0..stretch {
         slots[stretch + s] = choice(slots[s], slots[stretch + s]);
-        s += 1;
     }
 }
 
-// The index that the key of a slot was given, or 0 where it has none.
+// The index that the key of a slot was given, or 0 where it has none: an index of 0 is the format's own word for a key that is not registered.
 pub fn index_at(slots: &[u32], stretch: usize, s: usize) -> usize
     requires { Wide stretch slots.now × (s < stretch - 18) }
     ensures { result ≡ index_at stretch slots.now (Here s) }
 {
-    let word = tally::uses_in(slots[stretch + s]);
-    if word == 0 {
-        return 0;
-    }
-    word as usize - 1
+    tally::uses_in(slots[stretch + s]).saturating_sub(1) as usize
 }
 
 // The index that a key was given, or 0 where it has none.
+#[tactic(auto, unfolding(crate::specs::Models::Indexes::index_of))]
 pub fn index_of(archive: &[u8], slots: &[u32], stretch: usize, place: usize, label: usize) -> usize
     requires { Wide stretch slots.now × (label < 2 ^ 32) }
     ensures { result ≡ index_of archive.now stretch slots.now (key_of archive.now place label) }
@@ -76,7 +73,8 @@ fn put_index(slots: &mut [u32], stretch: usize, s: usize, label: usize) -> usize
     index as usize
 }
 
-// Gives the key of a slot, where it is to be registered and has no index yet, the next index of its mark; the index given, or 0.
+// Gives the key of a slot, where it is to be registered and has no index yet, the next index of its mark; the index given, or 0, under
+// which nothing is registered.
 pub fn give_index_at(slots: &mut [u32], stretch: usize, s: usize, label: usize) -> usize
     requires { Wide stretch slots.old × (s < stretch - 18) × (label < 18 * 65536) }
     ensures value { result ≡ new_index stretch slots.old label (Here s) }
@@ -108,31 +106,27 @@ pub fn give_index(
     }
 }
 
-// The first slot whose key waits: it is to be registered and has no index yet. Where there is none, `stretch`.
-fn first_waiting(slots: &[u32], stretch: usize) -> usize
+// The first slot whose key waits: it is to be registered and has no index yet.
+fn first_waiting(slots: &[u32], stretch: usize) -> Option<usize>
     requires { Wide stretch slots.now }
     ensures { Waiting stretch slots.now result }
 {
-    let mut s = 0;
-    while s < stretch - 18 {
+    for s in 0..stretch - 18 {
         if tally::uses_in(slots[stretch + s]) == 1 {
-            return s;
+            return Some(s);
         }
-        s += 1;
     }
-    stretch
+    None
 }
 
-// A slot whose key waits: the slot given where its key does, and `stretch` where none waits. No slot is read where none is given.
-pub fn waiting_slot(slots: &[u32], stretch: usize, slot: usize) -> usize
-    requires { Wide stretch slots.now × (slot < stretch → slot < stretch - 18) × (stretch ≤ slot → Settled stretch slots.now) }
+// A slot whose key waits: the slot given where its key does, else the first. Where none is given none waits, and no slot is read.
+pub fn waiting_slot(slots: &[u32], stretch: usize, slot: Option<usize>) -> Option<usize>
+    requires { Wide stretch slots.now × MatchOption slot (Settled stretch slots.now) (λ s. s < stretch - 18) }
     ensures { Waiting stretch slots.now result }
 {
-    if stretch <= slot {
-        return slot;
-    }
-    if tally::uses_in(slots[stretch + slot]) == 1 {
-        return slot;
+    let s = slot?;
+    if tally::uses_in(slots[stretch + s]) == 1 {
+        return Some(s);
     }
     first_waiting(slots, stretch)
 }

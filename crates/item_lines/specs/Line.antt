@@ -1,5 +1,5 @@
 -- The lines of a listing, after "The listing program" of document 01. A line ends in a line feed, 10; letters are by their ASCII numbers.
-use Rattle.std.specs.Prelude.{ℕ, List, [], ◌∷◌, ◌++◌}
+use Rattle.std.specs.Prelude.{ℕ, List, [], ◌∷◌, ◌++◌, Option, Ok, Err}
 use Rattle.words.specs.Stream.{part_of}
 use Rattle.words.specs.Word.{pick}
 use Rattle.records.specs.declared.Event.{Event}
@@ -7,11 +7,9 @@ use Rattle.records.specs.declared.Log.{Log}
 use Rattle.records.specs.declared.Own.{Own}
 use Rattle.records.specs.declared.Own.TheVariants.{Event as EventOwn, Log as LogOwn}
 use Rattle.records.specs.Layout.{has_extra}
-use Rattle.contexts.specs.declared.Provider.{Provider}
 use Rattle.views.specs.declared.ShownReport.{ShownReport}
 use Rattle.views.specs.declared.ShownArgument.{ShownArgument}
-use Rattle.reader.specs.declared.Asked.{Asked}
-use Rattle.reader.specs.declared.Asked.TheVariants.{Refused, Argument as ArgumentShown}
+use Rattle.reader.specs.Ask.{Asked}
 use Rattle.reader.specs.declared.Answer.{Answer}
 use Rattle.reader.specs.declared.Answer.TheVariants.{End, Nothing, Magic, ProviderInfo, Section, ProviderEvent, Initialization, Report, Skipped}
 use Rattle.lines.specs.Shown.{number_shown, bytes_shown, text_shown, referent_shown, provider_shown, value_type, value_shown}
@@ -48,7 +46,7 @@ unfoldable pub skipped_line : ℕ → ℕ → List ℕ
 skipped_line type size = (75 ∷ []) ++ number_shown type ++ number_shown size ++ line_end
 
 -- "provider timestamp rate"
-unfoldable pub timestamp_shown : Provider → ℕ → ℕ → List ℕ
+unfoldable pub timestamp_shown : Option ℕ → ℕ → ℕ → List ℕ
 timestamp_shown provider timestamp rate = provider_shown provider ++ number_shown timestamp ++ number_shown rate
 
 -- "`E type provider timestamp rate"
@@ -105,5 +103,5 @@ answer_line archive (Skipped type size) = skipped_line type size
 
 -- the line of what was asked for: an argument's, or a refusal's
 unfoldable pub asked_line : List ℕ → Asked → List ℕ
-asked_line archive (Refused number place) = end_line number place
-asked_line archive (ArgumentShown a) = argument_line archive a
+asked_line archive (Err refused) = end_line refused.number refused.place
+asked_line archive (Ok a) = argument_line archive a

@@ -1,198 +1,178 @@
-// The lines of document 01's listing, each put into a lent buffer. Each function puts its bytes from a place on and answers the place
-// behind them; what does not fit is left out. Nothing here asks anything of its caller.
+// The lines of document 01's listing, each put into a lent buffer behind what was put before. What does not fit is left out. Nothing
+// here asks anything of its caller.
 #![tactic(auto)]
 
-ghost use Rattle.lines.specs.Put.{Puts};
+ghost use Rattle.lines.specs.Put.{Adds};
 ghost use Rattle.item_lines.specs.Line.{provider_info_line, section_line, provider_event_line, initialization_line, skipped_line, timestamp_shown, event_start, referents_shown, extra_shown, event_shown, log_shown, own_shown, report_line, argument_line, end_line, answer_line, asked_line};
 
-use contexts::Provider;
-use lines::{
-    put_bytes, put_number, put_provider, put_referent, put_text, put_text_bytes, put_value,
-    value_type,
-};
-use reader::{Answer, Asked};
+use format::Refused;
+use lines::{Cursor, value_type};
+use reader::Answer;
 use records::{Event, Log, Own};
 use views::{ShownArgument, ShownReport};
 
-pub fn put_end(out: &mut [u8], at: usize, number: u8, place: usize) -> usize
-    ensures { Puts out.old at (end_line number place) result out.new }
+pub fn put_end(out: &mut Cursor, number: u8, place: usize)
+    ensures { Adds out.old (end_line number place) out.new }
 {
-    let first = put_bytes(out, at, b"end");
-    let second = put_number(out, first, number as u64);
-    let last = put_number(out, second, place as u64);
-    put_bytes(out, last, b"\n")
+    out.put_bytes(b"end");
+    out.put_number(u64::from(number));
+    out.put_number(place as u64);
+    out.put_bytes(b"\n");
 }
 
-fn put_provider_info(out: &mut [u8], at: usize, id: u32, name: &[u8]) -> usize
-    ensures { Puts out.old at (provider_info_line id name.now) result out.new }
+fn put_provider_info(out: &mut Cursor, id: u32, name: &[u8])
+    ensures { Adds out.old (provider_info_line id name.now) out.new }
 {
-    let first = put_bytes(out, at, b"P");
-    let second = put_number(out, first, id as u64);
-    let last = put_text_bytes(out, second, name);
-    put_bytes(out, last, b"\n")
+    out.put_bytes(b"P");
+    out.put_number(u64::from(id));
+    out.put_text_bytes(name);
+    out.put_bytes(b"\n");
 }
 
-fn put_section(out: &mut [u8], at: usize, id: u32) -> usize
-    ensures { Puts out.old at (section_line id) result out.new }
+fn put_section(out: &mut Cursor, id: u32)
+    ensures { Adds out.old (section_line id) out.new }
 {
-    let first = put_bytes(out, at, b"S");
-    let last = put_number(out, first, id as u64);
-    put_bytes(out, last, b"\n")
+    out.put_bytes(b"S");
+    out.put_number(u64::from(id));
+    out.put_bytes(b"\n");
 }
 
-fn put_provider_event(out: &mut [u8], at: usize, id: u32, event: u8) -> usize
-    ensures { Puts out.old at (provider_event_line id event) result out.new }
+fn put_provider_event(out: &mut Cursor, id: u32, event: u8)
+    ensures { Adds out.old (provider_event_line id event) out.new }
 {
-    let first = put_bytes(out, at, b"V");
-    let second = put_number(out, first, id as u64);
-    let last = put_number(out, second, event as u64);
-    put_bytes(out, last, b"\n")
+    out.put_bytes(b"V");
+    out.put_number(u64::from(id));
+    out.put_number(u64::from(event));
+    out.put_bytes(b"\n");
 }
 
-fn put_initialization(out: &mut [u8], at: usize, rate: u64) -> usize
-    ensures { Puts out.old at (initialization_line rate) result out.new }
+fn put_initialization(out: &mut Cursor, rate: u64)
+    ensures { Adds out.old (initialization_line rate) out.new }
 {
-    let first = put_bytes(out, at, b"I");
-    let last = put_number(out, first, rate);
-    put_bytes(out, last, b"\n")
+    out.put_bytes(b"I");
+    out.put_number(rate);
+    out.put_bytes(b"\n");
 }
 
-fn put_skipped(out: &mut [u8], at: usize, record_type: u8, size: u64) -> usize
-    ensures { Puts out.old at (skipped_line record_type size) result out.new }
+fn put_skipped(out: &mut Cursor, record_type: u8, size: u64)
+    ensures { Adds out.old (skipped_line record_type size) out.new }
 {
-    let first = put_bytes(out, at, b"K");
-    let second = put_number(out, first, record_type as u64);
-    let last = put_number(out, second, size);
-    put_bytes(out, last, b"\n")
+    out.put_bytes(b"K");
+    out.put_number(u64::from(record_type));
+    out.put_number(size);
+    out.put_bytes(b"\n");
 }
 
 // A timestamp with its provider and the rate in force.
-fn put_timestamp(out: &mut [u8], at: usize, provider: Provider, timestamp: u64, rate: u64) -> usize
-    ensures { Puts out.old at (timestamp_shown provider timestamp rate) result out.new }
+fn put_timestamp(out: &mut Cursor, provider: Option<u32>, timestamp: u64, rate: u64)
+    ensures { Adds out.old (timestamp_shown provider timestamp rate) out.new }
 {
-    let second = put_provider(out, at, provider);
-    let last = put_number(out, second, timestamp);
-    put_number(out, last, rate)
+    out.put_provider(provider);
+    out.put_number(timestamp);
+    out.put_number(rate);
 }
 
 // An event's line up to its rate.
-fn put_event_start(out: &mut [u8], at: usize, event: Event, report: ShownReport) -> usize
-    ensures { Puts out.old at (event_start event report) result out.new }
+fn put_event_start(out: &mut Cursor, event: Event, report: ShownReport)
+    ensures { Adds out.old (event_start event report) out.new }
 {
-    let provider = report.provider;
-    let first = put_bytes(out, at, b"E");
-    let last = put_number(out, first, event.variant as u64);
-    put_timestamp(out, last, provider, event.timestamp, report.rate)
+    out.put_bytes(b"E");
+    out.put_number(u64::from(event.variant));
+    put_timestamp(out, report.provider, event.timestamp, report.rate);
 }
 
 // The three that an event refers to.
-fn put_referents(out: &mut [u8], at: usize, archive: &[u8], report: ShownReport) -> usize
-    ensures { Puts out.old at (referents_shown archive.now report) result out.new }
+fn put_referents(out: &mut Cursor, archive: &[u8], report: ShownReport)
+    ensures { Adds out.old (referents_shown archive.now report) out.new }
 {
-    let first = report.first;
-    let second = report.second;
-    let third = report.third;
-    let next = put_referent(out, at, archive, first);
-    let last = put_referent(out, next, archive, second);
-    put_referent(out, last, archive, third)
+    out.put_referent(archive, report.first);
+    out.put_referent(archive, report.second);
+    out.put_referent(archive, report.third);
 }
 
 // The extra word of an event, where its type has one.
-fn put_extra(out: &mut [u8], at: usize, variant: u8, extra: u64) -> usize
-    ensures { Puts out.old at (extra_shown variant extra) result out.new }
+fn put_extra(out: &mut Cursor, variant: u8, extra: u64)
+    ensures { Adds out.old (extra_shown variant extra) out.new }
 {
-    if records::has_extra(variant as u64) {
-        return put_number(out, at, extra);
+    if records::has_extra(u64::from(variant)) {
+        out.put_number(extra);
     }
-    at
 }
 
 // An event's letter and fields.
-fn put_event(out: &mut [u8], at: usize, archive: &[u8], event: Event, report: ShownReport) -> usize
-    ensures { Puts out.old at (event_shown archive.now event report) result out.new }
+fn put_event(out: &mut Cursor, archive: &[u8], event: Event, report: ShownReport)
+    ensures { Adds out.old (event_shown archive.now event report) out.new }
 {
-    let second = put_event_start(out, at, event, report);
-    let third = put_referents(out, second, archive, report);
-    let last = put_number(out, third, report.count as u64);
-    put_extra(out, last, event.variant, report.last)
+    put_event_start(out, event, report);
+    put_referents(out, archive, report);
+    out.put_number(report.count as u64);
+    put_extra(out, event.variant, report.last);
 }
 
 // A log's letter and fields.
-fn put_log(out: &mut [u8], at: usize, archive: &[u8], log: Log, report: ShownReport) -> usize
-    ensures { Puts out.old at (log_shown archive.now log report) result out.new }
+fn put_log(out: &mut Cursor, archive: &[u8], log: Log, report: ShownReport)
+    ensures { Adds out.old (log_shown archive.now log report) out.new }
 {
-    let provider = report.provider;
-    let thread = report.first;
     let message = report.stream;
-    let first = put_bytes(out, at, b"L");
-    let second = put_timestamp(out, first, provider, log.timestamp, report.rate);
-    let last = put_referent(out, second, archive, thread);
-    put_text_bytes(
-        out,
-        last,
-        reader::text(archive, message.place, message.length),
-    )
+    out.put_bytes(b"L");
+    put_timestamp(out, report.provider, log.timestamp, report.rate);
+    out.put_referent(archive, report.first);
+    out.put_text_bytes(reader::text(archive, message.place, message.length));
 }
 
 // What is a report's own says, here alone, which letter and which fields in which order.
-fn put_own(out: &mut [u8], at: usize, archive: &[u8], own: Own, report: ShownReport) -> usize
-    ensures { Puts out.old at (own_shown archive.now own report) result out.new }
+fn put_own(out: &mut Cursor, archive: &[u8], own: Own, report: ShownReport)
+    ensures { Adds out.old (own_shown archive.now own report) out.new }
 {
     match own {
-        Own::Event(event) => put_event(out, at, archive, event, report),
-        Own::Log(log) => put_log(out, at, archive, log, report),
+        Own::Event(event) => put_event(out, archive, event, report),
+        Own::Log(log) => put_log(out, archive, log, report),
     }
 }
 
 // The line of a report.
-fn put_report(out: &mut [u8], at: usize, archive: &[u8], report: ShownReport) -> usize
-    ensures { Puts out.old at (report_line archive.now report) result out.new }
+fn put_report(out: &mut Cursor, archive: &[u8], report: ShownReport)
+    ensures { Adds out.old (report_line archive.now report) out.new }
 {
-    let own = report.own;
-    let last = put_own(out, at, archive, own, report);
-    put_bytes(out, last, b"\n")
+    put_own(out, archive, report.own, report);
+    out.put_bytes(b"\n");
 }
 
 // The line of an answer: its item's or its end's, and none where it shows nothing.
-pub fn put_answer(out: &mut [u8], at: usize, archive: &[u8], answer: Answer) -> usize
-    ensures { Puts out.old at (answer_line archive.now answer) result out.new }
+pub fn put_answer(out: &mut Cursor, archive: &[u8], answer: Answer)
+    ensures { Adds out.old (answer_line archive.now answer) out.new }
 {
     match answer {
-        Answer::End { number, place } => put_end(out, at, number, place),
-        Answer::Nothing => at,
-        Answer::Magic => put_bytes(out, at, b"M\n"),
-        Answer::ProviderInfo { id, place, length } => put_provider_info(
-            out,
-            at,
-            id,
-            reader::text(archive, place, length),
-        ),
-        Answer::Section { id } => put_section(out, at, id),
-        Answer::ProviderEvent { id, event } => put_provider_event(out, at, id, event),
-        Answer::Initialization { rate } => put_initialization(out, at, rate),
-        Answer::Report(report) => put_report(out, at, archive, report),
-        Answer::Skipped { record_type, size } => put_skipped(out, at, record_type, size),
+        Answer::End { number, place } => put_end(out, number, place),
+        Answer::Nothing => {}
+        Answer::Magic => out.put_bytes(b"M\n"),
+        Answer::ProviderInfo { id, place, length } => {
+            put_provider_info(out, id, reader::text(archive, place, length))
+        }
+        Answer::Section { id } => put_section(out, id),
+        Answer::ProviderEvent { id, event } => put_provider_event(out, id, event),
+        Answer::Initialization { rate } => put_initialization(out, rate),
+        Answer::Report(report) => put_report(out, archive, report),
+        Answer::Skipped { record_type, size } => put_skipped(out, record_type, size),
     }
 }
 
-fn put_argument(out: &mut [u8], at: usize, archive: &[u8], argument: ShownArgument) -> usize
-    ensures { Puts out.old at (argument_line archive.now argument) result out.new }
+fn put_argument(out: &mut Cursor, archive: &[u8], argument: ShownArgument)
+    ensures { Adds out.old (argument_line archive.now argument) out.new }
 {
-    let name = argument.name;
-    let value = argument.value;
-    let first = put_bytes(out, at, b"A");
-    let second = put_number(out, first, value_type(value));
-    let third = put_text(out, second, archive, name);
-    let last = put_value(out, third, archive, value);
-    put_bytes(out, last, b"\n")
+    out.put_bytes(b"A");
+    out.put_number(value_type(argument.value));
+    out.put_text(archive, argument.name);
+    out.put_value(archive, argument.value);
+    out.put_bytes(b"\n");
 }
 
 // The line of what was asked for: the argument's, or its refusal's.
-pub fn put_asked(out: &mut [u8], at: usize, archive: &[u8], asked: Asked) -> usize
-    ensures { Puts out.old at (asked_line archive.now asked) result out.new }
+pub fn put_asked(out: &mut Cursor, archive: &[u8], asked: Result<ShownArgument, Refused>)
+    ensures { Adds out.old (asked_line archive.now asked) out.new }
 {
     match asked {
-        Asked::Refused { number, place } => put_end(out, at, number, place),
-        Asked::Argument(argument) => put_argument(out, at, archive, argument),
+        Err(refused) => put_end(out, refused.number, refused.place),
+        Ok(argument) => put_argument(out, archive, argument),
     }
 }

@@ -1,18 +1,19 @@
 -- Putting bytes into a buffer, one behind the other. Assumes nothing.
-use Prim.Native.Nat.{ℕ, suc, ◌+◌, ◌-◌, ◌≤◌, ◌<◌, min}
+use Prim.Native.Nat.{ℕ, ◌+◌, ◌-◌, ◌≤◌, ◌<◌, min}
 use mathlib.Core.Path.{◌≡◌, refl, sym, ap, ◌∙◌}
-use mathlib.Core.List.{List, [], ◌++◌, append_assoc, append-nil}
+use mathlib.Core.List.{List, [], ◌++◌, append-nil}
 use mathlib.Core.Bool.{Bool, true, false}
-use native.Mathlib.Numerals.{add-one}
 use native.Mathlib.Nat.{add-zero}
 use native.Mathlib.Omega.{arith}
-use lib.ListN.{length, take, drop, set, get_or, length-take, length-append}
+use lib.ListN.{length, take, length-take, length-append}
 use lib.Dec.{leb}
-use lib.Seq.{length-take-le, take-nil, take_all, take-append-le, take-append-add, paste-suc}
+use borrow.Rule.Slice.PartMut.{put_mid}
+use lib.Seq.{length-take-le, take-nil, take_all, take-append-le, take-append-add, drop-drop}
 use borrow.Author.Tests.{leb-true, leb-false}
 use Rattle.words.specs.Stream.{overwritten}
 use Rattle.words.proofs.Streams.{none-overwritten, overwritten_twice, length-overwritten}
-use Rattle.lines.specs.Put.{fitting, put, behind, Puts}
+use Rattle.lines.specs.declared.Cursor.{Cursor}
+use Rattle.lines.specs.Put.{fitting, put, behind, Puts, Adds}
 
 -- a test decides between two cases
 pub by_test : {P : Type 0} (m n : ℕ) → (m ≤ n → P) → (n < m → P) → P
@@ -21,19 +22,6 @@ by_test {P} m n within over = go (leb m n) refl
     go : (b : Bool) → leb m n ≡ b → P
     go true e = within (leb-true m n e)
     go false e = over (leb-false m n e)
-
--- a loop that copies byte by byte: a turn's store writes one byte more
-pub more_copied : (out : List ℕ) (at : ℕ) (bytes : List ℕ) (i : ℕ) → at + i < length out → i < length bytes
-    → set (overwritten out at (take i bytes)) (at + i) (get_or bytes i 0) ≡ overwritten out at (take (i + 1) bytes)
-more_copied out at bytes i h l =
-    rw (
-      length-take-le i bytes (omega arith),
-      length-take-le (i + 1) bytes (omega arith),
-      ← append_assoc (take at out) (take i bytes) (drop (at + i) out),
-      paste-suc out at bytes i 0 h l,
-      add-one i,
-      append_assoc (take at out) (take (suc i) bytes) (drop (at + suc i) out),
-    )
 
 -- the first of two lists joined
 take_joined : (m : ℕ) (a b : List ℕ) → take m (a ++ b) ≡ take m a ++ take (m - length (take m a)) b
@@ -84,23 +72,30 @@ behind-behind out at a b =
     let e : length (put out at a) - (at + length (take m a)) ≡ m - length (take m a) = omega (arith, put-length out at a) in
     rw (e, take_joined m a b, length-append (take m a)) (omega arith)
 
--- a function that puts nothing
-pub puts_none : (out : List ℕ) (at : ℕ) → Puts out at [] at out
+-- where nothing is put all stays
+puts-none : (out : List ℕ) (at : ℕ) → Puts out at [] at out
 unfolding put behind fitting
-puts_none out at =
+puts-none out at =
     record {
       place = rw (take-nil {A = ℕ} (length out - at)) (omega arith);
       buffer = rw (take-nil {A = ℕ} (length out - at)) (sym (overwritten-none out at));
     }
 
+-- a function that puts nothing
+pub adds_none : (c : Cursor) → Adds c [] c
+adds_none c = record { same_buffer = refl; puts = puts-none c.buffer.now c.place }
+
 -- a function that puts a and then b puts a ++ b
 infixl 60 ◌then◌
-pub ◌then◌ : {out : List ℕ} {at : ℕ} {a : List ℕ} {place : ℕ} {between : List ℕ} {b : List ℕ} {reply : ℕ} {after : List ℕ}
-    → Puts out at a place between → Puts between place b reply after → Puts out at (a ++ b) reply after
-◌then◌ {out} {at} {a} {place} {between} {b} p q =
+pub ◌then◌ : {start : Cursor} {a : List ℕ} {between : Cursor} {b : List ℕ} {last : Cursor}
+    → Adds start a between → Adds between b last → Adds start (a ++ b) last
+◌then◌ {start} {a} {between} {b} p q =
     record {
-      place = q.place ∙ rw (p.place, p.buffer) (behind-behind out at a b);
-      buffer = q.buffer ∙ rw (p.place, p.buffer) (put-put out at a b);
+      same_buffer = q.same_buffer ∙ p.same_buffer;
+      puts = record {
+        place = q.puts.place ∙ rw (p.puts.place, p.puts.buffer) (behind-behind start.buffer.now start.place a b);
+        buffer = q.puts.buffer ∙ rw (p.puts.place, p.puts.buffer) (put-put start.buffer.now start.place a b);
+      };
     }
 
 -- the first of some bytes, counted up to their number
@@ -121,38 +116,43 @@ puts_copied out at bytes n fits copied =
       buffer = copied ∙ rw fits (ap (overwritten out at) (take-least (length out - at) bytes));
     }
 
--- the same bytes, said otherwise
-pub puts_same : {out : List ℕ} {at : ℕ} {a : List ℕ} {b : List ℕ} {reply : ℕ} {after : List ℕ}
-    → Puts out at a reply after → a ≡ b → Puts out at b reply after
-puts_same p e = rw e at p
+-- past the buffer's end nothing is put
+pub puts_past : (out : List ℕ) (at : ℕ) (bytes : List ℕ) → length out ≤ at → Puts out at bytes at out
+unfolding put behind fitting
+puts_past out at bytes h =
+    let full : length out - at ≡ 0 = omega arith in
+    record { place = rw full (omega arith); buffer = rw full (sym (overwritten-none out at)) }
 
--- a loop that puts bytes: of all that is to be put from a place on, the rest is still to be put
-pub record Leaves (out : List ℕ) (at : ℕ) (all : List ℕ) (between : List ℕ) (place : ℕ) (rest : List ℕ) : Type 0 where
-  pub reply : behind out at all ≡ behind between place rest
-  pub buffer : put out at all ≡ put between place rest
+-- the same bytes, said otherwise
+pub adds_same : {start : Cursor} {a : List ℕ} {b : List ℕ} {last : Cursor} → Adds start a last → a ≡ b → Adds start b last
+adds_same p e = rw e at p
+
+-- a loop that puts bytes: of all that is to be put from a cursor on, the rest is still to be put
+pub record Leaves (start : Cursor) (all : List ℕ) (here : Cursor) (rest : List ℕ) : Type 0 where
+  pub same_buffer : here.buffer.ghost_name ≡ start.buffer.ghost_name
+  pub place : behind start.buffer.now start.place all ≡ behind here.buffer.now here.place rest
+  pub buffer : put start.buffer.now start.place all ≡ put here.buffer.now here.place rest
 
 -- before the first turn all is left
-pub leaves_all : (out : List ℕ) (at : ℕ) (all : List ℕ) → Leaves out at all out at all
-leaves_all out at all = record { reply = refl; buffer = refl }
+pub leaves_all : (c : Cursor) (all : List ℕ) → Leaves c all c all
+leaves_all c all = record { same_buffer = refl; place = refl; buffer = refl }
 
 -- a turn that puts what comes first leaves what comes behind it
-pub leaves_less : {out : List ℕ} {at : ℕ} {all : List ℕ} {between : List ℕ} {place : ℕ} {a : List ℕ} {b : List ℕ} {reply : ℕ} {after : List ℕ}
-    → Leaves out at all between place (a ++ b) → Puts between place a reply after → Leaves out at all after reply b
-leaves_less {between = between} {place} {a} {b} l p =
+pub leaves_less : {start : Cursor} {all : List ℕ} {here : Cursor} {a : List ℕ} {b : List ℕ} {next : Cursor}
+    → Leaves start all here (a ++ b) → Adds here a next → Leaves start all next b
+leaves_less {here = here} {a} {b} l p =
     record {
-      reply = l.reply ∙ rw (p.place, p.buffer) (sym (behind-behind between place a b));
-      buffer = l.buffer ∙ rw (p.place, p.buffer) (sym (put-put between place a b));
+      same_buffer = p.same_buffer ∙ l.same_buffer;
+      place = l.place ∙ rw (p.puts.place, p.puts.buffer) (sym (behind-behind here.buffer.now here.place a b));
+      buffer = l.buffer ∙ rw (p.puts.place, p.puts.buffer) (sym (put-put here.buffer.now here.place a b));
     }
 
 -- once nothing is left all is put
-pub leaves_none : {out : List ℕ} {at : ℕ} {all : List ℕ} {after : List ℕ} {reply : ℕ} → Leaves out at all after reply [] → Puts out at all reply after
-leaves_none {after = after} {reply} l =
-    record {
-      place = (puts_none after reply).place ∙ sym l.reply;
-      buffer = (puts_none after reply).buffer ∙ sym l.buffer;
-    }
+pub leaves_none : {start : Cursor} {all : List ℕ} {last : Cursor} → Leaves start all last [] → Adds start all last
+leaves_none {last = last} l =
+    let none = puts-none last.buffer.now last.place in
+    record { same_buffer = l.same_buffer; puts = record { place = none.place ∙ sym l.place; buffer = none.buffer ∙ sym l.buffer } }
 
 -- the same rest, said otherwise
-pub leaves_same : {out : List ℕ} {at : ℕ} {all : List ℕ} {between : List ℕ} {place : ℕ} {a : List ℕ} {b : List ℕ}
-    → Leaves out at all between place a → a ≡ b → Leaves out at all between place b
+pub leaves_same : {start : Cursor} {all : List ℕ} {here : Cursor} {a : List ℕ} {b : List ℕ} → Leaves start all here a → a ≡ b → Leaves start all here b
 leaves_same l e = rw e at l

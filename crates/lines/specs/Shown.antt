@@ -1,14 +1,12 @@
 -- Numbers, texts and references as a line shows them, after "The listing program" of document 01. Each stands behind a space. A list of numbers
 -- stands for bytes, here of ASCII: 32 is a space, 45 `-`, 48 `0`, 49 `1`, 58 `:`, 63 `?`.
-use Rattle.std.specs.Prelude.{ℕ, zero, suc, ◌+◌, ◌/◌, ◌%◌, List, [], ◌∷◌, ◌++◌, Bool, true, false, ℤ, pos, negsuc, length, ltb}
+use Rattle.std.specs.Prelude.{ℕ, zero, suc, ◌+◌, ◌/◌, ◌%◌, List, [], ◌∷◌, ◌++◌, Bool, true, false, Option, Some, None, ℤ, pos, negsuc, length, ltb}
 use Rattle.words.specs.Stream.{part_of}
 use Rattle.io.specs.Digits.{hex_digit_ascii, last_digits}
 use Rattle.words.specs.Word.{pick}
 use Rattle.arguments.specs.declared.Scalar.{Scalar}
 use Rattle.arguments.specs.declared.Scalar.TheVariants.{Null, Signed32, Unsigned32, Signed64, Unsigned64, Double, Pointer, KernelObject, Boolean, Unknown}
 use Rattle.arguments.specs.Argument.{scalar_type}
-use Rattle.contexts.specs.declared.Provider.{Provider}
-use Rattle.contexts.specs.declared.Provider.TheVariants.{None, Id}
 use Rattle.views.specs.declared.ShownText.{ShownText}
 use Rattle.views.specs.declared.ShownText.TheVariants.{At, Unresolved}
 use Rattle.views.specs.declared.ShownThread.{ShownThread}
@@ -70,9 +68,9 @@ referent_shown archive (TextReferent t) = text_shown archive t
 referent_shown archive (ThreadReferent t) = thread_shown t
 
 -- "no provider or a null value `-`"
-unfoldable pub provider_shown : Provider → List ℕ
+unfoldable pub provider_shown : Option ℕ → List ℕ
 provider_shown None = 32 ∷ 45 ∷ []
-provider_shown (Id id) = number_shown id
+provider_shown (Some id) = number_shown id
 
 -- "a null value `-`"; "an unknown argument's value `?`"
 unfoldable pub scalar_shown : Scalar → List ℕ

@@ -1,215 +1,208 @@
-// Numbers, texts and references, put into a lent buffer as a line shows them. Each function puts its bytes from a place on
-// and answers the place behind them; what does not fit is left out. Nothing here asks anything of its caller.
+// Numbers, texts and references, put into a lent buffer as a line shows them, each behind what was put before. What does not
+// fit is left out. Nothing here asks anything of its caller.
 #![tactic(auto)]
 
-ghost use Rattle.std.specs.Prelude.{◌≡◌, ◌-◌, ◌+◌, ◌^◌, ◌<◌, ◌≤◌, min, ◌++◌, negsuc, length, take};
-ghost use Rattle.words.specs.Stream.{overwritten};
+ghost use Rattle.std.specs.Prelude.{◌≡◌, ◌++◌};
 ghost use Rattle.io.specs.Digits.{last_digits};
-ghost use Rattle.arguments.specs.Argument.{scalar_type};
-ghost use Rattle.lines.specs.Put.{Puts};
+ghost use Rattle.lines.specs.Put.{Puts, Adds};
 ghost use Rattle.lines.specs.Shown.{decimal, number_shown, signed_shown, boolean_shown, double_shown, unresolved_shown, bytes_shown, text_shown, thread_shown, referent_shown, provider_shown, scalar_shown, value_shown, value_type, hex_shown};
 
 use arguments::Scalar;
-use contexts::Provider;
 use views::{ShownReferent, ShownText, ShownThread, ShownValue};
 
-// How many of n bytes fit into a buffer of this length from a place on.
-fn fitting(length: usize, at: usize, n: usize) -> usize
-    ensures { result ≡ min (length - at) n }
+// A lent buffer, and the place in it from which on bytes are put.
+#[derive(Drop)]
+pub struct Cursor<'a> {
+    buffer: &'a mut [u8],
+    place: usize,
+}
+
+// Copies as many of these bytes as the buffer holds from a place on, and answers the place behind them.
+fn copy(buffer: &mut [u8], place: usize, bytes: &[u8]) -> usize
+    ensures { Puts buffer.old place bytes.now result buffer.new }
 {
-    if length <= at {
-        return 0;
+    if buffer.len() <= place {
+        return place;
     }
-    if length - at < n {
-        return length - at;
+    let n = bytes.len().min(buffer.len() - place);
+    buffer[place..place + n].copy_from_slice(&bytes[..n]);
+    place + n
+}
+
+impl<'a> Cursor<'a> {
+    // A buffer, into which bytes are put from a place on.
+    pub fn new(buffer: &'a mut [u8], place: usize) -> Cursor<'a>
+        ensures same_buffer { result.buffer.ghost_name ≡ buffer.entry.ghost_name }
+        ensures value { result.buffer.now ≡ buffer.old }
+        ensures place { result.place ≡ place }
+    {
+        Cursor { buffer, place }
     }
-    n
-}
 
-// Copies the first n of these bytes.
-fn copy(out: &mut [u8], at: usize, bytes: &[u8], n: usize)
-    requires { (n ≤ length out.old - at) × (n ≤ length bytes.now) }
-    ensures { out.new ≡ overwritten out.old at (take n bytes.now) }
-{
-    let mut i = 0;
-    while i < n {
-        out[at + i] = bytes[i];
-        i += 1;
+    // The place behind what was put.
+    pub fn place(&self) -> usize
+        ensures { result ≡ self.now.place }
+    {
+        self.place
     }
-}
 
-pub fn put_bytes(out: &mut [u8], at: usize, bytes: &[u8]) -> usize
-    ensures { Puts out.old at bytes.now result out.new }
-{
-    let n = fitting(out.len(), at, bytes.len());
-    copy(out, at, bytes, n);
-    at + n
-}
-
-fn put_decimal(out: &mut [u8], at: usize, n: u64) -> usize
-    ensures { Puts out.old at (decimal n) result out.new }
-{
-    let mut text = [0u8; 20];
-    let k = io::decimal(n, &mut text);
-    put_bytes(out, at, &text[..k])
-}
-
-// A number behind a space.
-pub fn put_number(out: &mut [u8], at: usize, n: u64) -> usize
-    ensures { Puts out.old at (number_shown n) result out.new }
-{
-    let digits = put_bytes(out, at, b" ");
-    put_decimal(out, digits, n)
-}
-
-fn put_negative(out: &mut [u8], at: usize, n: u64) -> usize
-    requires { n < 2 ^ 63 }
-    ensures { Puts out.old at (signed_shown (negsuc n)) result out.new }
-{
-    let digits = put_bytes(out, at, b" -");
-    put_decimal(out, digits, n + 1)
-}
-
-fn put_signed(out: &mut [u8], at: usize, n: i64) -> usize
-    ensures { Puts out.old at (signed_shown n) result out.new }
-{
-    if n < 0 {
-        put_negative(out, at, (-1 - n) as u64)
-    } else {
-        put_number(out, at, n as u64)
+    pub fn put_bytes(&mut self, bytes: &[u8])
+        ensures { Adds self.old bytes.now self.new }
+    {
+        self.place = copy(self.buffer, self.place, bytes);
     }
-}
 
-fn put_signed_half(out: &mut [u8], at: usize, n: i32) -> usize
-    ensures { Puts out.old at (signed_shown n) result out.new }
-{
-    put_signed(out, at, n as i64)
-}
-
-fn put_boolean(out: &mut [u8], at: usize, value: bool) -> usize
-    ensures { Puts out.old at (boolean_shown value) result out.new }
-{
-    if value {
-        return put_bytes(out, at, b" 1");
+    fn put_decimal(&mut self, n: u64)
+        ensures { Adds self.old (decimal n) self.new }
+    {
+        let mut text = [0u8; 20];
+        let k = io::decimal(n, &mut text);
+        self.put_bytes(&text[..k]);
     }
-    put_bytes(out, at, b" 0")
-}
 
-// A double by the 16 digits of its bits.
-fn put_double(out: &mut [u8], at: usize, bits: u64) -> usize
-    ensures { Puts out.old at (double_shown bits) result out.new }
-{
-    let mut text = [0u8; 16];
-    let k = io::hex(bits, 16, &mut text);
-    let digits = put_bytes(out, at, b" ");
-    put_bytes(out, digits, &text[..k])
-}
-
-fn put_unresolved(out: &mut [u8], at: usize, index: usize) -> usize
-    ensures { Puts out.old at (unresolved_shown index) result out.new }
-{
-    let digits = put_bytes(out, at, b" ?");
-    put_decimal(out, digits, index as u64)
-}
-
-// A text by its length and its bytes.
-pub fn put_text_bytes(out: &mut [u8], at: usize, bytes: &[u8]) -> usize
-    ensures { Puts out.old at (bytes_shown bytes.now) result out.new }
-{
-    let colon = put_number(out, at, bytes.len() as u64);
-    let text = put_bytes(out, colon, b":");
-    put_bytes(out, text, bytes)
-}
-
-pub fn put_text(out: &mut [u8], at: usize, archive: &[u8], text: ShownText) -> usize
-    ensures { Puts out.old at (text_shown archive.now text) result out.new }
-{
-    match text {
-        ShownText::At { place, length } => put_text_bytes(
-            out,
-            at,
-            words::part(archive, place, length),
-        ),
-        ShownText::Unresolved { index } => put_unresolved(out, at, index),
+    // A number behind a space.
+    pub fn put_number(&mut self, n: u64)
+        ensures { Adds self.old (number_shown n) self.new }
+    {
+        self.put_bytes(b" ");
+        self.put_decimal(n);
     }
-}
 
-fn put_words(out: &mut [u8], at: usize, process: u64, thread: u64) -> usize
-    ensures { Puts out.old at (number_shown process ++ number_shown thread) result out.new }
-{
-    let second = put_number(out, at, process);
-    put_number(out, second, thread)
-}
-
-fn put_thread(out: &mut [u8], at: usize, thread: ShownThread) -> usize
-    ensures { Puts out.old at (thread_shown thread) result out.new }
-{
-    match thread {
-        ShownThread::Words { process, thread } => put_words(out, at, process, thread),
-        ShownThread::Unresolved { index } => put_unresolved(out, at, index),
+    fn put_signed(&mut self, n: i64)
+        ensures { Adds self.old (signed_shown n) self.new }
+    {
+        if n < 0 {
+            self.put_bytes(b" -");
+        } else {
+            self.put_bytes(b" ");
+        }
+        self.put_decimal(n.unsigned_abs());
     }
-}
 
-// What a record refers to: a text or a thread.
-pub fn put_referent(out: &mut [u8], at: usize, archive: &[u8], referent: ShownReferent) -> usize
-    ensures { Puts out.old at (referent_shown archive.now referent) result out.new }
-{
-    match referent {
-        ShownReferent::Text(text) => put_text(out, at, archive, text),
-        ShownReferent::Thread(thread) => put_thread(out, at, thread),
+    fn put_boolean(&mut self, value: bool)
+        ensures { Adds self.old (boolean_shown value) self.new }
+    {
+        if value {
+            self.put_bytes(b" 1");
+        } else {
+            self.put_bytes(b" 0");
+        }
     }
-}
 
-pub fn put_provider(out: &mut [u8], at: usize, provider: Provider) -> usize
-    ensures { Puts out.old at (provider_shown provider) result out.new }
-{
-    match provider {
-        Provider::None => put_bytes(out, at, b" -"),
-        Provider::Id(id) => put_number(out, at, id as u64),
+    // A double by the 16 digits of its bits.
+    fn put_double(&mut self, bits: u64)
+        ensures { Adds self.old (double_shown bits) self.new }
+    {
+        let mut text = [0u8; 16];
+        let k = io::hex(bits, 16, &mut text);
+        self.put_bytes(b" ");
+        self.put_bytes(&text[..k]);
     }
-}
 
-fn put_scalar(out: &mut [u8], at: usize, scalar: Scalar) -> usize
-    ensures { Puts out.old at (scalar_shown scalar) result out.new }
-{
-    match scalar {
-        Scalar::Null => put_bytes(out, at, b" -"),
-        Scalar::Signed32(n) => put_signed_half(out, at, n),
-        Scalar::Unsigned32(n) => put_number(out, at, n as u64),
-        Scalar::Signed64(n) => put_signed(out, at, n),
-        Scalar::Unsigned64(n) => put_number(out, at, n),
-        Scalar::Double(bits) => put_double(out, at, bits),
-        Scalar::Pointer(word) => put_number(out, at, word),
-        Scalar::KernelObject(word) => put_number(out, at, word),
-        Scalar::Boolean(value) => put_boolean(out, at, value),
-        Scalar::Unknown(_) => put_bytes(out, at, b" ?"),
+    fn put_unresolved(&mut self, index: usize)
+        ensures { Adds self.old (unresolved_shown index) self.new }
+    {
+        self.put_bytes(b" ?");
+        self.put_decimal(index as u64);
     }
-}
 
-pub fn put_value(out: &mut [u8], at: usize, archive: &[u8], value: ShownValue) -> usize
-    ensures { Puts out.old at (value_shown archive.now value) result out.new }
-{
-    match value {
-        ShownValue::Scalar(scalar) => put_scalar(out, at, scalar),
-        ShownValue::Text(text) => put_text(out, at, archive, text),
+    // A text by its length and its bytes.
+    pub fn put_text_bytes(&mut self, bytes: &[u8])
+        ensures { Adds self.old (bytes_shown bytes.now) self.new }
+    {
+        self.put_number(bytes.len() as u64);
+        self.put_bytes(b":");
+        self.put_bytes(bytes);
     }
-}
 
-// The argument type of a value that is no text.
-fn scalar_type(scalar: Scalar) -> u64
-    ensures { result ≡ scalar_type scalar }
-{
-    match scalar {
-        Scalar::Null => 0,
-        Scalar::Signed32(_) => 1,
-        Scalar::Unsigned32(_) => 2,
-        Scalar::Signed64(_) => 3,
-        Scalar::Unsigned64(_) => 4,
-        Scalar::Double(_) => 5,
-        Scalar::Pointer(_) => 7,
-        Scalar::KernelObject(_) => 8,
-        Scalar::Boolean(_) => 9,
-        Scalar::Unknown(variant) => variant as u64,
+    pub fn put_text(&mut self, archive: &[u8], text: ShownText)
+        ensures { Adds self.old (text_shown archive.now text) self.new }
+    {
+        match text {
+            ShownText::At { place, length } => {
+                self.put_text_bytes(words::part(archive, place, length))
+            }
+            ShownText::Unresolved { index } => self.put_unresolved(index),
+        }
+    }
+
+    fn put_words(&mut self, process: u64, thread: u64)
+        ensures { Adds self.old (number_shown process ++ number_shown thread) self.new }
+    {
+        self.put_number(process);
+        self.put_number(thread);
+    }
+
+    fn put_thread(&mut self, thread: ShownThread)
+        ensures { Adds self.old (thread_shown thread) self.new }
+    {
+        match thread {
+            ShownThread::Words { process, thread } => self.put_words(process, thread),
+            ShownThread::Unresolved { index } => self.put_unresolved(index),
+        }
+    }
+
+    // What a record refers to: a text or a thread.
+    pub fn put_referent(&mut self, archive: &[u8], referent: ShownReferent)
+        ensures { Adds self.old (referent_shown archive.now referent) self.new }
+    {
+        match referent {
+            ShownReferent::Text(text) => self.put_text(archive, text),
+            ShownReferent::Thread(thread) => self.put_thread(thread),
+        }
+    }
+
+    pub fn put_provider(&mut self, provider: Option<u32>)
+        ensures { Adds self.old (provider_shown provider) self.new }
+    {
+        match provider {
+            None => self.put_bytes(b" -"),
+            Some(id) => self.put_number(u64::from(id)),
+        }
+    }
+
+    fn put_scalar(&mut self, scalar: Scalar)
+        ensures { Adds self.old (scalar_shown scalar) self.new }
+    {
+        match scalar {
+            Scalar::Null => self.put_bytes(b" -"),
+            Scalar::Signed32(n) => self.put_signed(i64::from(n)),
+            Scalar::Unsigned32(n) => self.put_number(u64::from(n)),
+            Scalar::Signed64(n) => self.put_signed(n),
+            Scalar::Unsigned64(n) => self.put_number(n),
+            Scalar::Double(bits) => self.put_double(bits),
+            Scalar::Pointer(word) => self.put_number(word),
+            Scalar::KernelObject(word) => self.put_number(word),
+            Scalar::Boolean(value) => self.put_boolean(value),
+            Scalar::Unknown(_) => self.put_bytes(b" ?"),
+        }
+    }
+
+    pub fn put_value(&mut self, archive: &[u8], value: ShownValue)
+        ensures { Adds self.old (value_shown archive.now value) self.new }
+    {
+        match value {
+            ShownValue::Scalar(scalar) => self.put_scalar(scalar),
+            ShownValue::Text(text) => self.put_text(archive, text),
+        }
+    }
+
+    // A byte by two lower-case hexadecimal digits.
+    fn put_hex_byte(&mut self, byte: u8)
+        ensures { Adds self.old (last_digits 16 2 byte) self.new }
+    {
+        let mut text = [0u8; 16];
+        let k = io::hex(u64::from(byte), 2, &mut text);
+        self.put_bytes(&text[..k]);
+    }
+
+    // Bytes by two lower-case hexadecimal digits each.
+    pub fn put_hex(&mut self, bytes: &[u8])
+        ensures { Adds self.old (hex_shown bytes.now) self.new }
+    {
+        for &byte in bytes {
+            self.put_hex_byte(byte);
+        }
     }
 }
 
@@ -218,29 +211,7 @@ pub fn value_type(value: ShownValue) -> u64
     ensures { result ≡ value_type value }
 {
     match value {
-        ShownValue::Scalar(scalar) => scalar_type(scalar),
+        ShownValue::Scalar(scalar) => scalar.argument_type(),
         ShownValue::Text(_) => 6,
     }
-}
-
-// A byte by two lower-case hexadecimal digits.
-fn put_hex_byte(out: &mut [u8], at: usize, byte: u8) -> usize
-    ensures { Puts out.old at (last_digits 16 2 byte) result out.new }
-{
-    let mut text = [0u8; 16];
-    let k = io::hex(byte as u64, 2, &mut text);
-    put_bytes(out, at, &text[..k])
-}
-
-// Bytes by two lower-case hexadecimal digits each.
-pub fn put_hex(out: &mut [u8], at: usize, bytes: &[u8]) -> usize
-    ensures { Puts out.old at (hex_shown bytes.now) result out.new }
-{
-    let mut last = at;
-    let mut i = 0;
-    while i < bytes.len() {
-        last = put_hex_byte(out, last, bytes[i]);
-        i += 1;
-    }
-    last
 }

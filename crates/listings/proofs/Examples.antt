@@ -5,7 +5,7 @@ use mathlib.Core.List.{List, [], ◌∷◌, ◌++◌}
 use mathlib.Core.Bool.{true}
 use lib.IntN.{negsuc}
 use lib.ListN.{replicate}
-use Rattle.effects.specs.Follow.{changed, followed, followed_entered, change_of}
+use Rattle.effects.specs.Follow.{changed, stopped, followed, change_of}
 use Rattle.words.specs.Word.{word_at, word_bytes, little, little_at, bytes_of}
 use Rattle.words.specs.Stream.{magic, starts_with_magic, part_of}
 use Rattle.format.specs.Limits.{small_format}
@@ -92,7 +92,7 @@ unfolding little little_at word_at word_bytes bytes_of magic starts_with_magic r
     has_extra extra_words is_event event_layout log_layout layout_of event_of log_of own_of take_fields last_word report_of metadata_of string_of content_of record_of
     belongs_to provider_of highest_of position registration_of entry_at resolved
     is_bad shown_text shown_thread shown_referent shown_stream shown_report none_bad shown_value
-    opening_number archive_number stopping report_answer plain_answer effect_decision content_decision followed followed_entered change_of effect_of arguments_read
+    opening_number archive_number stopping report_answer plain_answer effect_decision content_decision stopped followed change_of effect_of arguments_read
     place_decision decision_of changed shown_argument asked_report asked_place argument_reply part_of
     decimal_within decimal number_shown signed_shown boolean_shown double_shown unresolved_shown bytes_shown text_shown thread_shown referent_shown provider_shown
     scalar_shown value_shown value_type trace_line magic_line timestamp_shown event_start referents_shown extra_shown event_shown log_shown own_shown report_line argument_line end_line

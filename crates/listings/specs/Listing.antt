@@ -1,11 +1,12 @@
 -- The listing of a whole archive, after "The listing program" and "The list of items" of document 01. It is built of the definitions that the
 -- contracts of `reader::open`, `step` and `argument` cite.
-use Rattle.std.specs.Prelude.{ℕ, zero, suc, ◌+◌, ◌/◌, List, [], ◌++◌, Bool, true, false, length, ltb}
+use Rattle.std.specs.Prelude.{ℕ, zero, suc, ◌+◌, ◌/◌, List, [], ◌++◌, Bool, true, false, length, ltb, Option, Some, None}
 use Rattle.words.specs.Word.{pick}
 use Rattle.format.specs.declared.Format.{Format}
 use Rattle.contexts.specs.declared.State.{State}
 use Rattle.reader.specs.declared.Answer.{Answer}
 use Rattle.reader.specs.declared.Answer.TheVariants.{End, Nothing, Magic, ProviderInfo, Section, ProviderEvent, Initialization, Report, Skipped}
+use Rattle.reader.specs.declared.Reply.{Reply}
 use Rattle.reader.specs.Step.{open_reply, open_tables, step_reply, step_tables}
 use Rattle.reader.specs.Ask.{argument_reply}
 use Rattle.item_lines.specs.Line.{trace_line, end_line, answer_line, asked_line}
@@ -45,6 +46,10 @@ is_end (ProviderEvent id event) = false
 is_end (Initialization rate) = false
 is_end (Report r) = false
 is_end (Skipped type size) = false
+
+-- the state behind a step, none where its answer is the last
+unfoldable pub next_state : Reply → Option State
+next_state r = pick (is_end r.answer) None (Some r.state)
 
 -- the lines of so many steps at most, up to the first that ends
 unfoldable pub lines_from : Format → List ℕ → ℕ → State → List ℕ → List ℕ

@@ -7,39 +7,32 @@ use native.Mathlib.Omega.{arith}
 use borrow.Author.Tests.{eq-eqb, le-ltb}
 use lib.Dec.{eqb}
 use lib.ListN.{length, drop, length-drop}
+use Rattle.std.proofs.Common.{Result, Ok, Err}
 use Rattle.words.specs.Word.{pick, word_at}
 use Rattle.words.proofs.Tests.{cases}
 use Rattle.format.specs.declared.Format.{Format}
+use Rattle.format.specs.declared.Reason.{Reason}
 use Rattle.format.specs.declared.Reference.{Reference}
 use Rattle.format.specs.Part.{inline_bytes, padding_zero}
 use Rattle.format.specs.Models.Bounds.{Inside}
 use Rattle.format.proofs.Parts.{inside_wider}
 use Rattle.arguments.specs.declared.Argument.{Argument}
 use Rattle.arguments.specs.declared.Argued.{Argued}
-use Rattle.arguments.specs.declared.Argued.TheVariants.{Refused as NotRead, Argument as Read}
-use Rattle.arguments.specs.declared.Texts.TheVariants.{Refused as TextsRefused, Texts as TextsRead}
 use Rattle.arguments.specs.declared.Value.{Value}
 use Rattle.arguments.specs.declared.Value.TheVariants.{Scalar as ScalarValue, Text}
-use Rattle.arguments.specs.declared.Walked.{Walked}
-use Rattle.arguments.specs.declared.Walked.TheVariants.{Refused as WalkRefused, End as WalkEnd}
-use Rattle.arguments.specs.Argument.{argument_type, on_argued, text_in, argument_of, arguments_of, walked}
+use Rattle.arguments.specs.Argument.{argument_type, argued, on_argued, text_in, argument_of, arguments_of, walked}
 use Rattle.arguments.specs.Loss.{value_bytes, value_padding_zero, argument_keeps, arguments_keep}
 use Rattle.arguments.specs.Models.Bounds.{ValueInside}
-use Rattle.arguments.specs.Models.Reading.{texts_of, held_bytes}
+use Rattle.arguments.specs.Models.Reading.{texts, texts_of, held_bytes}
 use Rattle.arguments.proofs.Arguments.{texts_read, texts_refused, argument_read, walk_turn, keep_turn}
 use Rattle.arguments.proofs.Shown.{ValueShown, value_read}
 use Rattle.records.specs.declared.Layout.{Layout}
-use Rattle.records.specs.declared.Fields.TheVariants.{Refused as FieldsRefused, Fields as FieldsRead}
-use Rattle.records.specs.declared.Last.{Last}
-use Rattle.records.specs.declared.Last.TheVariants.{Refused as LastRefused, Word}
-use Rattle.records.specs.declared.Content.TheVariants.{Refused as ContentRefused}
-use Rattle.records.specs.Layout.{layout_of, take_fields, last_word, report_of}
+use Rattle.records.specs.Layout.{layout_of, fields, take_fields, last_word, report_of, refused_by}
 use Rattle.records.specs.Loss.{report_keeps, record_keeps}
 use Rattle.records.proofs.Layouts.{Stand, fields_read}
-use Rattle.losses.specs.declared.CheckedArgument.TheVariants.{Refused as ArgumentRefused, Argument as ArgumentRead}
+use Rattle.losses.specs.declared.CheckedArgument.{CheckedArgument}
 use Rattle.losses.specs.declared.CheckedEnd.{CheckedEnd}
-use Rattle.losses.specs.declared.CheckedEnd.TheVariants.{Refused, End}
-use Rattle.losses.specs.Models.Checking.{texts_keep, checked_argument, end_of, checked_arguments, with_last, fields_keep}
+use Rattle.losses.specs.Models.Checking.{texts_keep, checked, checked_argument, ended, end_of, checked_arguments, with_last, fields_keep}
 use Rattle.losses.proofs.Kept.{kept_end}
 
 -- ---- one argument
@@ -80,7 +73,7 @@ pub record TextsStand (f : Format) (rest : List ℕ) (place : ℕ) (name value :
   pub value-inside : argument_type (word_at f.order rest 0) ≡ 6 → Inside place (place + length rest) value
 
 -- those of an argument that is read do
-argument_stands : (f : Format) (rest : List ℕ) (place : ℕ) (a : Argument) (size : ℕ) → argument_of f rest place ≡ Read a size
+argument_stands : (f : Format) (rest : List ℕ) (place : ℕ) (a : Argument) (size : ℕ) → argument_of f rest place ≡ argued a size
     → TextsStand f rest place a.name (text_in a.value) size
 argument_stands f rest place a size e =
     let type = argument_type (word_at f.order rest 0) in
@@ -96,7 +89,7 @@ argument_stands f rest place a size e =
     }
 
 -- and texts that are known to be taken
-pub texts_stand : (f : Format) (rest : List ℕ) (place : ℕ) (name value : Reference) (size : ℕ) → texts_of f rest place ≡ TextsRead name value size
+pub texts_stand : (f : Format) (rest : List ℕ) (place : ℕ) (name value : Reference) (size : ℕ) → texts_of f rest place ≡ texts name value size
     → TextsStand f rest place name value size
 texts_stand f rest place name value size e =
     let q = texts_read f rest place name value size e in
@@ -104,8 +97,8 @@ texts_stand f rest place name value size e =
     (subst (λ (x : Reference). TextsStand f rest place q.0.name x size) q.3 (argument_stands f rest place q.0 size q.1))
 
 -- an argument whose texts are read, as it is checked
-pub checked_texts : (f : Format) (rest : List ℕ) (place : ℕ) (name value : Reference) (size : ℕ) → texts_of f rest place ≡ TextsRead name value size
-    → checked_argument f rest place ≡ ArgumentRead size (texts_keep f rest place name value size)
+pub checked_texts : (f : Format) (rest : List ℕ) (place : ℕ) (name value : Reference) (size : ℕ) → texts_of f rest place ≡ texts name value size
+    → checked_argument f rest place ≡ checked size (texts_keep f rest place name value size)
 unfolding checked_argument
 checked_texts f rest place name value size e =
     let q = texts_read f rest place name value size e in
@@ -113,49 +106,51 @@ checked_texts f rest place name value size e =
     rw (q.1, keeps_by_texts f rest place q.0 size shown, q.2, q.3)
 
 -- one whose texts are refused
-pub checked_number : (f : Format) (rest : List ℕ) (place number : ℕ) → texts_of f rest place ≡ TextsRefused number
-    → checked_argument f rest place ≡ ArgumentRefused number
+pub checked_reason : (f : Format) (rest : List ℕ) (place : ℕ) (reason : Reason) → texts_of f rest place ≡ Err reason
+    → checked_argument f rest place ≡ Err reason
 unfolding checked_argument
-checked_number f rest place number e = rw (texts_refused f rest place number e)
+checked_reason f rest place reason e = rw (texts_refused f rest place reason e)
 
 -- ---- all arguments of a record
 
 -- the argument behind what is checked of it
-argument_checked : (f : Format) (rest : List ℕ) (place size : ℕ) (kept : Bool) → checked_argument f rest place ≡ ArgumentRead size kept
-    → (a : Argument) × (argument_of f rest place ≡ Read a size) × (argument_keeps f rest place a size ≡ kept)
+argument_checked : (f : Format) (rest : List ℕ) (place size : ℕ) (kept : Bool) → checked_argument f rest place ≡ checked size kept
+    → (a : Argument) × (argument_of f rest place ≡ argued a size) × (argument_keeps f rest place a size ≡ kept)
 unfolding checked_argument
 argument_checked f rest place size kept = go (argument_of f rest place) refl
   where
-    go : (x : Argued) → argument_of f rest place ≡ x
-        → on_argued x ArgumentRefused (λ a size. ArgumentRead size (argument_keeps f rest place a size)) ≡ ArgumentRead size kept
-        → (a : Argument) × (argument_of f rest place ≡ Read a size) × (argument_keeps f rest place a size ≡ kept)
-    go (NotRead number) q e = let z : ◌≡◌ {A = ℕ} 0 1 = cc in absurd (omega arith)
-    go (Read a size') q e =
-        let same : size' ≡ size = cc in
-        let keeps : argument_keeps f rest place a size' ≡ kept = cc in
-        (a, q ∙ ap (Read a) same, rw same at keeps)
+    go : (x : Result Argued Reason) → argument_of f rest place ≡ x
+        → on_argued x Err (λ a size. checked size (argument_keeps f rest place a size)) ≡ checked size kept
+        → (a : Argument) × (argument_of f rest place ≡ argued a size) × (argument_keeps f rest place a size ≡ kept)
+    go (Err reason) q e = cc
+    go (Ok x) q e =
+        let here : CheckedArgument = record { size = x.size; keeps = argument_keeps f rest place x.argument x.size } in
+        let same : ◌≡◌ {A = CheckedArgument} here (record { size = size; keeps = kept }) = cc in
+        let long : x.size ≡ size = ap (λ (c : CheckedArgument). c.size) same in
+        let keeps : argument_keeps f rest place x.argument x.size ≡ kept = ap (λ (c : CheckedArgument). c.keeps) same in
+        (x.argument, q ∙ ap (argued x.argument) long, rw long at keeps)
 
 -- an argument that is refused as it is checked, is refused
-argument_refused : (f : Format) (rest : List ℕ) (place number : ℕ) → checked_argument f rest place ≡ ArgumentRefused number
-    → argument_of f rest place ≡ NotRead number
+argument_refused : (f : Format) (rest : List ℕ) (place : ℕ) (reason : Reason) → checked_argument f rest place ≡ Err reason
+    → argument_of f rest place ≡ Err reason
 unfolding checked_argument
-argument_refused f rest place number = go (argument_of f rest place) refl
+argument_refused f rest place reason = go (argument_of f rest place) refl
   where
-    go : (x : Argued) → argument_of f rest place ≡ x
-        → on_argued x ArgumentRefused (λ a size. ArgumentRead size (argument_keeps f rest place a size)) ≡ ArgumentRefused number
-        → argument_of f rest place ≡ NotRead number
-    go (NotRead number') q e = let z : number' ≡ number = cc in q ∙ ap NotRead z
-    go (Read a size) q e = cc
+    go : (x : Result Argued Reason) → argument_of f rest place ≡ x
+        → on_argued x Err (λ a size. checked size (argument_keeps f rest place a size)) ≡ Err reason
+        → argument_of f rest place ≡ Err reason
+    go (Err by) q e = let z : by ≡ reason = cc in q ∙ ap Err z
+    go (Ok x) q e = cc
 
 -- an argument that is checked stands inside what is left of its record
-pub checked_inside : (f : Format) (rest : List ℕ) (place size : ℕ) (kept : Bool) → checked_argument f rest place ≡ ArgumentRead size kept
+pub checked_inside : (f : Format) (rest : List ℕ) (place size : ℕ) (kept : Bool) → checked_argument f rest place ≡ checked size kept
     → size ≤ length rest
 checked_inside f rest place size kept e =
     let q = argument_checked f rest place size kept e in
     (argument_read f rest place q.0 size q.1).inside
 
 -- what the walk comes to from here, where all before keeps or not
-abbrev pub end_from : Format → (sofar : Bool) (count : ℕ) → List ℕ → (place extra : ℕ) → CheckedEnd
+abbrev pub end_from : Format → (sofar : Bool) (count : ℕ) → List ℕ → (place extra : ℕ) → Result CheckedEnd Reason
 end_from f sofar count rest place extra = end_of (walked (arguments_of f count rest place)) (sofar && arguments_keep f count rest place extra)
 
 -- three tests together, grouped otherwise
@@ -165,7 +160,7 @@ regrouped false b c = refl
 
 -- one turn of the walk: the argument is checked, and the rest is behind it
 pub check_turn : (f : Format) (sofar : Bool) (n : ℕ) (rest : List ℕ) (place extra size : ℕ) (kept : Bool) → 0 < n
-    → checked_argument f rest place ≡ ArgumentRead size kept
+    → checked_argument f rest place ≡ checked size kept
     → end_from f sofar n rest place extra ≡ end_from f (sofar && kept) (n - 1) (drop size rest) (place + size) extra
 check_turn f sofar n rest place extra size kept some e =
     let q = argument_checked f rest place size kept e in
@@ -174,38 +169,41 @@ check_turn f sofar n rest place extra size kept some e =
     (ap (end_of (walked (arguments_of f (n - 1) (drop size rest) (place + size)))) (regrouped sofar kept others))
 
 -- an argument that is refused ends it
-pub check_refused : (f : Format) (sofar : Bool) (n : ℕ) (rest : List ℕ) (place extra number : ℕ) → 0 < n
-    → checked_argument f rest place ≡ ArgumentRefused number → end_from f sofar n rest place extra ≡ Refused number
-check_refused f sofar n rest place extra number some e =
-    rw (walk_turn f n rest place some, argument_refused f rest place number e)
+pub check_refused : (f : Format) (sofar : Bool) (n : ℕ) (rest : List ℕ) (place extra : ℕ) (reason : Reason) → 0 < n
+    → checked_argument f rest place ≡ Err reason → end_from f sofar n rest place extra ≡ Err reason
+check_refused f sofar n rest place extra reason some e =
+    rw (walk_turn f n rest place some, argument_refused f rest place reason e)
 
 -- with no argument left, the bytes behind them are as many as they are to be, or not
 pub check_end : (f : Format) (sofar : Bool) (n : ℕ) (rest : List ℕ) (place extra : ℕ) → n ≡ 0
-    → end_from f sofar n rest place extra ≡ End place (sofar && eqb (length rest) extra)
+    → end_from f sofar n rest place extra ≡ ended place (sofar && eqb (length rest) extra)
 unfolding arguments_of arguments_keep
 check_end f sofar n rest place extra e = rw e
 
 -- the walk in two: where the arguments end, and whether they lose nothing
 pub checked_ended : (f : Format) (count : ℕ) (rest : List ℕ) (place extra at : ℕ) (keeps : Bool)
-    → checked_arguments f count rest place extra ≡ End at keeps
-    → (walked (arguments_of f count rest place) ≡ WalkEnd at) × (arguments_keep f count rest place extra ≡ keeps)
+    → checked_arguments f count rest place extra ≡ ended at keeps
+    → (walked (arguments_of f count rest place) ≡ Ok at) × (arguments_keep f count rest place extra ≡ keeps)
 unfolding checked_arguments
 checked_ended f count rest place extra at keeps = go (walked (arguments_of f count rest place))
   where
-    go : (w : Walked) → end_of w (arguments_keep f count rest place extra) ≡ End at keeps
-        → (w ≡ WalkEnd at) × (arguments_keep f count rest place extra ≡ keeps)
-    go (WalkRefused number) e = let z : ◌≡◌ {A = ℕ} 0 1 = cc in absurd (omega arith)
-    go (WalkEnd at') e = let same : at' ≡ at = cc in (ap WalkEnd same, cc)
+    go : (w : Result ℕ Reason) → end_of w (arguments_keep f count rest place extra) ≡ ended at keeps
+        → (w ≡ Ok at) × (arguments_keep f count rest place extra ≡ keeps)
+    go (Err reason) e = cc
+    go (Ok at') e =
+        let here : CheckedEnd = record { at = at'; keeps = arguments_keep f count rest place extra } in
+        let same : ◌≡◌ {A = CheckedEnd} here (record { at = at; keeps = keeps }) = cc in
+        (ap (λ (c : CheckedEnd). Ok c.at) same, ap (λ (c : CheckedEnd). c.keeps) same)
 
 -- a walk that is refused
-pub checked_refused : (f : Format) (count : ℕ) (rest : List ℕ) (place extra number : ℕ) → checked_arguments f count rest place extra ≡ Refused number
-    → walked (arguments_of f count rest place) ≡ WalkRefused number
+pub checked_refused : (f : Format) (count : ℕ) (rest : List ℕ) (place extra : ℕ) (reason : Reason) → checked_arguments f count rest place extra ≡ Err reason
+    → walked (arguments_of f count rest place) ≡ Err reason
 unfolding checked_arguments
-checked_refused f count rest place extra number = go (walked (arguments_of f count rest place))
+checked_refused f count rest place extra reason = go (walked (arguments_of f count rest place))
   where
-    go : (w : Walked) → end_of w (arguments_keep f count rest place extra) ≡ Refused number → w ≡ WalkRefused number
-    go (WalkRefused number') e = let same : number' ≡ number = cc in ap WalkRefused same
-    go (WalkEnd at) e = let z : ◌≡◌ {A = ℕ} 0 1 = cc in absurd (omega arith)
+    go : (w : Result ℕ Reason) → end_of w (arguments_keep f count rest place extra) ≡ Err reason → w ≡ Err reason
+    go (Err by) e = let same : by ≡ reason = cc in ap Err same
+    go (Ok at) e = cc
 
 -- ---- records that refer to texts and threads
 
@@ -223,13 +221,13 @@ and_false true b e = e
 and_false false b e = refl
 
 -- where a last word is refused, it starts behind where it could
-last-refused : (f : Format) (source : List ℕ) (place at behind number : ℕ) → at + 8 * behind ≤ place + length source
-    → last_word f source place at behind ≡ LastRefused number → ⊥
+last-refused : (f : Format) (source : List ℕ) (place at behind : ℕ) (reason : Reason) → at + 8 * behind ≤ place + length source
+    → last_word f source place at behind ≡ Err reason → ⊥
 unfolding last_word
-last-refused f source place at behind number room e =
+last-refused f source place at behind reason room e =
     cases (eqb behind 0)
-    (λ q. let w = rw (le-ltb (place + length source) (at + 8 * behind) room, q) at e in let z : ◌≡◌ {A = ℕ} 0 1 = cc in absurd (omega arith))
-    (λ q. let w = rw (le-ltb (place + length source) (at + 8 * behind) room, q) at e in let z : ◌≡◌ {A = ℕ} 0 1 = cc in absurd (omega arith))
+    (λ q. let w = rw (le-ltb (place + length source) (at + 8 * behind) room, q) at e in cc)
+    (λ q. let w = rw (le-ltb (place + length source) (at + 8 * behind) room, q) at e in cc)
 
 -- the parts of a record stand inside it
 pub fields-inside : (l : Layout) (place end : ℕ) (a b c s : Reference) (next : ℕ) → Stand l (place + 8) end a b c s next
@@ -244,8 +242,8 @@ fields-inside l place end a b c s next stands = (
 -- a record whose parts are read and whose arguments end there: what stands in it, and whether it loses nothing
 checked_here : (f : Format) (source : List ℕ) (place : ℕ) (a b c s : Reference) (first at : ℕ) (keeps : Bool) → 8 ≤ length source
     → (let l = layout_of (word_at f.order source 0) in
-    take_fields f l source place ≡ FieldsRead a b c s first
-    → walked (arguments_of f l.count (drop (first - place) source) first) ≡ WalkEnd at
+    take_fields f l source place ≡ fields a b c s first
+    → walked (arguments_of f l.count (drop (first - place) source) first) ≡ Ok at
     → arguments_keep f l.count (drop (first - place) source) first (8 * l.behind) ≡ keeps
     → (report_of f source place ≡ with_last f l source a b c s first (last_word f source place at l.behind))
     × (record_keeps f source place (with_last f l source a b c s first (last_word f source place at l.behind))
@@ -263,7 +261,7 @@ checked_here f source place a b c s first at keeps some e walk kept =
     all : Bool
     all = fields_keep source place l.reserved a b c s && keeps
 
-    same_end : (m n : ℕ) → WalkEnd m ≡ WalkEnd n → m ≡ n
+    same_end : (m n : ℕ) → ◌≡◌ {A = Result ℕ Reason} (Ok m) (Ok n) → m ≡ n
     same_end m n q = cc
 
     room : keeps ≡ true → at + 8 * l.behind ≤ place + length source
@@ -273,27 +271,27 @@ checked_here f source place a b c s first at keeps some e walk kept =
         let stands = fields_read f l source place a b c s first some e in
         omega (arith, is, ends.0, stands.starts, stands.ends, length-drop (first - place) source)
 
-    of_last : (x : Last) → last_word f source place at l.behind ≡ x → record_keeps f source place (with_last f l source a b c s first x) ≡ all
-    of_last (LastRefused number) q =
-        cases keeps (λ k. absurd (last-refused f source place at l.behind number (room k) q))
+    of_last : (x : Result ℕ Reason) → last_word f source place at l.behind ≡ x → record_keeps f source place (with_last f l source a b c s first x) ≡ all
+    of_last (Err reason) q =
+        cases keeps (λ k. absurd (last-refused f source place at l.behind reason (room k) q))
         (λ k. sym (and_false (fields_keep source place l.reserved a b c s) keeps k))
-    of_last (Word last) q =
+    of_last (Ok last) q =
         rw kept
         (fields_grouped (eqb l.reserved 0) (padding_zero source place a) (padding_zero source place b) (padding_zero source place c)
         (padding_zero source place s) keeps)
 
 -- the same by the walk that finds both, for a layout that is known to be the record's
 pub checked_report : (f : Format) (source : List ℕ) (place : ℕ) (l : Layout) (a b c s : Reference) (first at : ℕ) (keeps : Bool) → 8 ≤ length source
-    → layout_of (word_at f.order source 0) ≡ l → take_fields f l source place ≡ FieldsRead a b c s first
-    → checked_arguments f l.count (drop (first - place) source) first (8 * l.behind) ≡ End at keeps
+    → layout_of (word_at f.order source 0) ≡ l → take_fields f l source place ≡ fields a b c s first
+    → checked_arguments f l.count (drop (first - place) source) first (8 * l.behind) ≡ ended at keeps
     → (report_of f source place ≡ with_last f l source a b c s first (last_word f source place at l.behind))
     × (record_keeps f source place (report_of f source place) ≡ (fields_keep source place l.reserved a b c s && keeps))
 checked_report f source place l a b c s first at keeps some is = subst P is here
   where
     P : Layout → Type 0
     P l =
-        take_fields f l source place ≡ FieldsRead a b c s first
-        → checked_arguments f l.count (drop (first - place) source) first (8 * l.behind) ≡ End at keeps
+        take_fields f l source place ≡ fields a b c s first
+        → checked_arguments f l.count (drop (first - place) source) first (8 * l.behind) ≡ ended at keeps
         → (report_of f source place ≡ with_last f l source a b c s first (last_word f source place at l.behind))
         × (record_keeps f source place (report_of f source place) ≡ (fields_keep source place l.reserved a b c s && keeps))
 
@@ -307,16 +305,16 @@ checked_report f source place l a b c s first at keeps some is = subst P is here
         (k.0, ap (record_keeps f source place) k.0 ∙ k.1)
 
 -- a record whose arguments are refused
-pub report-refused : (f : Format) (source : List ℕ) (place : ℕ) (l : Layout) (a b c s : Reference) (first number : ℕ)
-    → layout_of (word_at f.order source 0) ≡ l → take_fields f l source place ≡ FieldsRead a b c s first
-    → checked_arguments f l.count (drop (first - place) source) first (8 * l.behind) ≡ Refused number
-    → report_of f source place ≡ ContentRefused number
+pub report-refused : (f : Format) (source : List ℕ) (place : ℕ) (l : Layout) (a b c s : Reference) (first : ℕ) (reason : Reason)
+    → layout_of (word_at f.order source 0) ≡ l → take_fields f l source place ≡ fields a b c s first
+    → checked_arguments f l.count (drop (first - place) source) first (8 * l.behind) ≡ Err reason
+    → report_of f source place ≡ refused_by reason
 unfolding report_of
-report-refused f source place l a b c s first number is e w =
-    rw (is, e, checked_refused f l.count (drop (first - place) source) first (8 * l.behind) number w)
+report-refused f source place l a b c s first reason is e w =
+    rw (is, e, checked_refused f l.count (drop (first - place) source) first (8 * l.behind) reason w)
 
 -- one whose fields are
-pub fields-refused : (f : Format) (source : List ℕ) (place : ℕ) (l : Layout) (number : ℕ) → layout_of (word_at f.order source 0) ≡ l
-    → take_fields f l source place ≡ FieldsRefused number → report_of f source place ≡ ContentRefused number
+pub fields-refused : (f : Format) (source : List ℕ) (place : ℕ) (l : Layout) (reason : Reason) → layout_of (word_at f.order source 0) ≡ l
+    → take_fields f l source place ≡ Err reason → report_of f source place ≡ refused_by reason
 unfolding report_of
-fields-refused f source place l number is e = rw (is, e)
+fields-refused f source place l reason is e = rw (is, e)

@@ -7,26 +7,21 @@ use native.Mathlib.Omega.{arith}
 use borrow.Author.Tests.{eqb-true}
 use lib.Dec.{eqb}
 use lib.ListN.{length, drop, length-drop}
+use Rattle.std.proofs.Common.{Result, Ok, Err}
 use Rattle.words.specs.Word.{word_at}
 use Rattle.words.proofs.Tests.{both_true}
 use Rattle.format.specs.declared.Format.{Format}
+use Rattle.format.specs.declared.Reason.{Reason}
 use Rattle.format.specs.declared.Reference.{Reference}
 use Rattle.format.specs.Part.{padding_zero}
 use Rattle.arguments.specs.declared.Argument.{Argument}
 use Rattle.arguments.specs.declared.Argued.{Argued}
-use Rattle.arguments.specs.declared.Argued.TheVariants.{Refused as ArgumentRefused, Argument as ArgumentRead}
-use Rattle.arguments.specs.declared.Walked.{Walked}
-use Rattle.arguments.specs.declared.Walked.TheVariants.{Refused as WalkRefused, End}
 use Rattle.arguments.specs.Argument.{Arguments, refused, arguments, prepend, on_argued, argument_of, arguments_of, walked}
 use Rattle.arguments.specs.Loss.{argument_keeps, arguments_keep}
 use Rattle.arguments.proofs.Arguments.{ArgumentFits, argument_fits}
 use Rattle.records.specs.declared.Layout.{Layout}
-use Rattle.records.specs.declared.Fields.TheVariants.{Fields as FieldsRead}
-use Rattle.records.specs.declared.Last.{Last}
-use Rattle.records.specs.declared.Last.TheVariants.{Refused as LastRefused, Word}
 use Rattle.records.specs.declared.Content.{Content}
-use Rattle.records.specs.declared.Content.TheVariants.{Refused}
-use Rattle.records.specs.Layout.{layout_of, take_fields, last_word, on_walked, report_of}
+use Rattle.records.specs.Layout.{layout_of, fields, take_fields, last_word, on_number, report_of, refused_by}
 use Rattle.records.specs.Loss.{report_keeps, record_keeps}
 use Rattle.records.proofs.Layouts.{fields_read}
 use Rattle.losses.specs.Models.Checking.{with_last}
@@ -35,42 +30,42 @@ use Rattle.losses.specs.Models.Checking.{with_last}
 
 -- one argument before others does not change where they end
 walked-behind : (a : Argument) (q : Arguments) → walked (prepend a q) ≡ walked q
-walked-behind a (refused number) = refl
+walked-behind a (refused reason) = refl
 walked-behind a (arguments l next) = refl
 
 -- arguments that lose nothing are read, and end so many bytes before the end of what is left of their record
 pub kept_end : (f : Format) (count : ℕ) (rest : List ℕ) (place extra : ℕ) → arguments_keep f count rest place extra ≡ true
-    → (extra ≤ length rest) × (walked (arguments_of f count rest place) ≡ End (place + (length rest - extra)))
+    → (extra ≤ length rest) × (walked (arguments_of f count rest place) ≡ Ok (place + (length rest - extra)))
 unfolding arguments_keep arguments_of
 kept_end f zero rest place extra k =
     let e = eqb-true (length rest) extra k in
     let here : place ≡ place + (length rest - extra) = omega (arith, e) in
-    (omega (arith, e), ap End here)
+    (omega (arith, e), ap Ok here)
 kept_end f (suc count) rest place extra k =
     go (λ more at. kept_end f count more at extra) (argument_of f rest place) (argument_fits f rest place) k
   where
     go : ((more : List ℕ) (at : ℕ) → arguments_keep f count more at extra ≡ true
-        → (extra ≤ length more) × (walked (arguments_of f count more at) ≡ End (at + (length more - extra))))
-        → (x : Argued) → ArgumentFits rest place x
-        → on_argued x (λ number. false)
+        → (extra ≤ length more) × (walked (arguments_of f count more at) ≡ Ok (at + (length more - extra))))
+        → (x : Result Argued Reason) → ArgumentFits rest place x
+        → on_argued x (λ reason. false)
         (λ a size. argument_keeps f rest place a size && arguments_keep f count (drop size rest) (place + size) extra) ≡ true
         → (extra ≤ length rest)
         × (walked (on_argued x refused (λ a size. prepend a (arguments_of f count (drop size rest) (place + size))))
-        ≡ End (place + (length rest - extra)))
-    go ends (ArgumentRefused number) s k = absurd (true≢false (sym k))
-    go ends (ArgumentRead a size) s k =
-        let others = (both_true (argument_keeps f rest place a size) (arguments_keep f count (drop size rest) (place + size) extra) k).1 in
-        let r = ends (drop size rest) (place + size) others in
-        let long = length-drop size rest in
-        let same : place + size + (length (drop size rest) - extra) ≡ place + (length rest - extra) = omega (arith, r.0, s.inside, long) in
-        (omega (arith, r.0, s.inside, long), walked-behind a (arguments_of f count (drop size rest) (place + size)) ∙ r.1 ∙ ap End same)
+        ≡ Ok (place + (length rest - extra)))
+    go ends (Err reason) s k = absurd (true≢false (sym k))
+    go ends (Ok x) s k =
+        let others = (both_true (argument_keeps f rest place x.argument x.size) (arguments_keep f count (drop x.size rest) (place + x.size) extra) k).1 in
+        let r = ends (drop x.size rest) (place + x.size) others in
+        let long = length-drop x.size rest in
+        let same : place + x.size + (length (drop x.size rest) - extra) ≡ place + (length rest - extra) = omega (arith, r.0, s.inside, long) in
+        (omega (arith, r.0, s.inside, long), walked-behind x.argument (arguments_of f count (drop x.size rest) (place + x.size)) ∙ r.1 ∙ ap Ok same)
 
 -- ---- records that refer to texts and threads
 
 -- one whose parts are read: its arguments end where its last words start
 kept_here : (f : Format) (source : List ℕ) (place : ℕ) (a b c s : Reference) (first : ℕ) → 8 ≤ length source
     → (let l = layout_of (word_at f.order source 0) in
-    take_fields f l source place ≡ FieldsRead a b c s first
+    take_fields f l source place ≡ fields a b c s first
     → record_keeps f source place (report_of f source place) ≡ true
     → report_of f source place
     ≡ with_last f l source a b c s first (last_word f source place (place + length source - 8 * l.behind) l.behind))
@@ -86,15 +81,15 @@ kept_here f source place a b c s first some e keeps = rw e (of_walk (walked (arg
     end : ℕ
     end = place + length source - 8 * l.behind
 
-    then : Last → Content
+    then : Result ℕ Reason → Content
     then x = with_last f l source a b c s first x
 
-    same_end : (a b : ℕ) → End a ≡ End b → a ≡ b
+    same_end : (a b : ℕ) → ◌≡◌ {A = Result ℕ Reason} (Ok a) (Ok b) → a ≡ b
     same_end a b e = cc
 
-    of_last : (at : ℕ) → walked (arguments_of f l.count part first) ≡ End at → (x : Last) → record_keeps f source place (then x) ≡ true → at ≡ end
-    of_last at w (LastRefused number) k = absurd (true≢false (sym k))
-    of_last at w (Word last) k =
+    of_last : (at : ℕ) → walked (arguments_of f l.count part first) ≡ Ok at → (x : Result ℕ Reason) → record_keeps f source place (then x) ≡ true → at ≡ end
+    of_last at w (Err reason) k = absurd (true≢false (sym k))
+    of_last at w (Ok last) k =
         let tail = arguments_keep f l.count part first (8 * l.behind) in
         let one = padding_zero source place a in
         let two = padding_zero source place b in
@@ -109,17 +104,17 @@ kept_here f source place a b c s first some e keeps = rw e (of_walk (walked (arg
         let is = same_end at (first + (length part - 8 * l.behind)) (sym w ∙ ends.1) in
         omega (arith, is, ends.0, stands.starts, stands.ends, length-drop (first - place) source)
 
-    of_walk : (w : Walked) → walked (arguments_of f l.count part first) ≡ w
-        → record_keeps f source place (on_walked w Refused (λ at. then (last_word f source place at l.behind))) ≡ true
-        → on_walked w Refused (λ at. then (last_word f source place at l.behind)) ≡ then (last_word f source place end l.behind)
-    of_walk (WalkRefused number) q k = absurd (true≢false (sym k))
-    of_walk (End at) q k =
+    of_walk : (w : Result ℕ Reason) → walked (arguments_of f l.count part first) ≡ w
+        → record_keeps f source place (on_number w refused_by (λ at. then (last_word f source place at l.behind))) ≡ true
+        → on_number w refused_by (λ at. then (last_word f source place at l.behind)) ≡ then (last_word f source place end l.behind)
+    of_walk (Err reason) q k = absurd (true≢false (sym k))
+    of_walk (Ok at) q k =
         let is = of_last at q (last_word f source place at l.behind) k in
         ap (λ (n : ℕ). then (last_word f source place n l.behind)) is
 
 -- the same for a layout that is known to be the record's
 pub kept-report : (f : Format) (source : List ℕ) (place : ℕ) (l : Layout) (a b c s : Reference) (first : ℕ) → 8 ≤ length source
-    → layout_of (word_at f.order source 0) ≡ l → take_fields f l source place ≡ FieldsRead a b c s first
+    → layout_of (word_at f.order source 0) ≡ l → take_fields f l source place ≡ fields a b c s first
     → record_keeps f source place (report_of f source place) ≡ true
     → report_of f source place
     ≡ with_last f l source a b c s first (last_word f source place (place + length source - 8 * l.behind) l.behind)
@@ -127,7 +122,7 @@ kept-report f source place l a b c s first some is = subst P is (kept_here f sou
   where
     P : Layout → Type 0
     P l =
-        take_fields f l source place ≡ FieldsRead a b c s first
+        take_fields f l source place ≡ fields a b c s first
         → record_keeps f source place (report_of f source place) ≡ true
         → report_of f source place
         ≡ with_last f l source a b c s first (last_word f source place (place + length source - 8 * l.behind) l.behind)

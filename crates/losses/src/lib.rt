@@ -2,14 +2,14 @@
 // arguments. A record that is known to lose nothing is read without any.
 #![tactic(auto)]
 
-ghost use Rattle.std.specs.Prelude.{◌≡◌, true, false, ◌&&◌, ◌+◌, ◌-◌, ◌*◌, ◌^◌, ◌<◌, ◌≤◌, length, take, drop, eqb};
+ghost use Rattle.std.specs.Prelude.{◌≡◌, true, false, ◌&&◌, ◌+◌, ◌-◌, ◌*◌, ◌^◌, ◌<◌, ◌≤◌, length, take, drop, eqb, Ok};
 ghost use Rattle.words.specs.Word.{pick, word_at};
 ghost use Rattle.words.specs.Stream.{stream_words};
 ghost use Rattle.format.specs.Part.{padding_zero};
 ghost use Rattle.format.specs.Models.Bounds.{Inside};
 ghost use Rattle.arguments.specs.Loss.{reserved_bits};
 ghost use Rattle.arguments.specs.Models.Reading.{held_bytes, texts_of};
-ghost use Rattle.records.specs.Layout.{layout_of, report_of};
+ghost use Rattle.records.specs.Layout.{layout_of, report_of, refused_by};
 ghost use Rattle.records.specs.Record.{content_of, record_at};
 ghost use Rattle.records.specs.Lookups.{on_report};
 ghost use Rattle.records.specs.Loss.{words_keep, stream_keeps, record_keeps};
@@ -17,21 +17,22 @@ ghost use Rattle.records.specs.Models.Bounds.{ContentInside};
 ghost use Rattle.losses.specs.Models.Checking.{texts_keep, checked_argument, checked_arguments, with_last, fields_keep};
 
 use arguments::Texts;
-use format::{Extent, Format, Reference};
-use records::{Content, Fields, Last, Layout, Record};
+use format::{Format, Reason, Reference};
+use records::{Content, Fields, Layout, Record};
 
-// The size of an argument, and whether it loses nothing.
+// The size of an argument, and whether it loses nothing. `keeps` is a flag, here and below, and no refusal: the walk goes on behind a
+// loss, since what a later argument is refused by comes before it.
 #[derive(Clone, Copy)]
-pub enum CheckedArgument {
-    Refused(u8),
-    Argument { size: usize, keeps: bool },
+pub struct CheckedArgument {
+    pub size: usize,
+    pub keeps: bool,
 }
 
 // Where arguments end, and whether they lose nothing.
 #[derive(Clone, Copy)]
-pub enum CheckedEnd {
-    Refused(u8),
-    End { at: usize, keeps: bool },
+pub struct CheckedEnd {
+    pub at: usize,
+    pub keeps: bool,
 }
 
 // What stands in a record, and whether it loses nothing.
@@ -86,10 +87,7 @@ fn both_padding_zero(source: &[u8], place: usize, first: Reference, second: Refe
     requires { (place + length source.now < 2 ^ 63) × Inside place (place + length source.now) first × Inside place (place + length source.now) second }
     ensures { result ≡ (padding_zero source.now place first && padding_zero source.now place second) }
 {
-    if format::padding_zero(source, place, first) {
-        return format::padding_zero(source, place, second);
-    }
-    false
+    format::padding_zero(source, place, first) && format::padding_zero(source, place, second)
 }
 
 // Whether the padding behind the texts of an argument is zero; it has one behind its name where its type is 6.
@@ -110,19 +108,11 @@ fn texts_padding_zero(
 }
 
 // Whether the argument with these texts, which was read at the start of `rest`, loses nothing. Its value is not made.
-fn texts_keep(
-    f: Format,
-    rest: &[u8],
-    place: usize,
-    name: Reference,
-    value: Reference,
-    size: usize,
-) -> bool
-    requires { (place + length rest.now < 2 ^ 63) × (texts_of f rest.now place ≡ Texts.Texts name value size) }
-    ensures { result ≡ texts_keep f rest.now place name value size }
+fn texts_keep(f: Format, rest: &[u8], place: usize, texts: Texts) -> bool
+    requires { (place + length rest.now < 2 ^ 63) × (texts_of f rest.now place ≡ Ok texts) }
+    ensures { result ≡ texts_keep f rest.now place texts.name texts.value texts.size }
 {
-    let order = f.order;
-    let header = words::word(order, rest, 0);
+    let header = words::word(f.order, rest, 0);
     let variant = words::field(header, 0, 3);
     if 10 <= variant {
         return false;
@@ -130,53 +120,49 @@ fn texts_keep(
     if reserved_bits(header) != 0 {
         return false;
     }
-    let texts = format::inline_bytes(name) + format::inline_bytes(value);
-    if size != 8 + texts + held_bytes(variant) {
+    let inline = format::inline_bytes(texts.name) + format::inline_bytes(texts.value);
+    if texts.size != 8 + inline + held_bytes(variant) {
         return false;
     }
-    texts_padding_zero(rest, place, variant, name, value)
+    texts_padding_zero(rest, place, variant, texts.name, texts.value)
 }
 
 // The size of the argument at the start of what is left of a record, and whether it loses nothing.
-fn check_argument(f: Format, rest: &[u8], place: usize) -> CheckedArgument
+fn check_argument(f: Format, rest: &[u8], place: usize) -> Result<CheckedArgument, Reason>
     requires { place + length rest.now < 2 ^ 63 }
     ensures { result ≡ checked_argument f rest.now place }
 {
-    let texts = arguments::texts_of(f, rest, place);
-    match texts {
-        Texts::Refused(number) => CheckedArgument::Refused(number),
-        Texts::Texts { name, value, size } => {
-            let keeps = texts_keep(f, rest, place, name, value, size);
-            CheckedArgument::Argument { size, keeps }
-        }
-    }
+    let texts = arguments::texts_of(f, rest, place)?;
+    Ok(CheckedArgument {
+        size: texts.size,
+        keeps: texts_keep(f, rest, place, texts),
+    })
 }
 
 // Where so many arguments end, and whether they lose nothing, with `extra` bytes and no more behind them.
-fn check_arguments(f: Format, part: &[u8], place: usize, count: usize, extra: usize) -> CheckedEnd
+fn check_arguments(
+    f: Format,
+    part: &[u8],
+    place: usize,
+    count: usize,
+    extra: usize,
+) -> Result<CheckedEnd, Reason>
     requires { place + length part.now < 2 ^ 63 }
     ensures { result ≡ checked_arguments f count part.now place extra }
 {
     let mut rest = part;
     let mut at = place;
-    let mut left = count;
     let mut keeps = true;
-    while 0 < left {
-        let checked = check_argument(f, rest, at);
-        match checked {
-            CheckedArgument::Refused(number) => {
-                return CheckedEnd::Refused(number);
-            }
-            CheckedArgument::Argument { size, keeps: kept } => {
-                keeps = words::both(keeps, kept);
-                rest = &rest[size..];
-                at += size;
-                left -= 1;
-            }
-        }
+    for _ in 0..count {
+        let checked = check_argument(f, rest, at)?;
+        keeps = keeps & checked.keeps;
+        rest = &rest[checked.size..];
+        at += checked.size;
     }
-    keeps = words::both(keeps, rest.len() == extra);
-    CheckedEnd::End { at, keeps }
+    Ok(CheckedEnd {
+        at,
+        keeps: keeps & (rest.len() == extra),
+    })
 }
 
 // Whether a record of so many words and with these reserved bits loses nothing.
@@ -184,10 +170,7 @@ fn words_keep(source: &[u8], size: usize, reserved: u64) -> bool
     requires { size ≤ 2 ^ 60 }
     ensures { result ≡ words_keep source.now size reserved }
 {
-    if source.len() != 8 * size {
-        return false;
-    }
-    reserved == 0
+    source.len() == 8 * size && reserved == 0
 }
 
 // Whether a record that is a header and a stream, with these reserved bits, loses nothing.
@@ -195,17 +178,12 @@ fn stream_keeps(source: &[u8], place: usize, at: usize, long: usize, reserved: u
     requires { (place + length source.now < 2 ^ 63) × (place ≤ at) × (at + 8 * stream_words long ≤ place + length source.now) }
     ensures { result ≡ stream_keeps source.now place at long reserved }
 {
-    if words_keep(source, 1 + words::stream_words(long), reserved) {
-        return format::padding_zero(
-            source,
-            place,
-            Reference::Inline {
-                place: at,
-                length: long,
-            },
-        );
-    }
-    false
+    let stream = Reference::Inline {
+        place: at,
+        length: long,
+    };
+    words_keep(source, 1 + words::stream_words(long), reserved)
+        && format::padding_zero(source, place, stream)
 }
 
 // A record that refers to texts and threads, of which all is read but for this last word.
@@ -213,54 +191,46 @@ fn report_with(
     f: Format,
     layout: Layout,
     source: &[u8],
-    first: Reference,
-    second: Reference,
-    third: Reference,
-    stream: Reference,
-    arguments: usize,
-    last: Last,
+    fields: Fields,
+    last: Result<u64, Reason>,
 ) -> Content
     requires { 8 + 8 * (layout_of (word_at f.order source.now 0)).words ≤ length source.now }
-    ensures { result ≡ with_last f layout source.now first second third stream arguments last }
+    ensures { result ≡ with_last f layout source.now fields.first fields.second fields.third fields.stream fields.next last }
 {
     match last {
-        Last::Refused(number) => Content::Refused(number),
-        Last::Word(word) => {
-            Content::Report(records::report_read(
-                f, layout, source, first, second, third, stream, arguments, word,
-            ))
-        }
+        Err(reason) => Content::Refused(reason.number()),
+        Ok(word) => Content::Report(records::report_read(
+            f,
+            layout,
+            source,
+            fields.first,
+            fields.second,
+            fields.third,
+            fields.stream,
+            fields.next,
+            word,
+        )),
     }
 }
 
 // Whether its reserved bits, and the padding of its references and its stream, are zero.
-fn fields_keep(
-    source: &[u8],
-    place: usize,
-    reserved: u64,
-    first: Reference,
-    second: Reference,
-    third: Reference,
-    stream: Reference,
-) -> bool
-    requires { (place + length source.now < 2 ^ 63) × Inside place (place + length source.now) first × Inside place (place + length source.now) second × Inside place (place + length source.now) third × Inside place (place + length source.now) stream }
-    ensures { result ≡ fields_keep source.now place reserved first second third stream }
+fn fields_keep(source: &[u8], place: usize, reserved: u64, fields: Fields) -> bool
+    requires { (place + length source.now < 2 ^ 63) × Inside place (place + length source.now) fields.first × Inside place (place + length source.now) fields.second × Inside place (place + length source.now) fields.third × Inside place (place + length source.now) fields.stream }
+    ensures { result ≡ fields_keep source.now place reserved fields.first fields.second fields.third fields.stream }
 {
     if reserved != 0 {
         return false;
     }
-    if both_padding_zero(source, place, first, second) {
-        return both_padding_zero(source, place, third, stream);
-    }
-    false
+    both_padding_zero(source, place, fields.first, fields.second)
+        && both_padding_zero(source, place, fields.third, fields.stream)
 }
 
 // A record that is refused keeps nothing.
-fn refused(number: u8) -> CheckedContent
-    ensures { result ≡ record { content = Content.Refused number; keeps = false } }
+fn refused(reason: Reason) -> CheckedContent
+    ensures { result ≡ record { content = refused_by reason; keeps = false } }
 {
     CheckedContent {
-        content: Content::Refused(number),
+        content: Content::Refused(reason.number()),
         keeps: false,
     }
 }
@@ -270,43 +240,22 @@ fn checked_report_of(f: Format, source: &[u8], place: usize) -> CheckedContent
     requires { (8 ≤ length source.now) × (place + length source.now < 2 ^ 62) }
     ensures { (result.content ≡ report_of f source.now place) × (result.keeps ≡ record_keeps f source.now place (report_of f source.now place)) }
 {
-    let order = f.order;
-    let layout = records::layout_of(words::word(order, source, 0));
-    let fields = records::take_fields(f, layout, source, place);
-    match fields {
-        Fields::Refused(number) => refused(number),
-        Fields::Fields {
-            first,
-            second,
-            third,
-            stream,
-            next,
-        } => {
-            let behind = layout.behind;
-            let from = next - place;
-            let end = check_arguments(f, &source[from..], next, layout.count, 8 * behind);
-            match end {
-                CheckedEnd::Refused(number) => refused(number),
-                CheckedEnd::End { at, keeps } => {
-                    let last = records::last_word(f, source, place, at, behind);
-                    let kept = fields_keep(
-                        source,
-                        place,
-                        layout.reserved,
-                        first,
-                        second,
-                        third,
-                        stream,
-                    );
-                    CheckedContent {
-                        content: report_with(
-                            f, layout, source, first, second, third, stream, next, last,
-                        ),
-                        keeps: words::both(kept, keeps),
-                    }
-                }
-            }
-        }
+    let layout = records::layout_of(words::word(f.order, source, 0));
+    let fields = match records::take_fields(f, layout, source, place) {
+        Ok(fields) => fields,
+        Err(reason) => return refused(reason),
+    };
+    let from = fields.next - place;
+    let extra = 8 * layout.behind;
+    let end = match check_arguments(f, &source[from..], fields.next, layout.count, extra) {
+        Ok(end) => end,
+        Err(reason) => return refused(reason),
+    };
+    let last = records::last_word(f, source, place, end.at, layout.behind);
+    let kept = fields_keep(source, place, layout.reserved, fields);
+    CheckedContent {
+        content: report_with(f, layout, source, fields, last),
+        keeps: kept & end.keeps,
     }
 }
 
@@ -315,22 +264,13 @@ fn kept_report_of(f: Format, source: &[u8], place: usize) -> Content
     requires { (8 ≤ length source.now) × (place + length source.now < 2 ^ 62) × (record_keeps f source.now place (report_of f source.now place) ≡ true) }
     ensures { result ≡ report_of f source.now place }
 {
-    let order = f.order;
-    let layout = records::layout_of(words::word(order, source, 0));
-    let fields = records::take_fields(f, layout, source, place);
-    match fields {
-        Fields::Refused(number) => Content::Refused(number),
-        Fields::Fields {
-            first,
-            second,
-            third,
-            stream,
-            next,
-        } => {
-            let behind = layout.behind;
-            let at = place + source.len() - 8 * behind;
-            let last = records::last_word(f, source, place, at, behind);
-            report_with(f, layout, source, first, second, third, stream, next, last)
+    let layout = records::layout_of(words::word(f.order, source, 0));
+    match records::take_fields(f, layout, source, place) {
+        Err(reason) => Content::Refused(reason.number()),
+        Ok(fields) => {
+            let at = place + source.len() - 8 * layout.behind;
+            let last = records::last_word(f, source, place, at, layout.behind);
+            report_with(f, layout, source, fields, last)
         }
     }
 }
@@ -340,8 +280,7 @@ fn plain_keeps(f: Format, source: &[u8], place: usize, content: Content) -> bool
     requires { (8 ≤ length source.now) × (place + length source.now < 2 ^ 62) × ContentInside place (place + length source.now) content }
     ensures { result ≡ on_report content (record_keeps f source.now place content) (λ q. false) }
 {
-    let order = f.order;
-    let header = words::word(order, source, 0);
+    let header = words::word(f.order, source, 0);
     match content {
         Content::Refused(_) => false,
         Content::Magic => true,
@@ -385,8 +324,7 @@ fn checked_content_of(f: Format, source: &[u8], place: usize) -> CheckedContent
     requires { (8 ≤ length source.now) × (place + length source.now < 2 ^ 62) }
     ensures { (result.content ≡ content_of f source.now place) × (result.keeps ≡ record_keeps f source.now place (content_of f source.now place)) }
 {
-    let order = f.order;
-    let layout = records::layout_of(words::word(order, source, 0));
+    let layout = records::layout_of(words::word(f.order, source, 0));
     if layout.read {
         return checked_report_of(f, source, place);
     }
@@ -402,21 +340,19 @@ pub fn checked_record_at(f: Format, archive: &[u8], place: usize) -> Checked
     ensures keeps_value { result.keeps ≡ record_keeps f (take ((record_at f archive.now place).next - place) (drop place archive.now)) place (record_at f archive.now place).content }
 {
     let rest = &archive[place..];
-    let extent = format::extent_of(f, rest);
-    match extent {
-        Extent::Refused(number) => Checked {
+    match format::extent_of(f, rest) {
+        Err(reason) => Checked {
             record: Record {
-                content: Content::Refused(number),
+                content: Content::Refused(reason.number()),
                 next: place,
             },
             keeps: false,
         },
-        Extent::Bytes(size) => {
+        Ok(size) => {
             let checked = checked_content_of(f, &rest[..size], place);
-            let content = checked.content;
             Checked {
                 record: Record {
-                    content,
+                    content: checked.content,
                     next: place + size,
                 },
                 keeps: checked.keeps,
@@ -430,8 +366,7 @@ fn kept_content_of(f: Format, source: &[u8], place: usize) -> Content
     requires { (8 ≤ length source.now) × (place + length source.now < 2 ^ 62) × (record_keeps f source.now place (content_of f source.now place) ≡ true) }
     ensures { result ≡ content_of f source.now place }
 {
-    let order = f.order;
-    let layout = records::layout_of(words::word(order, source, 0));
+    let layout = records::layout_of(words::word(f.order, source, 0));
     if layout.read {
         return kept_report_of(f, source, place);
     }
@@ -444,13 +379,12 @@ pub fn kept_record_at(f: Format, archive: &[u8], place: usize) -> Record
     ensures { result ≡ record_at f archive.now place }
 {
     let rest = &archive[place..];
-    let extent = format::extent_of(f, rest);
-    match extent {
-        Extent::Refused(number) => Record {
-            content: Content::Refused(number),
+    match format::extent_of(f, rest) {
+        Err(reason) => Record {
+            content: Content::Refused(reason.number()),
             next: place,
         },
-        Extent::Bytes(size) => Record {
+        Ok(size) => Record {
             content: kept_content_of(f, &rest[..size], place),
             next: place + size,
         },

@@ -3,24 +3,25 @@
 // said on standard error, and then nothing else is written.
 #![tactic(auto)]
 
-use files::input::Input;
-use packer::Packed;
+use lines::Cursor;
 use std::io::Write;
 
 // Says why there is no repacked trace.
 fn fail<E: Write>(errors: &mut E, sentence: &[u8]) {
-    files::output::write(errors, sentence, sentence.len());
+    let _ = files::output::write(errors, sentence, sentence.len());
 }
 
 // The line of a refusal.
 fn refuse<E: Write>(errors: &mut E, number: u8, place: usize) {
     let mut line = [0u8; 64];
-    let n = item_lines::put_end(&mut line, 0, number, place);
-    files::output::write(errors, &line, n);
+    let mut end = Cursor::new(&mut line, 0);
+    item_lines::put_end(&mut end, number, place);
+    let n = end.place();
+    let _ = files::output::write(errors, &line, n);
 }
 
 fn write_packed<O: Write, E: Write>(output: &mut O, errors: &mut E, packed: &[u8], n: usize) {
-    if files::output::write(output, packed, n) {
+    if files::output::write(output, packed, n).is_ok() {
         return;
     }
     fail(errors, b"pack: standard output could not be written\n");
@@ -35,8 +36,8 @@ fn pack<O: Write, E: Write>(output: &mut O, errors: &mut E, input: &[u8]) {
     let mut bytes = [0u8; 32768];
     let packed = packer::repack(input, &mut room, &mut bytes);
     match packed {
-        Packed::Refused { number, place } => refuse(errors, number, place),
-        Packed::Written { length } => write_packed(output, errors, &bytes, length),
+        Err(refused) => refuse(errors, refused.number, refused.place),
+        Ok(length) => write_packed(output, errors, &bytes, length),
     }
 }
 
@@ -46,7 +47,7 @@ fn main(rt: HostRuntime) {
     let mut errors = rt.stderr();
     let input = files::input::read(&mut rt.stdin(), &mut buffer);
     match input {
-        Input::Bytes(n) => pack(&mut output, &mut errors, reader::text(&buffer, 0, n)),
-        Input::Failed => fail(&mut errors, b"pack: standard input could not be read\n"),
+        Ok(n) => pack(&mut output, &mut errors, reader::text(&buffer, 0, n)),
+        Err(_) => fail(&mut errors, b"pack: standard input could not be read\n"),
     }
 }

@@ -21,9 +21,9 @@ use Rattle.rule.specs.Rule.{rule}
 use Rattle.rule.specs.Refusal.{Refusal, refusal, run_of, refusal_of, items_of, Accepted, written_length}
 use Rattle.rule.proofs.Theorems.{run_items, accepted_reads, shortest, reads_back}
 use Rattle.format.specs.Header.{archive_number}
-use Rattle.packer.specs.declared.Packed.{Packed}
-use Rattle.packer.specs.declared.Packed.TheVariants.{Refused, Written}
-use Rattle.packer.specs.Pack.{room_words, packing_number, written_reply, refused_or, pack_reply, pack_room, output_of, pack_output, Shortest}
+use Rattle.std.specs.Prelude.{Ok}
+use Rattle.format.specs.Limits.{refused_at}
+use Rattle.packer.specs.Pack.{Packed, room_words, packing_number, written_reply, refused_or, pack_reply, pack_room, output_of, pack_output, Shortest}
 
 -- ---- the first checks
 
@@ -45,7 +45,7 @@ opened f archive room =
 
 -- what is refused at the first checks: the reply has its number, and room and output are as they were
 pub refused_reply : (f : Format) (archive room output : List ℕ) (number : ℕ) → number ≡ packing_number f archive (length room) → (number ≡ 0 → ⊥)
-    → (Refused number 0 ≡ pack_reply f archive (length room) (length output)) × (room ≡ pack_room f archive room)
+    → (refused_at number 0 ≡ pack_reply f archive (length room) (length output)) × (room ≡ pack_room f archive room)
     × (output ≡ pack_output f archive (length room) output)
 unfolding pack_reply pack_room pack_output
 refused_reply f archive room output number is nonzero = rw (← is, ne_eqb number 0 nonzero) (refl, refl, refl)
@@ -69,7 +69,7 @@ overwritten-first output bytes = take-append_seam bytes (drop (0 + length bytes)
 
 -- the bytes of an accepted archive, written at the start of an output that holds them, are the shortest
 written_shortest : (archive output : List ℕ) → AllBytes archive → Accepted small_format archive
-    → Shortest small_format archive (Written (written_length small_format archive)) (overwritten output 0 (rule small_format (items_of (run_of small_format archive))))
+    → Shortest small_format archive (Ok (written_length small_format archive)) (overwritten output 0 (rule small_format (items_of (run_of small_format archive))))
 written_shortest archive output bytes accepted =
     let items = items_of (run_of small_format archive) in (
       omega (arith, length-append (rule small_format items) (drop (0 + length (rule small_format items)) output)),

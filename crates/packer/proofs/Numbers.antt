@@ -17,9 +17,9 @@ use Rattle.rule.specs.Refusal.{Refusal, refusal, run_of, refusal_of, written_len
 use Rattle.rule.proofs.Numbers.{refusal_numbers}
 use Rattle.format.specs.Header.{archive_number}
 use Rattle.format.specs.Limits.{longest_archive}
-use Rattle.packer.specs.declared.Packed.{Packed}
-use Rattle.packer.specs.declared.Packed.TheVariants.{Refused, Written}
-use Rattle.packer.specs.Pack.{room_words, packing_number, written_reply, refused_or, pack_reply}
+use Rattle.std.specs.Prelude.{Ok, Err}
+use Rattle.format.specs.Limits.{refused_at}
+use Rattle.packer.specs.Pack.{Packed, room_words, packing_number, written_reply, refused_or, pack_reply}
 use Rattle.packer.specs.Numbers.{packed_number}
 use Rattle.packer.proofs.Demand.{opened}
 
@@ -35,11 +35,11 @@ pub record RepackPlaces (f : Format) (archive : List ℕ) (number place : ℕ) :
 
 -- the numbers that a repack can answer, each with its place
 abbrev RepackEnds : Format → List ℕ → Packed → Type 0
-RepackEnds f archive (Refused number place) = RepackNumber number × RepackPlaces f archive number place
-RepackEnds f archive (Written long) = Unit {0}
+RepackEnds f archive (Err refused) = RepackNumber refused.number × RepackPlaces f archive refused.number refused.place
+RepackEnds f archive (Ok long) = Unit {0}
 
 -- 1 and 2, and 13 and 14, stand at place 0
-at_zero : (f : Format) (archive : List ℕ) (number : ℕ) → Between 1 2 number ⊎ Between 13 14 number → RepackEnds f archive (Refused number 0)
+at_zero : (f : Format) (archive : List ℕ) (number : ℕ) → Between 1 2 number ⊎ Between 13 14 number → RepackEnds f archive (refused_at number 0)
 at_zero f archive number (inl b) =
     (inl b, record { opens = λ q. refl; found = λ q. absurd (omega (arith, b.1, q.0)); room = λ q. refl })
 at_zero f archive number (inr b) =
@@ -86,10 +86,10 @@ pub repack_numbers : (f : Format) (archive : List ℕ) (room output n : ℕ) →
 repack_numbers f archive room output n = go (pack_reply f archive room output) (repack_ends f archive room output)
   where
     go : (p : Packed) → RepackEnds f archive p → packed_number p ≡ some n → RepackNumber n
-    go (Refused number place) h e = let q : number ≡ n = cc in subst RepackNumber q h.0
-    go (Written long) h e = let z : ◌≡◌ {A = ℕ} 0 1 = cc in absurd (omega arith)
+    go (Err refused) h e = let q : refused.number ≡ n = cc in subst RepackNumber q h.0
+    go (Ok long) h e = let z : ◌≡◌ {A = ℕ} 0 1 = cc in absurd (omega arith)
 
 -- And each number with document 01's place.
-pub repack_places : (f : Format) (archive : List ℕ) (room output number place : ℕ) → pack_reply f archive room output ≡ Refused number place
+pub repack_places : (f : Format) (archive : List ℕ) (room output number place : ℕ) → pack_reply f archive room output ≡ refused_at number place
     → RepackPlaces f archive number place
 repack_places f archive room output number place e = (subst (RepackEnds f archive) e (repack_ends f archive room output)).1

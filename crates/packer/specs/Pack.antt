@@ -1,17 +1,21 @@
 -- What a repack replies, writes and leaves, after "Repacking checks" of document 01, and demand 3 as a claim about the reply and the output.
-use Rattle.std.specs.Prelude.{ℕ, ◌*◌, ◌≤◌, ◌≡◌, List, length, take, eqb, ltb}
+use Rattle.std.specs.Prelude.{ℕ, ◌*◌, ◌≤◌, ◌≡◌, List, length, take, eqb, ltb, Result, Ok, Err}
 use Rattle.std.proofs.Math.Option.{Option, none, some}
 use Rattle.words.specs.Word.{pick}
 use Rattle.words.specs.Stream.{overwritten}
 use Rattle.format.specs.declared.Format.{Format}
+use Rattle.format.specs.declared.Refused.{Refused}
+use Rattle.format.specs.Limits.{refused_at}
 use Rattle.records.specs.Item.{Item}
 use Rattle.tables.specs.Table.{table_words, cleared}
 use Rattle.reader.specs.Reads.{ReadsAs}
 use Rattle.rule.specs.Rule.{rule}
 use Rattle.rule.specs.Refusal.{Refusal, refusal, run_of, refusal_of, items_of, written_length}
 use Rattle.format.specs.Header.{archive_number}
-use Rattle.packer.specs.declared.Packed.{Packed}
-use Rattle.packer.specs.declared.Packed.TheVariants.{Refused, Written}
+
+-- what a repack answers: how many bytes were written, or a refusal
+abbrev pub Packed : Type 0
+Packed = Result ℕ Refused
 
 -- "Repacking work room: 27,648 such words", four times as many as the reading tables have
 abbrev pub room_words : Format → ℕ
@@ -23,11 +27,11 @@ packing_number f archive room = archive_number archive 13 (room_words f) room
 
 -- 14: "output shorter than what would be written"; "The written length in the reply counts the bytes written from the output's start"
 unfoldable pub written_reply : ℕ → ℕ → Packed
-written_reply output long = pick (ltb output long) (Refused 14 0) (Written long)
+written_reply output long = pick (ltb output long) (refused_at 14 0) (Ok long)
 
 -- "then 5 to 9 as reading meets them, 10, 11, 12, 14"
 abbrev pub refused_or : Option Refusal → Packed → Packed
-refused_or (some (refusal number place)) reply = Refused number place
+refused_or (some (refusal number place)) reply = refused_at number place
 refused_or none reply = reply
 
 -- the reply for an archive that is let in, and an output of this length
@@ -37,7 +41,7 @@ passes_reply f archive output = refused_or (refusal_of f (run_of f archive)) (wr
 -- the reply for an archive, a room and an output of these lengths; "for 13 and 14, 0" is the place
 unfoldable pub pack_reply : Format → List ℕ → ℕ → ℕ → Packed
 pack_reply f archive room output =
-    pick (eqb (packing_number f archive room) 0) (passes_reply f archive output) (Refused (packing_number f archive room) 0)
+    pick (eqb (packing_number f archive room) 0) (passes_reply f archive output) (refused_at (packing_number f archive room) 0)
 
 -- "Refused by 1, 2 or 13: the work room is as it was. Otherwise its first 27,648 words are zero afterwards."
 unfoldable pub pack_room : Format → List ℕ → List ℕ → List ℕ
@@ -45,8 +49,8 @@ pack_room f archive room = pick (eqb (packing_number f archive (length room)) 0)
 
 -- "Output past the written length is as it was", and all of it where the archive is refused
 abbrev pub output_of : Packed → List ℕ → List ℕ → List ℕ
-output_of (Refused number place) output bytes = output
-output_of (Written long) output bytes = overwritten output 0 bytes
+output_of (Err refused) output bytes = output
+output_of (Ok long) output bytes = overwritten output 0 bytes
 
 unfoldable pub pack_output : Format → List ℕ → ℕ → List ℕ → List ℕ
 pack_output f archive room output = output_of (pack_reply f archive room (length output)) output (rule f (items_of (run_of f archive)))
@@ -61,8 +65,8 @@ pub record IsShortest (f : Format) (bytes : List ℕ) (l : List Item) : Type 0 w
 -- Demand 3, of a reply and the output after it: an archive that is repacked reads to its end as a list of items, and for the list that it reads as
 -- the first bytes of the output, exactly as many as the reply says, are the shortest
 abbrev pub Shortest : Format → List ℕ → Packed → List ℕ → Type 0
-Shortest f archive (Refused number place) output = Unit {0}
-Shortest f archive (Written long) output =
+Shortest f archive (Err refused) output = Unit {0}
+Shortest f archive (Ok long) output =
     (long ≤ length output)
     × ((l : List Item) × ReadsAs f archive l)
     × ((l : List Item) → ReadsAs f archive l → IsShortest f (take long output) l)

@@ -22,8 +22,8 @@ use Rattle.registering.proofs.Best.{price}
 use Rattle.format.specs.declared.Format.{Format}
 use Rattle.records.specs.Item.{thread, Key, text_key, thread_key, key_words as inline_words_of, Use}
 use Rattle.contexts.specs.declared.State.{State}
-use Rattle.contexts.specs.declared.Found.{Found}
-use Rattle.contexts.specs.declared.Found.TheVariants.{At, Nothing}
+use Rattle.std.specs.Prelude.{Some, None}
+use Rattle.std.specs.Prelude as code
 use Rattle.contexts.specs.Context.{find_id, provider_of}
 use Rattle.contexts.proofs.Contexts.{found_lt, found-is, found_first, found_none}
 use Rattle.reader.specs.Reads.{provider_item}
@@ -147,23 +147,23 @@ module _ (f : Format) (s : State) (few : s.count ≤ 8) where
   context_provider none none e = refl
   context_provider none (some b) e = go (find_id s.ids s.count b) e
     where
-      go : (r : Found) → 0 ≡ slot_or r b → none ≡ some b
-      go (At i) e = absurd (omega arith)
-      go Nothing e = absurd (omega arith)
+      go : (r : code.Option ℕ) → 0 ≡ slot_or r b → none ≡ some b
+      go (Some i) e = absurd (omega arith)
+      go None e = absurd (omega arith)
   context_provider (some a) none e = go (find_id s.ids s.count a) e
     where
-      go : (r : Found) → slot_or r a ≡ 0 → some a ≡ none
-      go (At i) e = absurd (omega arith)
-      go Nothing e = absurd (omega arith)
+      go : (r : code.Option ℕ) → slot_or r a ≡ 0 → some a ≡ none
+      go (Some i) e = absurd (omega arith)
+      go None e = absurd (omega arith)
   context_provider (some a) (some b) e = go (find_id s.ids s.count a) (find_id s.ids s.count b) refl refl e
     where
-      go : (x y : Found) → find_id s.ids s.count a ≡ x → find_id s.ids s.count b ≡ y → slot_or x a ≡ slot_or y b → some a ≡ some b
-      go (At i) (At j) p q e =
+      go : (x y : code.Option ℕ) → find_id s.ids s.count a ≡ x → find_id s.ids s.count b ≡ y → slot_or x a ≡ slot_or y b → some a ≡ some b
+      go (Some i) (Some j) p q e =
           let ij : i ≡ j = omega arith in
           ap some (sym (found-is s.ids s.count a i p) ∙ (ap (λ (n : ℕ). get_or s.ids n 0) ij ∙ found-is s.ids s.count b j q))
-      go (At i) Nothing p q e = absurd (omega (arith, found_lt s.ids s.count a i p))
-      go Nothing (At j) p q e = absurd (omega (arith, found_lt s.ids s.count b j q))
-      go Nothing Nothing p q e = let ab : a ≡ b = omega arith in ap some ab
+      go (Some i) None p q e = absurd (omega (arith, found_lt s.ids s.count a i p))
+      go None (Some j) p q e = absurd (omega (arith, found_lt s.ids s.count b j q))
+      go None None p q e = let ab : a ≡ b = omega arith in ap some ab
 
   -- two contexts are the same exactly if their numbers are
   same_context : (p q : Option ℕ) → same_provider p q ≡ eqb (context_in s p) (context_in s q)
@@ -280,15 +280,15 @@ module _ (f : Format) (s : State) (few : s.count ≤ 8) where
 
 -- where it is found, the slot of an id is the first that holds it
 id_slot : (ids : List ℕ) (count id i : ℕ) → count ≤ length ids → i < count → get_or ids i 0 ≡ id
-    → ((j : ℕ) → j < i → get_or ids j 0 ≡ id → ⊥) → find_id ids count id ≡ At i
+    → ((j : ℕ) → j < i → get_or ids j 0 ≡ id → ⊥) → find_id ids count id ≡ Some i
 id_slot ids count id i n l e first = go (find_id ids count id) refl
   where
-    go : (r : Found) → find_id ids count id ≡ r → r ≡ At i
-    go (At j) q =
+    go : (r : code.Option ℕ) → find_id ids count id ≡ r → r ≡ Some i
+    go (Some j) q =
         cases (ltb j i) (λ b. absurd (first j (ltb-true j i b) (found-is ids count id j q)))
         (λ b. cases (ltb i j) (λ c. absurd (found_first ids count id j i q (ltb-true i j c) e))
-        (λ c. let ij : j ≡ i = omega (arith, ltb-false j i b, ltb-false i j c) in ap At ij))
-    go Nothing q = absurd (found_none ids count id i n q l e)
+        (λ c. let ij : j ≡ i = omega (arith, ltb-false j i b, ltb-false i j c) in ap Some ij))
+    go None q = absurd (found_none ids count id i n q l e)
 
 -- the uses of the current provider are coded by the current context, in every later state too
 pub current_context : (f : Format) (archive tables : List ℕ) (s last : State) → Sound f archive s tables → Grown s last

@@ -15,15 +15,13 @@ use Rattle.format.specs.Limits.{longest_archive}
 use Rattle.format.specs.declared.Reference.{Reference}
 use Rattle.format.specs.declared.Reference.TheVariants.{Inline, Index}
 use Rattle.format.specs.declared.Taken.{Taken}
-use Rattle.format.specs.declared.Taken.TheVariants.{Refused as PartRefused, Part as PartRead}
+use Rattle.format.specs.declared.Reason.{Reason}
+use Rattle.std.specs.Prelude.{Result, Ok, Err}
 use Rattle.format.specs.declared.Part.TheVariants.{Words as words}
 use Rattle.format.specs.Part.{take_text, take_part, Body, refused as body_refused, body, prepend, on_taken, take_parts, on_body, part}
 use Rattle.arguments.specs.declared.Argument.{Argument}
-use Rattle.arguments.specs.declared.Argued.TheVariants.{Argument as ArgumentRead}
 use Rattle.arguments.specs.declared.Texts.{Texts}
-use Rattle.arguments.specs.declared.Texts.TheVariants.{Refused as TextsRefused, Texts as TextsRead}
-use Rattle.arguments.specs.declared.ValueTaken.TheVariants.{Refused as ValueTextRefused, Text as ValueText}
-use Rattle.arguments.specs.Argument.{argument_type, argument_size, holds_word, argument_of, text_in}
+use Rattle.arguments.specs.Argument.{argument_type, argument_size, holds_word, argued, argument_of, text_in}
 use Rattle.arguments.specs.Models.Reading.{texts_of, value_text}
 use Rattle.arguments.proofs.Arguments.{texts_named, on_name_texts, name_then_text}
 use Rattle.records.specs.declared.Content.{Content}
@@ -125,18 +123,18 @@ reference-fits f archive tables context table until (Index index) h low =
     go (Unresolved number) e = tt
 
 -- a text whose reference has 16 bits is short
-abbrev TakenShort : Taken → Type 0
-TakenShort (PartRefused number) = Unit {0}
-TakenShort (PartRead r next) = Short r
+abbrev TakenShort : Result Taken Reason → Type 0
+TakenShort (Err reason) = Unit {0}
+TakenShort (Ok taken) = Short taken.reference
 
-low-short : (r : ℕ) (x : Taken) → r < 65536 → TakenLow r x → TakenShort x
-low-short r (PartRefused number) h l = tt
-low-short r (PartRead x next) h l = omega (arith, l)
+low-short : (r : ℕ) (x : Result Taken Reason) → r < 65536 → TakenLow r x → TakenShort x
+low-short r (Err reason) h l = tt
+low-short r (Ok taken) h l = omega (arith, l)
 
 -- the texts of an argument, both short
-abbrev pub TextsShort : Texts → Type 0
-TextsShort (TextsRefused number) = Unit {0}
-TextsShort (TextsRead name value size) = Short name × Short value
+abbrev pub TextsShort : Result Texts Reason → Type 0
+TextsShort (Err reason) = Unit {0}
+TextsShort (Ok texts) = Short texts.name × Short texts.value
 
 -- those of every argument that is read are
 pub texts_short : (f : Format) (rest : List ℕ) (place : ℕ) → TextsShort (texts_of f rest place)
@@ -158,15 +156,15 @@ texts_short f rest place =
     own : List ℕ
     own = take size rest
 
-    of_text : (name : Reference) → Short name → (x : Taken) → TakenShort x
+    of_text : (name : Reference) → Short name → (x : Result Taken Reason) → TakenShort x
         → TextsShort (texts_named name size
-        (on_body (on_taken x (λ r next. prepend r (body [] next))) ValueTextRefused (λ rs next. ValueText (part 0 rs))))
-    of_text name h (PartRefused number) k = tt
-    of_text name h (PartRead r next) k = (h, k)
+        (on_body (on_taken x (λ r next. prepend r (body [] next))) Err (λ rs next. Ok (part 0 rs))))
+    of_text name h (Err reason) k = tt
+    of_text name h (Ok taken) k = (h, k)
 
     of_other : (name : Reference) → Short name → (b : Body)
-        → TextsShort (texts_named name size (on_body b ValueTextRefused (λ rs next. ValueText (Inline 0 0))))
-    of_other name h (body_refused number) = tt
+        → TextsShort (texts_named name size (on_body b Err (λ rs next. Ok (Inline 0 0))))
+    of_other name h (body_refused reason) = tt
     of_other name h (body rs next) = (h, omega arith)
 
     of_value : (name : Reference) (next : ℕ) → Short name → TextsShort (texts_named name size (value_text f hd next own place))
@@ -177,12 +175,12 @@ texts_short f rest place =
         (low-short (field 32 47 hd) (take_text f (field 32 47 hd) next own place) (omega arith) (text-low f (field 32 47 hd) next own place))))
         (λ e. rw e (of_other name h (take_parts f (pick (holds_word (argument_type hd)) (words 1 ∷ []) []) next own place)))
 
-    of_name : (x : Taken) → TakenShort x → TextsShort (on_name_texts x (λ name next. texts_named name size (value_text f hd next own place)))
-    of_name (PartRefused number) h = tt
-    of_name (PartRead name next) h = of_value name next h
+    of_name : (x : Result Taken Reason) → TakenShort x → TextsShort (on_name_texts x (λ name next. texts_named name size (value_text f hd next own place)))
+    of_name (Err reason) h = tt
+    of_name (Ok taken) h = of_value taken.reference taken.next h
 
 -- the name of an argument that was read, and the text of its value
-pub argument_short : (f : Format) (rest : List ℕ) (place : ℕ) (a : Argument) (size : ℕ) → argument_of f rest place ≡ ArgumentRead a size
+pub argument_short : (f : Format) (rest : List ℕ) (place : ℕ) (a : Argument) (size : ℕ) → argument_of f rest place ≡ argued a size
     → Short a.name × Short (text_in a.value)
 unfolding texts_of
 argument_short f rest place a size e = rw e at (texts_short f rest place)

@@ -15,7 +15,7 @@ use Rattle.tables.specs.Table.{table_words}
 use Rattle.reader.specs.Step.{opening_number, stopping, step_reply, step_tables}
 use Rattle.reader.proofs.Runs.{Sound}
 use Rattle.rule.proofs.Items.{end_is}
-use Rattle.passes.specs.Models.Follow.{after_record, tables_after}
+use Rattle.passes.specs.Models.Follow.{stop_after, state_after, tables_after}
 use Rattle.passes.specs.Models.Last.{tables_from, tables_of}
 use Rattle.passes.proofs.Turns.{turn_state, turn_tables_step, turn_stops}
 
@@ -43,15 +43,15 @@ module _ (f : Format) (archive tables : List ℕ) (s : State) (steps : ℕ) (sou
 
   module _ (more : s.place < length archive) where
     -- where the record at the state's place goes on, so do the tables
-    pub tables_turn : (after_record s (record_at f archive s.place).content (record_at f archive s.place).next).number ≡ 0
+    pub tables_turn : (stop_after s (record_at f archive s.place).content (record_at f archive s.place).next) ≡ 0
         → tables_from f archive (suc steps) s tables
-        ≡ tables_from f archive steps (after_record s (record_at f archive s.place).content (record_at f archive s.place).next).state
+        ≡ tables_from f archive steps (state_after s (record_at f archive s.place).content (record_at f archive s.place).next)
         (tables_after f tables s (record_at f archive s.place).content)
     unfolding tables_from
     tables_turn goes = rw (turn_state f archive tables s sound opens more goes, turn_tables_step f archive tables s sound opens more goes)
 
     -- where it stops the pass, the tables that it is followed in are those at the end
-    pub tables_stop : ((after_record s (record_at f archive s.place).content (record_at f archive s.place).next).number ≡ 0 → ⊥)
+    pub tables_stop : ((stop_after s (record_at f archive s.place).content (record_at f archive s.place).next) ≡ 0 → ⊥)
         → tables_from f archive steps s tables ≡ tables_after f tables s (record_at f archive s.place).content
     tables_stop stop =
         let k = turn_stops f archive tables s sound opens more stop in

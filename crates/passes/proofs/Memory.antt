@@ -1,6 +1,8 @@
--- Slots that a pass remembers for entries of the reading tables: at first none; each stays that of its entry's bytes when a word is noted, when a
+-- Slots that a pass remembers for entries of the reading tables: at first none; each stays that of its entry's bytes when a slot is noted, when a
 -- search goes on to find what it found, and when a record is passed and its entry renewed. Assumes nothing.
-use Prim.Native.Nat.{ℕ, ◌+◌, ◌*◌, ◌%◌, ◌≤◌, ◌<◌}
+use Rattle.std.specs.Prelude.{Option, Some, None}
+use Rattle.std.proofs.lemmas.Option.{none-some, same_Some}
+use Prim.Native.Nat.{ℕ, ◌%◌, ◌≤◌, ◌<◌}
 use mathlib.Core.Path.{◌≡◌, refl, sym, ap, ◌∙◌}
 use mathlib.Core.List.{List}
 use mathlib.Core.Bool.{true, false}
@@ -33,9 +35,9 @@ use Rattle.reader.proofs.Runs.{Sound}
 use Rattle.views.proofs.Lookups.{record_whole}
 use Rattle.tally.specs.declared.Slot.{Slot}
 use Rattle.tally.specs.declared.Slot.TheVariants.{Here, Free, Full}
-use Rattle.tally.specs.Models.Slots.{label_of, key_of, find_of, slot_word, remembered_at, remembering}
+use Rattle.tally.specs.Models.Slots.{label_of, key_of, find_of, here_slot, remembered_at, remembering}
 use Rattle.tally.specs.Models.Tally.{Wide}
-use Rattle.tally.proofs.Stays.{remembering_find}
+use Rattle.tally.proofs.Stays.{remembering-at, remembering-else, remembering_find}
 use Rattle.passes.specs.Models.Follow.{tables_after}
 use Rattle.passes.specs.Models.Memory.{registered_slot, renewed_by, renewed, RenewFits, recalled, noted, Recalled, Remembers}
 use Rattle.passes.proofs.Known.{registered}
@@ -50,19 +52,19 @@ is_table table least most = cases (eqb table 2) (λ e. inl (eqb-true table 2 e))
 
 -- where no slot is remembered, each is the slot of its entry's bytes
 pub remembers_none : (f : Format) (archive tables slots : List ℕ) (until : ℕ)
-    → ((entry : ℕ) → entry < table_words f → remembered_at (table_words f) slots entry ≡ 0) → Remembers f archive tables slots until
+    → ((entry : ℕ) → entry < table_words f → remembered_at (table_words f) slots entry ≡ None) → Remembers f archive tables slots until
 remembers_none f archive tables slots until none context table index s low least most fits e =
-    absurd (omega (arith, e, none (position f context table index) (position_lt f context table index low fits)))
+    absurd (none-some s (sym (none (position f context table index) (position_lt f context table index low fits)) ∙ e))
 
 -- a slot that is remembered for a reference is that of the bytes which the reference stands for
 pub recalled-is : (f : Format) (archive tables slots : List ℕ) (context table until : ℕ) (r : Reference) (s : ℕ)
-    → Remembers f archive tables slots until → context ≤ 8 → 2 ≤ table → table ≤ 3 → recalled f slots context table r ≡ s + 1
+    → Remembers f archive tables slots until → context ≤ 8 → 2 ≤ table → table ≤ 3 → recalled f slots context table r ≡ Some s
     → Recalled f archive tables slots context table until r s
 unfolding recalled
-recalled-is f archive tables slots context table until (Inline place long) s h low least most = λ e. absurd (omega arith)
+recalled-is f archive tables slots context table until (Inline place long) s h low least most = λ e. absurd (none-some s e)
 recalled-is f archive tables slots context table until (Index index) s h low least most =
     cases (ltb (highest_of f table) index)
-    (λ q e. let z : ◌≡◌ {A = ℕ} 0 (s + 1) = rw q at e in absurd (omega arith))
+    (λ q e. absurd (none-some s (rw q at e)))
     (λ q e. h context table index s low least most (ltb-false (highest_of f table) index q) (rw q at e))
 
 module _ (f : Format) (archive tables slots : List ℕ) (until : ℕ) (h : Remembers f archive tables slots until) where
@@ -89,31 +91,31 @@ module _ (f : Format) (archive tables slots : List ℕ) (until : ℕ) (h : Remem
         found = r.found;
       }
 
-  -- a word that is noted for a reference is remembered, where it is one more than the slot of what the reference stands for
-  pub remembers_noted : (context table : ℕ) (r : Reference) (word : ℕ) → Wide (table_words f) slots → context ≤ 8 → 2 ≤ table → table ≤ 3
-      → ((s : ℕ) → word ≡ s + 1 → Recalled f archive tables slots context table until r s)
-      → Remembers f archive tables (noted f slots context table r word) until
+  -- a slot that is noted for a reference is remembered, where it is that of what the reference stands for
+  pub remembers_noted : (context table : ℕ) (r : Reference) (slot : Option ℕ) → Wide (table_words f) slots → context ≤ 8 → 2 ≤ table → table ≤ 3
+      → ((s : ℕ) → slot ≡ Some s → Recalled f archive tables slots context table until r s)
+      → Remembers f archive tables (noted f slots context table r slot) until
   unfolding noted
-  remembers_noted context table (Inline place long) word wide low least most own = h
-  remembers_noted context table (Index index) word wide low least most own =
+  remembers_noted context table (Inline place long) slot wide low least most own = h
+  remembers_noted context table (Index index) slot wide low least most own =
       cases (ltb (highest_of f table) index) (λ q. rw q h)
       (λ q. rw q (λ context' table' index' s low' least' most' fits' e.
       let here = position f context table index in
       let there = position f context' table' index' in
       let fits = ltb-false (highest_of f table) index q in
       let below = position_lt f context table index low fits in
-      let found : (key : List ℕ) → find_of archive (table_words f) (remembering (table_words f) slots here word) key ≡ find_of archive (table_words f) slots key =
-      remembering_find (table_words f) slots here word archive wide.some in
+      let found : (key : List ℕ) → find_of archive (table_words f) (remembering (table_words f) slots here slot) key ≡ find_of archive (table_words f) slots key =
+      remembering_find (table_words f) slots here slot archive wide.some in
       cases (eqb there here)
       (λ same. let i = eqb-true there here same in
       let a = position-apart f context' table' index' context table index (is_table table' least' most') (is_table table least most) fits' fits i in
-      let now : word ≡ s + 1 =
-      sym (get_or-set_same slots (2 * table_words f + here) word 0 (omega (arith, wide.long, below))) ∙ (ap (remembered_at (table_words f) (remembering (table_words f) slots here word)) (sym i) ∙ e) in
+      let now : slot ≡ Some s =
+      sym (remembering-at (table_words f) slots here slot wide below) ∙ (ap (remembered_at (table_words f) (remembering (table_words f) slots here slot)) (sym i) ∙ e) in
       let r = own s now in
       rw (a.0, a.1, a.2)
       (record { place = r.place; long = r.long; known = r.known; some = r.some; found = found _ ∙ r.found }))
       (λ other. let n = eqb-false there here other in
-      let was = sym (get_or-set_other slots (2 * table_words f + here) (2 * table_words f + there) word 0 (λ z. n (omega arith))) ∙ e in
+      let was = sym (remembering-else (table_words f) slots here slot there n) ∙ e in
       let r = h context' table' index' s low' least' most' fits' was in
       record { place = r.place; long = r.long; known = r.known; some = r.some; found = found _ ∙ r.found })))
 
@@ -148,20 +150,20 @@ registers_later f archive place table index at long magic e z =
     let q : ◌≡◌ {A = ℕ} 0 1 = cc in
     omega arith
 
--- one more than a slot is that of a key which was found there
-word-found : (slot : Slot) (s : ℕ) → slot_word slot ≡ s + 1 → slot ≡ Here s
-word-found (Here x) s e = let i : x ≡ s = omega arith in ap Here i
-word-found (Free x) s e = absurd (omega arith)
-word-found Full s e = absurd (omega arith)
+-- the slot that a search for a key answers is where the key was found
+here_found : (slot : Slot) (s : ℕ) → here_slot slot ≡ Some s → slot ≡ Here s
+here_found (Here x) s e = ap Here (same_Some x s e)
+here_found (Free x) s e = absurd (none-some s e)
+here_found Full s e = absurd (none-some s e)
 
 -- the slot of bytes that are registered is that of a key which was found there, and there are some
-slot_found : (f : Format) (archive slots : List ℕ) (context table place long s : ℕ) → registered_slot f archive slots context table place long ≡ s + 1
+slot_found : (f : Format) (archive slots : List ℕ) (context table place long s : ℕ) → registered_slot f archive slots context table place long ≡ Some s
     → (0 < long) × (find_of archive (table_words f) slots (key_of archive place (label_of context table long)) ≡ Here s)
 unfolding registered_slot
 slot_found f archive slots context table place long s =
     cases (eqb long 0)
-    (λ q e. let z : ◌≡◌ {A = ℕ} 0 (s + 1) = rw q at e in absurd (omega arith))
-    (λ q e. let n = eqb-false long 0 q in (omega arith, word-found _ s (rw q at e)))
+    (λ q e. absurd (none-some s (rw q at e)))
+    (λ q e. let n = eqb-false long 0 q in (omega arith, here_found _ s (rw q at e)))
 
 module _ (f : Format) (archive tables : List ℕ) (context table index entry until : ℕ) (low : context ≤ 8) (fits : index ≤ highest_of f table)
     (room : table_words f ≤ length tables) where
@@ -212,9 +214,8 @@ module _ (f : Format) (archive tables slots : List ℕ) (s : State) (sound : Sou
       cases (eqb there here)
       (λ same. let i = eqb-true there here same in
       let a = position-apart f context' table' index' s.current table index (is_table table' least' most') (is_table table fit.1 fit.2) fits' fit.0 i in
-      let now : word ≡ x + 1 =
-      sym (get_or-set_same slots (2 * table_words f + here) word 0 (omega (arith, wide.long, below)))
-      ∙ (ap (remembered_at (table_words f) (remembering (table_words f) slots here word)) (sym i) ∙ e) in
+      let now : slot ≡ Some x =
+      sym (remembering-at (table_words f) slots here slot wide below) ∙ (ap (remembered_at (table_words f) (remembering (table_words f) slots here slot)) (sym i) ∙ e) in
       let k = slot_found f archive slots s.current table place long x now in
       rw (a.0, a.1, a.2) (record {
         place = place;
@@ -225,7 +226,7 @@ module _ (f : Format) (archive tables slots : List ℕ) (s : State) (sound : Sou
         found = found _ ∙ k.1;
       }))
       (λ other. let n = eqb-false there here other in
-      let was = sym (get_or-set_other slots (2 * table_words f + here) (2 * table_words f + there) word 0 (λ z. n (omega arith))) ∙ e in
+      let was = sym (remembering-else (table_words f) slots here slot there n) ∙ e in
       let r = later context' table' index' x low' least' most' fits' was in
       record {
         place = r.place;
@@ -241,8 +242,8 @@ module _ (f : Format) (archive tables slots : List ℕ) (s : State) (sound : Sou
       there : ℕ
       there = position f context' table' index'
 
-      word : ℕ
-      word = registered_slot f archive slots s.current table place long
+      slot : Option ℕ
+      slot = registered_slot f archive slots s.current table place long
 
       current : s.current ≤ 8
       current = omega (arith, sound.current, sound.count)
@@ -253,8 +254,8 @@ module _ (f : Format) (archive tables slots : List ℕ) (s : State) (sound : Sou
       registers : registration_of content ≡ Entry table index place long
       registers = ap registering is
 
-      found : (key : List ℕ) → find_of archive (table_words f) (remembering (table_words f) slots here word) key ≡ find_of archive (table_words f) slots key
-      found = remembering_find (table_words f) slots here word archive wide.some
+      found : (key : List ℕ) → find_of archive (table_words f) (remembering (table_words f) slots here slot) key ≡ find_of archive (table_words f) slots key
+      found = remembering_find (table_words f) slots here slot archive wide.some
 
   -- where a record is passed and its entry renewed, every slot that is remembered is that of its entry's bytes
   pub remembers_turn : Remembers f archive (tables_after f tables s content) (renewed f archive slots s content) next

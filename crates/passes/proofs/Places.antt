@@ -23,7 +23,8 @@ use Rattle.format.specs.Models.Bounds.{Inside}
 use Rattle.arguments.specs.declared.Value.{Value}
 use Rattle.arguments.specs.declared.Value.TheVariants.{Scalar as ScalarValue, Text as TextValue}
 use Rattle.arguments.specs.declared.Argued.{Argued}
-use Rattle.arguments.specs.declared.Argued.TheVariants.{Refused as ArgumentRefused, Argument as ArgumentRead}
+use Rattle.format.specs.declared.Reason.{Reason}
+use Rattle.std.specs.Prelude.{Result, Ok, Err}
 use Rattle.arguments.specs.Argument.{argument_of, on_argued, text_in, arguments_read}
 use Rattle.arguments.specs.Models.Bounds.{ValueInside}
 use Rattle.arguments.proofs.Arguments.{argument_read}
@@ -157,11 +158,13 @@ arguments_stand f archive zero rest place h l = tt
 arguments_stand f archive (suc count) rest place h l = go (λ more at. arguments_stand f archive count more at) (argument_of f rest place) refl
   where
     go : ((more : List ℕ) (at : ℕ) → 0 < at → at + length more ≤ length archive → LookupsStand archive (argument_lookups (arguments_read f count more at)))
-        → (x : Argued) → argument_of f rest place ≡ x
+        → (x : Result Argued Reason) → argument_of f rest place ≡ x
         → LookupsStand archive
-        (argument_lookups (on_argued x (λ number. []) (λ a size. a ∷ arguments_read f count (drop size rest) (place + size))))
-    go more (ArgumentRefused number) e = tt
-    go more (ArgumentRead a size) e =
+        (argument_lookups (on_argued x (λ reason. []) (λ a size. a ∷ arguments_read f count (drop size rest) (place + size))))
+    go more (Err reason) e = tt
+    go more (Ok read) e =
+        let a = read.argument in
+        let size = read.size in
         let k = argument_read f rest place a size e in
         let s = argument_short f rest place a size e in
         let to = place + size in (

@@ -4,23 +4,26 @@ use Prim.Native.Nat.{ℕ, zero, suc, ◌+◌, ◌-◌, ◌≤◌, ◌<◌, ◌%�
 use mathlib.Core.Path.{◌≡◌, refl, sym, ap, subst, ◌∙◌}
 use mathlib.Core.List.{[], List, ◌∷◌}
 use mathlib.Core.Option.{some}
+use Rattle.std.specs.Prelude.{Option, Some, None, ok_or}
 use mathlib.Core.Logic.{◌⊎◌, inl, inr}
 use native.Mathlib.Omega.{arith}
 use native.Mathlib.Nat.{add-zero, zero-add}
-use borrow.Author.Tests.{eq-eqb, ne_eqb, eqb-true, eqb-false, le-ltb, ltb-false}
+use borrow.Author.Tests.{eq-eqb, eqb-true, eqb-false, le-ltb, ltb-false}
 use lib.Dec.{eqb, ltb}
 use lib.ListN.{length, take, drop, length-set, get_or}
 use Rattle.records.proofs.Lookups.{AllRead, behind_read}
 use Rattle.records.proofs.Passes.{RecordNumber}
-use Rattle.effects.specs.Follow.{changed, followed_entered, followed, change_of}
+use Rattle.effects.specs.Follow.{changed, followed, on_followed, change_of}
+use Rattle.effects.proofs.Stops.{Above, followed_above, stops_above}
 use Rattle.effects.specs.Models.Bounds.{EffectFits}
 use Rattle.words.specs.Word.{pick}
 use Rattle.words.proofs.Tests.{cases}
 use Rattle.format.specs.declared.Format.{Format}
 use Rattle.arguments.specs.declared.Argument.{Argument}
 use Rattle.arguments.specs.declared.Argued.{Argued}
-use Rattle.arguments.specs.declared.Argued.TheVariants.{Refused as ArgumentRefused, Argument as ArgumentRead}
-use Rattle.arguments.specs.Argument.{argument_of, refused, prepend as prepend_argument, on_argued, arguments_of, numbered_of, arguments_read}
+use Rattle.format.specs.declared.Reason.{Reason}
+use Rattle.std.specs.Prelude.{Result, Ok, Err}
+use Rattle.arguments.specs.Argument.{argued, argument_of, refused, prepend as prepend_argument, on_argued, arguments_of, numbered_of, arguments_read}
 use Rattle.records.specs.declared.Report.{Report}
 use Rattle.records.specs.declared.Content.{Content}
 use Rattle.records.specs.declared.Content.TheVariants.{Refused, Magic, ProviderInfo, Section, ProviderEvent, Initialization, String, Thread, Report as ReportRead, Ignored, Skipped}
@@ -30,7 +33,7 @@ use Rattle.contexts.specs.Context.{moved, entering}
 use Rattle.contexts.proofs.Contexts.{entered_belongs}
 use Rattle.tables.specs.Table.{position, resolved, entry_at, highest_of}
 use Rattle.reader.specs.declared.Answer.TheVariants.{End}
-use Rattle.reader.specs.declared.Asked.TheVariants.{Refused as AskRefused}
+use Rattle.format.specs.Limits.{refused_at}
 use Rattle.reader.specs.Step.{Decision}
 use Rattle.views.specs.Shown.{shown_report, shown_value, none_bad, is_bad}
 use Rattle.reader.specs.Step.{opening_number, stopping, content_decision, decision_of, step_reply, step_tables, plain_answer, effect_decision, report_answer, content_answer}
@@ -56,7 +59,7 @@ use Rattle.effects.specs.declared.Change.{Change}
 use Rattle.effects.specs.declared.Change.TheVariants.{Keep, Set}
 use Rattle.arguments.specs.declared.Value.{Value as ReadValue}
 use Rattle.arguments.specs.declared.Value.TheVariants.{Scalar as ScalarValue, Text as TextValue}
-use Rattle.passes.specs.Models.Follow.{after_record, tables_after}
+use Rattle.passes.specs.Models.Follow.{after_record, stop_after, state_after, tables_after}
 use Rattle.passes.specs.Models.Item.{arguments_at, item_at, report_at, plain_item}
 
 -- ---- the arguments of a record
@@ -102,7 +105,7 @@ module _ (f : Format) (archive tables : List ℕ) (s : State) (sound : Sound f a
 module _ (f : Format) (archive tables : List ℕ) (s : State) (sound : Sound f archive s tables) (place total first : ℕ) (part : List ℕ)
     (asks : (n : ℕ) → n < total
     → argument_reply f archive tables s place n
-    ≡ on_argued (numbered_of f n part first) (λ refused. AskRefused 4 s.place) (λ a size. shown_argument f archive tables s a)) where
+    ≡ on_argued (numbered_of f n part first) (λ refused. refused_at 4 s.place) (λ a size. shown_argument f archive tables s a)) where
   -- arguments that are all read, asked for from a number on, are those read one behind the other
   arguments_asked : (count number : ℕ) (rest : List ℕ) (at : ℕ) → number + count ≤ total → AllRead (arguments_of f count rest at)
       → ((k : ℕ) → numbered_of f (number + k) part first ≡ numbered_of f k rest at)
@@ -115,24 +118,26 @@ module _ (f : Format) (archive tables : List ℕ) (s : State) (sound : Sound f a
       (of_argument (argument_of f rest at) refl read
       (λ size q. arguments_asked count (suc number) (drop size rest) (at + size) (omega arith) q))
     where
-      next : (a : Argument) (size : ℕ) → argument_of f rest at ≡ ArgumentRead a size
+      next : (a : Argument) (size : ℕ) → argument_of f rest at ≡ argued a size
           → (k : ℕ) → numbered_of f (suc number + k) part first ≡ numbered_of f k (drop size rest) (at + size)
       next a size e k =
           let n : suc number + k ≡ number + suc k = omega arith in
           ap (λ n. numbered_of f n part first) n ∙ (same (suc k) ∙ rw e)
 
-      of_argument : (x : Argued) → argument_of f rest at ≡ x
+      of_argument : (x : Result Argued Reason) → argument_of f rest at ≡ x
           → AllRead (on_argued x refused (λ a size. prepend_argument a (arguments_of f count (drop size rest) (at + size))))
           → ((size : ℕ) → AllRead (arguments_of f count (drop size rest) (at + size))
           → ((k : ℕ) → numbered_of f (suc number + k) part first ≡ numbered_of f k (drop size rest) (at + size))
           → argument_items f archive tables s place (suc number) count
           ≡ some (arguments_at f archive tables s.current s.place (arguments_read f count (drop size rest) (at + size))))
-          → prepend_item archive (on_argued x (λ refused. AskRefused 4 s.place) (λ a size. shown_argument f archive tables s a))
+          → prepend_item archive (on_argued x (λ refused. refused_at 4 s.place) (λ a size. shown_argument f archive tables s a))
           (argument_items f archive tables s place (suc number) count)
           ≡ some (arguments_at f archive tables s.current s.place
-          (on_argued x (λ number. []) (λ a size. a ∷ arguments_read f count (drop size rest) (at + size))))
-      of_argument (ArgumentRefused number) e r more = absurd r
-      of_argument (ArgumentRead a size) e r more =
+          (on_argued x (λ reason. []) (λ a size. a ∷ arguments_read f count (drop size rest) (at + size))))
+      of_argument (Err reason) e r more = absurd r
+      of_argument (Ok read) e r more =
+          let a = read.argument in
+          let size = read.size in
           rw (
             none_bad_lem f archive tables s (argument_lookups (a ∷ [])) sound (argument_tables (a ∷ [])),
             more size (behind_read a (arguments_of f count (drop size rest) (at + size)) r) (next a size e),
@@ -142,7 +147,7 @@ module _ (f : Format) (archive tables : List ℕ) (s : State) (sound : Sound f a
 
 -- the pass goes on as the step does
 record GoesOn (f : Format) (archive tables : List ℕ) (s : State) (c : Content) (next : ℕ) (d : Decision) : Type 0 where
-  state : d.state ≡ (after_record s c next).state
+  state : d.state ≡ (state_after s c next)
   place : d.state.place ≡ next
   tables' : changed tables d.change ≡ tables_after f tables s c
   item : item_of f archive (changed tables d.change) d.state d.answer ≡ item_at f archive tables s c next
@@ -150,13 +155,25 @@ record GoesOn (f : Format) (archive tables : List ℕ) (s : State) (c : Content)
 
 -- or it stops as the step does, and neither changes anything
 record Stops (f : Format) (tables : List ℕ) (s : State) (c : Content) (next : ℕ) (d : Decision) : Type 0 where
-  answer : d.answer ≡ End (after_record s c next).number s.place
+  answer : d.answer ≡ End (stop_after s c next) s.place
   state : d.state ≡ s
   tables' : changed tables d.change ≡ tables
   keeps : tables_after f tables s c ≡ tables
 
+-- what is made of a state to go on from, where the number is 0
+goes_to : {A : Type 0} (r : Result State ℕ) (s : State) (stop : ℕ → A) (then : State → A) → Above r → on_followed r (λ number. number) (λ state. 0) ≡ 0
+    → on_followed r stop then ≡ then (on_followed r (λ number. s) (λ state. state))
+goes_to (Ok state) s stop then h z = refl
+goes_to (Err number) s stop then h z = absurd (omega (arith, z, h))
+
+-- and of a number that is not 0
+stops_by : {A : Type 0} (r : Result State ℕ) (stop : ℕ → A) (then : State → A) → (on_followed r (λ number. number) (λ state. 0) ≡ 0 → ⊥)
+    → on_followed r stop then ≡ stop (on_followed r (λ number. number) (λ state. 0))
+stops_by (Ok state) stop then n = absurd (n refl)
+stops_by (Err number) stop then n = refl
+
 -- where a record stops the pass, it changes no table
-stopped_keeps : (f : Format) (tables : List ℕ) (s : State) (e : Effect) (next : ℕ) → ((followed s e next).number ≡ 0 → ⊥)
+stopped_keeps : (f : Format) (tables : List ℕ) (s : State) (e : Effect) (next : ℕ) → (on_followed (followed s e next) (λ number. number) (λ state. 0) ≡ 0 → ⊥)
     → changed tables (change_of f s e) ≡ tables
 unfolding changed change_of followed
 stopped_keeps f tables s (Stop number) next h = refl
@@ -199,8 +216,8 @@ module _ (f : Format) (archive tables : List ℕ) (s : State) (sound : Sound f a
 
   -- every record is shown as its item
   content_item : (c : Content) (next : ℕ) → record_at f archive s.place ≡ record { content = c; next = next } → s.place ≤ next
-      → Sound f archive (after_record s c next).state (tables_after f tables s c)
-      → item_of f archive (tables_after f tables s c) (after_record s c next).state (content_answer f archive tables s c)
+      → Sound f archive (state_after s c next) (tables_after f tables s c)
+      → item_of f archive (tables_after f tables s c) (state_after s c next) (content_answer f archive tables s c)
       ≡ item_at f archive tables s c next
   unfolding item_of plain_answer plain_item effect_of followed change_of changed
   content_item (Refused number) next is behind later = refl
@@ -216,17 +233,22 @@ module _ (f : Format) (archive tables : List ℕ) (s : State) (sound : Sound f a
   content_item (Skipped type size) next is behind later = refl
 
   -- an id that is made current moves the state on
-  entered : (id next : ℕ) → (followed_entered (entering s id next)).number ≡ 0 → (followed_entered (entering s id next)).state.place ≡ next
-  unfolding followed_entered
-  entered id next =
-      cases (entering s id next).ninth (λ e z. let n : ◌≡◌ {A = ℕ} 9 0 = rw e at z in absurd (omega arith))
-      (λ e z. rw e (entered_belongs s id next sound.count sound.eight e).place_is)
+  entered : (id next : ℕ) → on_followed (ok_or (entering s id next) 9) (λ number. number) (λ state. 0) ≡ 0
+      → (on_followed (ok_or (entering s id next) 9) (λ number. s) (λ state. state)).place ≡ next
+  entered id next = go (entering s id next) refl
+    where
+      go : (e : Option State) → entering s id next ≡ e → on_followed (ok_or e 9) (λ number. number) (λ state. 0) ≡ 0
+          → (on_followed (ok_or e 9) (λ number. s) (λ state. state)).place ≡ next
+      go (Some t) e z = (entered_belongs s id next t sound.count sound.eight e).place_is
+      go None e z = absurd (omega arith)
 
   -- where the pass goes on, the state stands behind the record
   content_place : (c : Content) (next : ℕ) → ContentFits f (take (next - s.place) (drop s.place archive)) s.place c
-      → (after_record s c next).number ≡ 0 → (after_record s c next).state.place ≡ next
+      → (stop_after s c next) ≡ 0 → (state_after s c next).place ≡ next
   unfolding effect_of followed
-  content_place (Refused number) next fits z = absurd (omega (arith, fits.stops))
+  content_place (Refused number) next fits z =
+      let none : number ≡ 0 = rw (stops_above s number (omega (arith, fits.stops))) at z in
+      absurd (omega (arith, fits.stops, none))
   content_place Magic next fits z = refl
   content_place (ProviderInfo id at long) next fits z = entered id next z
   content_place (Section id) next fits z = entered id next z
@@ -266,13 +288,16 @@ module _ (f : Format) (archive tables : List ℕ) (s : State) (sound : Sound f a
     by_effect = d ∙ rw (content_none_bad c next is)
 
     -- where the number is 0 it goes on
-    content_on : (after_record s c next).number ≡ 0 → GoesOn f archive tables s c next (decision_of f archive tables s)
+    content_on : (stop_after s c next) ≡ 0 → GoesOn f archive tables s c next (decision_of f archive tables s)
     unfolding effect_decision
     content_on z =
         let decided : decision_of f archive tables s
-        ≡ record { answer = content_answer f archive tables s c; state = (after_record s c next).state; change = change_of f s (effect_of c) } =
-        by_effect ∙ rw (eq-eqb (after_record s c next).number 0 z) in
-        let later : Sound f archive (after_record s c next).state (tables_after f tables s c) = rw decided at (step_sound f archive tables s sound) in
+        ≡ record { answer = content_answer f archive tables s c; state = (state_after s c next); change = change_of f s (effect_of c) } =
+        by_effect
+        ∙ goes_to (after_record s c next) s (λ n. stopping s n s.place)
+        (λ state. record { answer = content_answer f archive tables s c; state = state; change = change_of f s (effect_of c) })
+        (followed_above s (effect_of c) next) z in
+        let later : Sound f archive (state_after s c next) (tables_after f tables s c) = rw decided at (step_sound f archive tables s sound) in
         rw decided (record {
           state = refl;
           place = content_place c next fits z;
@@ -282,26 +307,28 @@ module _ (f : Format) (archive tables : List ℕ) (s : State) (sound : Sound f a
         })
 
     -- where it is not 0 it stops
-    content_stops : ((after_record s c next).number ≡ 0 → ⊥) → Stops f tables s c next (decision_of f archive tables s)
+    content_stops : ((stop_after s c next) ≡ 0 → ⊥) → Stops f tables s c next (decision_of f archive tables s)
     unfolding effect_decision stopping changed
     content_stops n =
-        let decided : decision_of f archive tables s ≡ stopping s (after_record s c next).number s.place =
-        by_effect ∙ rw (ne_eqb (after_record s c next).number 0 n) in
+        let decided : decision_of f archive tables s ≡ stopping s (stop_after s c next) s.place =
+        by_effect
+        ∙ stops_by (after_record s c next) (λ n. stopping s n s.place)
+        (λ state. record { answer = content_answer f archive tables s c; state = state; change = change_of f s (effect_of c) }) n in
         rw decided (record { answer = refl; state = refl; tables' = refl; keeps = stopped_keeps f tables s (effect_of c) next n })
 
     -- a run goes on or ends as the pass does
     run_by : (steps : ℕ)
         → run_from f archive (suc steps) s tables
-        ≡ pick (eqb (after_record s c next).number 0)
+        ≡ pick (eqb (stop_after s c next) 0)
         (passed s.place (keeps_at f archive s.place) (item_at f archive tables s c next)
-        (run_from f archive steps (after_record s c next).state (tables_after f tables s c)))
-        (ended (after_record s c next).number s.place)
+        (run_from f archive steps (state_after s c next) (tables_after f tables s c)))
+        (ended (stop_after s c next) s.place)
     unfolding run_from
     run_by steps =
-        cases (eqb (after_record s c next).number 0)
-        (λ e. let g = content_on (eqb-true (after_record s c next).number 0 e) in g.on _ ∙ rw (e, g.item, g.state, g.tables'))
-        (λ e. let h = content_stops (eqb-false (after_record s c next).number 0 e) in
-        run_ends f archive steps s tables (after_record s c next).number s.place h.answer ∙ rw e)
+        cases (eqb (stop_after s c next) 0)
+        (λ e. let g = content_on (eqb-true (stop_after s c next) 0 e) in g.on _ ∙ rw (e, g.item, g.state, g.tables'))
+        (λ e. let h = content_stops (eqb-false (stop_after s c next) 0 e) in
+        run_ends f archive steps s tables (stop_after s c next) s.place h.answer ∙ rw e)
 
 -- ---- a turn of a pass
 
@@ -350,26 +377,26 @@ module _ (f : Format) (archive tables : List ℕ) (s : State) (sound : Sound f a
   -- one turn of the run, by what the record at its place does
   pub run_turn : (steps : ℕ)
       → run_from f archive (suc steps) s tables
-      ≡ pick (eqb (after_record s content next).number 0)
+      ≡ pick (eqb (stop_after s content next) 0)
       (passed s.place (keeps_at f archive s.place) (item_at f archive tables s content next)
-      (run_from f archive steps (after_record s content next).state (tables_after f tables s content)))
-      (ended (after_record s content next).number s.place)
+      (run_from f archive steps (state_after s content next) (tables_after f tables s content)))
+      (ended (stop_after s content next) s.place)
   run_turn steps = run_by f archive tables s sound opens content next refl (record_whole f archive s.place).holds behind decided steps
 
   -- where the record stops the pass, the step changes nothing, and neither does following the record
-  pub turn_stops : ((after_record s content next).number ≡ 0 → ⊥)
+  pub turn_stops : ((stop_after s content next) ≡ 0 → ⊥)
       → ((step_reply f archive tables s).state ≡ s) × (step_tables f archive tables s ≡ tables) × (tables_after f tables s content ≡ tables)
   turn_stops stop =
       let h = content_stops f archive tables s sound opens content next refl (record_whole f archive s.place).holds behind decided stop in
       (h.state, h.tables', h.keeps)
 
-  module _ (goes : (after_record s content next).number ≡ 0) where
+  module _ (goes : (stop_after s content next) ≡ 0) where
     -- the step goes on
     on_as : GoesOn f archive tables s content next (decision_of f archive tables s)
     on_as = content_on f archive tables s sound opens content next refl (record_whole f archive s.place).holds behind decided goes
 
     -- where the pass goes on, its state is the step's
-    pub turn_state : (step_reply f archive tables s).state ≡ (after_record s content next).state
+    pub turn_state : (step_reply f archive tables s).state ≡ (state_after s content next)
     turn_state = on_as.state
 
     -- and so are its tables
@@ -377,11 +404,11 @@ module _ (f : Format) (archive tables : List ℕ) (s : State) (sound : Sound f a
     turn_tables_step = on_as.tables'
 
     -- so state and tables stay sound
-    pub turn_sound : Sound f archive (after_record s content next).state (tables_after f tables s content)
+    pub turn_sound : Sound f archive (state_after s content next) (tables_after f tables s content)
     turn_sound = rw (← turn_state, ← turn_tables_step) (step_sound f archive tables s sound)
 
     -- the state stands behind the record, a word further at least, and inside the archive
-    pub turn_place : ((after_record s content next).state.place ≡ next) × (s.place + 8 ≤ next) × (next ≤ length archive)
+    pub turn_place : ((state_after s content next).place ≡ next) × (s.place + 8 ≤ next) × (next ≤ length archive)
     unfolding effect_of followed
     turn_place = (
       sym (ap (λ t. t.place) turn_state) ∙ on_as.place,
@@ -395,6 +422,6 @@ module _ (f : Format) (archive tables : List ℕ) (s : State) (sound : Sound f a
         go : ((number : ℕ) × (content ≡ Refused number)) ⊎ (s.place + 8 ≤ next) → s.place + 8 ≤ next
         go (inl (number, e)) =
             let fits : RecordNumber number = subst (ContentFits f source s.place) e (record_whole f archive s.place).holds in
-            let z : number ≡ 0 = rw e at goes in
+            let z : number ≡ 0 = rw (e, stops_above s number (omega (arith, fits.stops))) at goes in
             absurd (omega (arith, fits.stops))
         go (inr l) = l

@@ -7,8 +7,8 @@
 ghost use Rattle.std.specs.Prelude.{◌≡◌, ◌<◌, length};
 
 use contexts::State;
-use files::input::Outcome;
-use lines::{put_bytes, put_number};
+use files::input::ReadError;
+use lines::Cursor;
 use reader::Answer;
 use std::fs::File;
 use std::io;
@@ -66,114 +66,70 @@ fn is_read(header: &[u8; 176]) -> bool {
     word(header, 21) == 0
 }
 
-// Says why the calls are not all made, and answers that they do not go on.
-fn fail(rt: &impl Eprint, sentence: &str) -> bool {
-    let _ = rt.eprintln(sentence);
-    false
-}
-
-fn put_half(out: &mut [u8], at: usize, n: u32) -> usize {
-    put_number(out, at, n as u64)
-}
-
-fn put_ids(out: &mut [u8], at: usize, ids: [u32; 8]) -> usize {
-    let mut last = at;
-    for id in &ids {
-        last = put_half(out, last, *id);
+fn put_numbers<T: Copy + Into<u64>>(out: &mut Cursor, numbers: &[T]) {
+    for &number in numbers {
+        out.put_number(number.into());
     }
-    last
 }
 
-fn put_rates(out: &mut [u8], at: usize, rates: [u64; 9]) -> usize {
-    let mut last = at;
-    for rate in &rates {
-        last = put_number(out, last, *rate);
+fn put_state(out: &mut Cursor, state: State) {
+    out.put_bytes(b"s");
+    out.put_number(state.place as u64);
+    put_numbers(out, &state.rates);
+    put_numbers(out, &state.ids);
+    out.put_number(state.count as u64);
+    out.put_number(state.current as u64);
+    out.put_bytes(b"\n");
+}
+
+fn put_word(out: &mut Cursor, position: usize, word: u32) {
+    out.put_bytes(b"t");
+    out.put_number(position as u64);
+    out.put_number(u64::from(word));
+    out.put_bytes(b"\n");
+}
+
+// The table words that changed.
+fn put_changes(out: &mut Cursor, before: &[u32], after: &[u32]) {
+    for (position, (before, after)) in before.iter().zip(after).enumerate() {
+        if before != after {
+            put_word(out, position, *after);
+        }
     }
-    last
 }
 
-fn put_state(out: &mut [u8], at: usize, state: State) -> usize {
-    let rates = state.rates;
-    let ids = state.ids;
-    let first = put_bytes(out, at, b"s");
-    let second = put_number(out, first, state.place as u64);
-    let third = put_rates(out, second, rates);
-    let fourth = put_ids(out, third, ids);
-    let fifth = put_number(out, fourth, state.count as u64);
-    let last = put_number(out, fifth, state.current as u64);
-    put_bytes(out, last, b"\n")
-}
-
-fn put_word(out: &mut [u8], at: usize, position: usize, word: u32) -> usize {
-    let first = put_bytes(out, at, b"t");
-    let second = put_number(out, first, position as u64);
-    let last = put_half(out, second, word);
-    put_bytes(out, last, b"\n")
-}
-
-// A table word, where it changed.
-fn put_change(out: &mut [u8], at: usize, before: &[u32], after: &[u32], position: usize) -> usize {
-    if before.len() <= position {
-        return at;
-    }
-    if after.len() <= position {
-        return at;
-    }
-    if before[position] == after[position] {
-        return at;
-    }
-    put_word(out, at, position, after[position])
-}
-
-fn put_changes(out: &mut [u8], at: usize, before: &[u32], after: &[u32]) -> usize {
-    let mut last = at;
-    for i in 0..before.len() {
-        last = put_change(out, last, before, after, i);
-    }
-    last
-}
-
-fn put_answer(out: &mut [u8], at: usize, archive: &[u8], answer: Answer) -> usize {
+fn put_answer(out: &mut Cursor, archive: &[u8], answer: Answer) {
     if let Answer::Nothing = answer {
-        return put_bytes(out, at, b"-\n");
+        out.put_bytes(b"-\n");
+        return;
     }
-    item_lines::put_answer(out, at, archive, answer)
+    item_lines::put_answer(out, archive, answer);
 }
 
-fn put_step(
-    out: &mut [u8],
-    at: usize,
-    archive: &[u8],
-    state: State,
-    before: &[u32],
-    tables: &mut [u32],
-) -> usize {
+fn put_step(out: &mut Cursor, archive: &[u8], state: State, before: &[u32], tables: &mut [u32]) {
     let reply = reader::step(archive, state, tables);
-    let answer = reply.answer;
-    let next = reply.state;
-    let second = put_answer(out, at, archive, answer);
-    let last = put_state(out, second, next);
-    put_changes(out, last, before, tables)
+    put_answer(out, archive, reply.answer);
+    put_state(out, reply.state);
+    put_changes(out, before, tables);
 }
 
 fn put_argument(
-    out: &mut [u8],
-    at: usize,
+    out: &mut Cursor,
     archive: &[u8],
     state: State,
     tables: &[u32],
     place: usize,
     number: usize,
-) -> usize {
+) {
     let asked = reader::argument(archive, state, tables, place, number);
-    item_lines::put_asked(out, at, archive, asked)
+    item_lines::put_asked(out, archive, asked);
 }
 
 // Sets one table entry from the file, and answers whether it could be read.
 fn read_entry<F: Read>(file: &mut F, tables: &mut [u32]) -> bool {
     let mut bytes = [0u8; 8];
     let outcome = files::input::read_bytes(file, &mut bytes, 8);
-    let Outcome::All = outcome else {
+    let Ok(()) = outcome else {
         return false;
     };
     let entry = words::little_word(&bytes, 0);
@@ -196,85 +152,81 @@ fn read_entries<F: Read>(file: &mut F, tables: &mut [u32], count: u32) -> bool {
 
 // Makes the call of a header that was read.
 fn put_call(
-    out: &mut [u8],
-    at: usize,
+    out: &mut Cursor,
     header: &[u8; 176],
     archive: &[u8],
     before: &[u32],
     tables: &mut [u32],
-) -> usize {
+) {
     let state = state_of(header);
     if low_half(word(header, 0)) == 0 {
-        put_step(out, at, archive, state, before, tables)
+        put_step(out, archive, state, before, tables);
     } else {
         put_argument(
             out,
-            at,
             archive,
             state,
             tables,
             word(header, 17) as usize,
             word(header, 18) as usize,
-        )
+        );
     }
 }
 
-// Writes the n bytes that a call shows, and answers whether they were all written. What fills the buffer may have been cut.
-fn write_call(rt: &(impl Print + Eprint), out: &[u8], n: usize) -> bool {
+// Writes the n bytes that a call shows. What fills the buffer may have been cut.
+fn write_call(rt: &impl Print, out: &[u8], n: usize) -> Result<(), &'static str> {
     if out.len() <= n {
-        return fail(rt, "probes: what a call shows is too long");
+        return Err("probes: what a call shows is too long");
     }
-    if files::output::write(&mut io::writer(rt), out, n) {
-        return true;
+    if files::output::write(&mut io::writer(rt), out, n).is_ok() {
+        return Ok(());
     }
-    fail(rt, "probes: standard output could not be written")
+    Err("probes: standard output could not be written")
 }
 
-// Makes the call of a header, whose archive comes next in the file, and answers whether the calls go on.
+// Makes the call of a header, whose archive comes next in the file.
 fn show_call<F: Read>(
-    rt: &(impl Print + Eprint),
+    rt: &impl Print,
     file: &mut F,
     probe: u64,
     header: &[u8; 176],
     before: &[u32],
     tables: &mut [u32],
     out: &mut [u8],
-) -> bool {
+) -> Result<(), &'static str> {
     let length = high_half(word(header, 0)) as usize;
     let mut archive = [0u8; 4096];
     let outcome = files::input::read_bytes(file, &mut archive, length);
-    let Outcome::All = outcome else {
-        return fail(
-            rt,
-            "probes: probes.bin could not be read to the end of a call",
-        );
+    let Ok(()) = outcome else {
+        return Err("probes: probes.bin could not be read to the end of a call");
     };
-    let first = put_bytes(out, 0, b"probe");
-    let second = put_number(out, first, probe);
-    let call = put_bytes(out, second, b"\n");
-    let last = put_call(
-        out,
-        call,
+    let mut shown = Cursor::new(out, 0);
+    shown.put_bytes(b"probe");
+    shown.put_number(probe);
+    shown.put_bytes(b"\n");
+    put_call(
+        &mut shown,
         header,
         reader::text(&archive, 0, length),
         before,
         tables,
     );
-    write_call(rt, out, last)
+    let end = shown.place();
+    write_call(rt, out, end)
 }
 
-// Makes the call of a header, whose table entries come next in the file, and answers whether the calls go on.
+// Makes the call of a header, whose table entries come next in the file.
 fn show_probe<F: Read>(
-    rt: &(impl Print + Eprint),
+    rt: &impl Print,
     file: &mut F,
     probe: u64,
     header: &[u8; 176],
     out: &mut [u8],
-) -> bool {
+) -> Result<(), &'static str> {
     let room = low_half(word(header, 19)) as usize;
     let mut tables = [0u32; 7000];
     if 7000 < room {
-        return fail(rt, "probes: a call has tables of more than 7,000 words");
+        return Err("probes: a call has tables of more than 7,000 words");
     }
     if read_entries(file, &mut tables, high_half(word(header, 19))) {
         let before = tables;
@@ -288,43 +240,39 @@ fn show_probe<F: Read>(
             out,
         );
     }
-    fail(
-        rt,
-        "probes: probes.bin could not be read to the end of a call",
-    )
+    Err("probes: probes.bin could not be read to the end of a call")
 }
 
-// Makes the next call, and answers whether the calls go on.
+// Makes the next call, and answers whether there was one.
 fn next_probe<F: Read>(
-    rt: &(impl Print + Eprint),
+    rt: &impl Print,
     file: &mut F,
     probe: u64,
     out: &mut [u8],
-) -> bool {
+) -> Result<bool, &'static str> {
     let mut header = [0u8; 176];
     let outcome = files::input::read_bytes(file, &mut header, 176);
     match outcome {
-        Outcome::All => {
-            if is_read(&header) {
-                return show_probe(rt, file, probe, &header, out);
+        Ok(()) => {
+            if !is_read(&header) {
+                return Err("probes: a call has a sheet, another size or marks");
             }
-            fail(rt, "probes: a call has a sheet, another size or marks")
+            show_probe(rt, file, probe, &header, out)?;
+            Ok(true)
         }
-        Outcome::End => false,
-        Outcome::Failed => fail(
-            rt,
-            "probes: probes.bin could not be read to the end of a call",
-        ),
+        Err(ReadError::End) => Ok(false),
+        Err(ReadError::Failed) => Err("probes: probes.bin could not be read to the end of a call"),
     }
 }
 
 // Nothing says that a file ends, so the calls are counted, up to a number that no file reaches.
-fn show_probes<F: Read>(rt: &(impl Print + Eprint), file: &mut F, out: &mut [u8]) {
+fn show_probes<F: Read>(rt: &impl Print, file: &mut F, out: &mut [u8]) -> Result<(), &'static str> {
     for probe in 0..1000000 {
-        if !next_probe(rt, file, probe, out) {
-            return;
+        if !next_probe(rt, file, probe, out)? {
+            return Ok(());
         }
     }
+    Ok(())
 }
 
 // Room for what a call shows: a line for each word of the tables, and a few more.
@@ -338,10 +286,12 @@ fn main(rt: HostRuntime) {
     match File::open(&rt, "probes.bin") {
         Ok(mut file) => {
             let mut out = buffer();
-            show_probes(&rt, &mut file, &mut out);
+            if let Err(sentence) = show_probes(&rt, &mut file, &mut out) {
+                let _ = rt.eprintln(sentence);
+            }
         }
         Err(error) => {
-            files::failure::fail(&mut rt.stderr(), b"probes.bin", &error);
+            let _ = files::failure::fail(&mut rt.stderr(), b"probes.bin", &error);
         }
     }
 }

@@ -35,8 +35,8 @@ use Rattle.reader.specs.declared.Answer.{Answer}
 use Rattle.reader.specs.declared.Answer.TheVariants.{End, Nothing, Magic as MagicShown, ProviderInfo as ProviderInfoShown, Section as SectionShown, ProviderEvent as ProviderEventShown, Initialization as InitializationShown, Report as ReportShown, Skipped as SkippedShown}
 use Rattle.effects.specs.declared.Change.{Change}
 use Rattle.effects.specs.declared.Change.TheVariants.{Keep, Set}
-use Rattle.reader.specs.declared.Asked.{Asked}
-use Rattle.reader.specs.declared.Asked.TheVariants.{Refused as AskedRefused}
+use Rattle.reader.specs.Ask.{Asked}
+use Rattle.format.specs.Limits.{refused_at}
 use Rattle.views.specs.Shown.{shown_value, none_bad}
 use Rattle.effects.specs.Follow.{changed}
 use Rattle.reader.specs.Step.{opening_number, content_decision, place_decision, decision_of, step_reply, step_tables, open_tables, report_answer, content_answer}
@@ -174,8 +174,8 @@ report-behind : (f : Format) (archive t t' : List ℕ) (s : State) (e : Report) 
     → asked_report f archive t s e number ≡ asked_report f archive t' s e number
 unfolding asked_report
 report-behind f archive t t' s e number a h =
-    ap (λ (g : Argument → ℕ → Asked). pick (leb e.count number) (AskedRefused 4 s.place)
-    (on_argued (numbered_of f number (take (s.place - e.arguments) (drop e.arguments archive)) e.arguments) (λ refused. AskedRefused 4 s.place) g))
+    ap (λ (g : Argument → ℕ → Asked). pick (leb e.count number) (refused_at 4 s.place)
+    (on_argued (numbered_of f number (take (s.place - e.arguments) (drop e.arguments archive)) e.arguments) (λ refused. refused_at 4 s.place) g))
     (fun_ext (λ x. fun_ext (λ size. shown_behind f archive t t' s x a h)))
 
 -- an argument is shown the same
@@ -187,9 +187,9 @@ argument_reply_behind f archive t t' s at number a =
     (λ e. rw (opening-behind f archive (length t) (length t') a.room a.room', e)
     (ap (λ (g : Report → Asked). pick (eqb (opening_number f archive (length t')) 0)
     (pick (eqb (at % 8) 0)
-    (pick (eqb (record_at f archive at).next s.place) (on_report (record_at f archive at).content (AskedRefused 4 s.place) g) (AskedRefused 4 s.place))
-    (AskedRefused 4 s.place))
-    (AskedRefused (opening_number f archive (length t')) 0))
+    (pick (eqb (record_at f archive at).next s.place) (on_report (record_at f archive at).content (refused_at 4 s.place) g) (refused_at 4 s.place))
+    (refused_at 4 s.place))
+    (refused_at (opening_number f archive (length t')) 0))
     (fun_ext (λ x. report-behind f archive t t' s x number a (belongs_current s (length archive) e)))))
     (λ e. rw (opening-behind f archive (length t) (length t') a.room a.room', e))
 

@@ -8,7 +8,7 @@ use Rattle.format.specs.declared.Format.{Format}
 use Rattle.records.specs.Record.{record_at}
 use Rattle.records.specs.Item.{Argument, Item, magic, provider_info, section, provider_event, initialization, report, skipped}
 use Rattle.contexts.specs.declared.State.{State}
-use Rattle.contexts.specs.declared.Found.TheVariants.{At, Nothing as NotFound}
+use Rattle.std.specs.Prelude.{Some, None, unwrap_or}
 use Rattle.contexts.specs.Context.{find_id, moved, rated, in_context, with_id, entering}
 use Rattle.reader.specs.declared.Answer.{Answer}
 use Rattle.reader.specs.declared.Answer.TheVariants.{End, Nothing, Magic as MagicShown, ProviderInfo as ProviderInfoShown, Section as SectionShown, ProviderEvent as ProviderEventShown, Initialization as InitializationShown, Report as ReportShown, Skipped as SkippedShown}
@@ -26,8 +26,8 @@ contexts_of s = moved s 0
 -- what an item makes of them
 unfoldable pub after : State → Item → State
 after c magic = c
-after c (provider_info id name) = (entering c id 0).state
-after c (section id) = (entering c id 0).state
+after c (provider_info id name) = unwrap_or (entering c id 0) c
+after c (section id) = unwrap_or (entering c id 0) c
 after c (provider_event id e) = c
 after c (initialization rate) = rated c rate 0
 after c (report e) = c
@@ -68,7 +68,7 @@ plain_keeps f archive tables s c (SkippedShown type size) h = refl
 
 -- an answer that names an id makes it current
 names_enter : (f : Format) (archive tables : List ℕ) (s c : State) (id : ℕ) (answer : Answer) → Names id answer
-    → (entering c id 0).state ≡ after_shown c (item_of f archive tables s answer)
+    → unwrap_or (entering c id 0) c ≡ after_shown c (item_of f archive tables s answer)
 unfolding item_of after
 names_enter f archive tables s c id (End number place) h = absurd h
 names_enter f archive tables s c id Nothing h = absurd h
@@ -102,12 +102,12 @@ contexts_by_items f archive tables s =
     P : Decision → Type 0
     P d = (t : List ℕ) (z : State) → contexts_of d.state ≡ after_shown (contexts_of s) (item_of f archive t z d.answer)
 
-    again : (id i : ℕ) → find_id s.ids s.count id ≡ At i
-        → contexts_of (in_context s (i + 1) next) ≡ (entering (contexts_of s) id 0).state
+    again : (id i : ℕ) → find_id s.ids s.count id ≡ Some i
+        → contexts_of (in_context s (i + 1) next) ≡ unwrap_or (entering (contexts_of s) id 0) (contexts_of s)
     again id i e = rw e
 
-    new : (id : ℕ) → find_id s.ids s.count id ≡ NotFound → (s.count ≡ 8 → ⊥)
-        → contexts_of (with_id s id next) ≡ (entering (contexts_of s) id 0).state
+    new : (id : ℕ) → find_id s.ids s.count id ≡ None → (s.count ≡ 8 → ⊥)
+        → contexts_of (with_id s id next) ≡ unwrap_or (entering (contexts_of s) id 0) (contexts_of s)
     new id e n = rw (e, ne_eqb s.count 8 n)
 
 -- along a run they are those that its items make of them

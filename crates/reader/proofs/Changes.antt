@@ -2,7 +2,7 @@
 use Prim.Native.Nat.{ℕ, ◌+◌, ◌-◌, ◌≤◌, ◌<◌}
 use mathlib.Core.Path.{◌≡◌, refl, sym, subst}
 use mathlib.Core.List.{List}
-use mathlib.Core.Bool.{true, false}
+use mathlib.Core.Bool.{false}
 use mathlib.Core.Logic.{◌⊎◌, inl, inr}
 use native.Mathlib.Omega.{arith}
 use borrow.Author.Tests.{eqb-false, ne_eqb}
@@ -23,15 +23,13 @@ use Rattle.records.specs.Record.{record_at}
 use Rattle.records.specs.Lookups.{report_lookups}
 use Rattle.records.specs.Effect.{effect_of}
 use Rattle.contexts.specs.declared.State.{State}
-use Rattle.contexts.specs.declared.Entered.{Entered}
-use Rattle.contexts.specs.declared.Found.{Found}
-use Rattle.contexts.specs.declared.Found.TheVariants.{At, Nothing as NotFound}
+use Rattle.std.specs.Prelude.{Option, Some, None}
 use Rattle.contexts.specs.Context.{belongs_to, find_id, moved, rated, in_context, with_id, on_found, entering}
 use Rattle.tables.specs.Table.{Entry}
 use Rattle.tables.proofs.Tables.{position-apart}
 use Rattle.tables.specs.Table.{table_words, highest_of, position, registration_of}
 use Rattle.effects.specs.declared.Change.TheVariants.{Keep, Set}
-use Rattle.effects.specs.Follow.{followed_entered, followed, change_of, changed}
+use Rattle.effects.specs.Follow.{stopped, followed, change_of, changed}
 use Rattle.reader.specs.declared.Answer.{Answer}
 use Rattle.reader.specs.declared.Answer.TheVariants.{End, Nothing, Magic as MagicShown, ProviderInfo as ProviderInfoShown, Section as SectionShown, ProviderEvent as ProviderEventShown, Initialization as InitializationShown, Report as ReportShown, Skipped as SkippedShown}
 use Rattle.views.specs.declared.ShownReport.{ShownReport}
@@ -70,8 +68,9 @@ Names id (SkippedShown type size) = ⊥
 abbrev pub showing : State → Answer → ℕ → Decision
 showing s answer next = record { answer = answer; state = moved s next; change = Keep }
 
-unfoldable pub entering_as : State → Entered → Answer → Decision
-entering_as s e answer = pick e.ninth (stopping s 9 s.place) (record { answer = answer; state = e.state; change = Keep })
+unfoldable pub entering_as : State → Option State → Answer → Decision
+entering_as s (Some entered) answer = record { answer = answer; state = entered; change = Keep }
+entering_as s None answer = stopping s 9 s.place
 
 unfoldable pub registering : Format → State → ℕ → ℕ → ℕ → Decision
 registering f s table index next =
@@ -80,14 +79,18 @@ registering f s table index next =
 -- a record that is refused stops the reading by its number
 pub stop_decided : (f : Format) (s : State) (number next : ℕ) (answer : Answer) → 5 ≤ number
     → effect_decision f s (Stop number) next answer ≡ stopping s number s.place
-unfolding effect_decision followed
+unfolding effect_decision followed stopped
 stop_decided f s number next answer h = rw (ne_eqb number 0 (λ z. omega arith))
 
 -- an id that is made current has the second form
 pub entering_decided : (f : Format) (s : State) (id next : ℕ) (answer : Answer)
     → effect_decision f s (Enter id) next answer ≡ entering_as s (entering s id next) answer
-unfolding effect_decision followed followed_entered change_of entering_as
-entering_decided f s id next answer = cases (entering s id next).ninth (λ e. rw e) (λ e. rw e)
+unfolding effect_decision followed change_of entering_as
+entering_decided f s id next answer = go (entering s id next) refl
+  where
+    go : (e : Option State) → entering s id next ≡ e → effect_decision f s (Enter id) next answer ≡ entering_as s e answer
+    go (Some entered) e = rw e
+    go None e = rw e
 
 -- the two tables, by the types of their records: strings and threads
 abbrev pub IsTable : ℕ → Type 0
@@ -152,18 +155,17 @@ on_decision P f archive tables s stop show rate enter register event =
 
 -- what holds of a ninth id's refusal, of a context met again and of a new one holds of whatever an id makes of a state
 pub on-entering : (P : Decision → Type 0) (s : State) (id next : ℕ) (answer : Answer) → P (stopping s 9 s.place)
-    → ((i : ℕ) → find_id s.ids s.count id ≡ At i → P (record { answer = answer; state = in_context s (i + 1) next; change = Keep }))
-    → (find_id s.ids s.count id ≡ NotFound → (s.count ≡ 8 → ⊥)
+    → ((i : ℕ) → find_id s.ids s.count id ≡ Some i → P (record { answer = answer; state = in_context s (i + 1) next; change = Keep }))
+    → (find_id s.ids s.count id ≡ None → (s.count ≡ 8 → ⊥)
     → P (record { answer = answer; state = with_id s id next; change = Keep }))
     → P (entering_as s (entering s id next) answer)
 unfolding entering_as entering
 on-entering P s id next answer ninth again new = go (find_id s.ids s.count id) refl
   where
-    go : (x : Found) → find_id s.ids s.count id ≡ x
-        → P (entering_as s (on_found x (λ i. record { ninth = false; state = in_context s (i + 1) next })
-        (pick (eqb s.count 8) (record { ninth = true; state = s }) (record { ninth = false; state = with_id s id next }))) answer)
-    go (At i) e = again i e
-    go NotFound e = cases (eqb s.count 8) (λ z. rw z ninth) (λ z. rw z (new e (eqb-false s.count 8 z)))
+    go : (x : Option ℕ) → find_id s.ids s.count id ≡ x
+        → P (entering_as s (on_found x (λ i. Some (in_context s (i + 1) next)) (pick (eqb s.count 8) None (Some (with_id s id next)))) answer)
+    go (Some i) e = again i e
+    go None e = cases (eqb s.count 8) (λ z. rw z ninth) (λ z. rw z (new e (eqb-false s.count 8 z)))
 
 -- what holds of number 4 and of the event shown holds of whatever an event makes of a state
 pub on-report : (P : Decision → Type 0) (f : Format) (archive tables : List ℕ) (s : State) (e : Report) (next : ℕ) → P (stopping s 4 s.place)

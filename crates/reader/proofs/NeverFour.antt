@@ -15,7 +15,8 @@ use Rattle.format.specs.declared.Reference.{Reference}
 use Rattle.format.specs.declared.Reference.TheVariants.{Inline, Index}
 use Rattle.arguments.specs.declared.Argument.{Argument}
 use Rattle.arguments.specs.declared.Argued.{Argued}
-use Rattle.arguments.specs.declared.Argued.TheVariants.{Refused as ArgumentRefused, Argument as ArgumentRead}
+use Rattle.std.specs.Prelude.{Result, Ok, Err}
+use Rattle.format.specs.declared.Reason.{Reason}
 use Rattle.arguments.specs.Argument.{argument_of, refused, prepend as prepend_argument, on_argued, arguments_of, numbered_of}
 use Rattle.records.specs.declared.Report.{Report}
 use Rattle.records.specs.declared.Content.TheVariants.{Report as ReportRead}
@@ -32,8 +33,9 @@ use Rattle.records.specs.declared.Lookup.{Lookup}
 use Rattle.records.specs.Effect.{effect_of}
 use Rattle.reader.specs.declared.Answer.TheVariants.{End, Report as ReportShown}
 use Rattle.views.specs.declared.ShownReport.{ShownReport}
-use Rattle.reader.specs.declared.Asked.{Asked}
-use Rattle.reader.specs.declared.Asked.TheVariants.{Refused, Argument as ArgumentShown}
+use Rattle.reader.specs.Ask.{Asked}
+use Rattle.format.specs.Limits.{refused_at}
+use Rattle.std.specs.Prelude.{Ok, Err}
 use Rattle.reader.specs.Step.{Decision}
 use Rattle.views.specs.Shown.{is_bad, shown_report, none_bad}
 use Rattle.effects.specs.Follow.{changed, followed, change_of}
@@ -191,9 +193,9 @@ report-opening f archive tables s e q =
     (λ b. let q' : End (opening_number f archive (length tables)) 0 ≡ ReportShown e = rw b at q in let z : ◌≡◌ {A = ℕ} 0 1 = cc in absurd (omega arith))
 
 -- of arguments that are all read there is one of each number
-abbrev Numbered : Argued → Type 0
-Numbered (ArgumentRefused number) = ⊥
-Numbered (ArgumentRead a size) = Unit {0}
+abbrev Numbered : Result Argued Reason → Type 0
+Numbered (Err reason) = ⊥
+Numbered (Ok read) = Unit {0}
 
 numbered_read : (f : Format) (number count : ℕ) (rest : List ℕ) (place : ℕ) → number < count → AllRead (arguments_of f count rest place)
     → Numbered (numbered_of f number rest place)
@@ -201,22 +203,24 @@ unfolding numbered_of arguments_of
 numbered_read f number zero rest place l r = absurd (omega arith)
 numbered_read f zero (suc count) rest place l r = go (argument_of f rest place) r
   where
-    go : (x : Argued) → AllRead (on_argued x refused (λ a size. prepend_argument a (arguments_of f count (drop size rest) (place + size)))) → Numbered x
-    go (ArgumentRefused number) r = r
-    go (ArgumentRead a size) r = tt
+    go : (x : Result Argued Reason) → AllRead (on_argued x refused (λ a size. prepend_argument a (arguments_of f count (drop size rest) (place + size)))) → Numbered x
+    go (Err reason) r = r
+    go (Ok read) r = tt
 numbered_read f (suc number) (suc count) rest place l r =
     go (λ more at. numbered_read f number count more at (omega arith)) (argument_of f rest place) r
   where
-    go : ((more : List ℕ) (at : ℕ) → AllRead (arguments_of f count more at) → Numbered (numbered_of f number more at)) → (x : Argued)
+    go : ((more : List ℕ) (at : ℕ) → AllRead (arguments_of f count more at) → Numbered (numbered_of f number more at)) → (x : Result Argued Reason)
         → AllRead (on_argued x refused (λ a size. prepend_argument a (arguments_of f count (drop size rest) (place + size))))
-        → Numbered (on_argued x ArgumentRefused (λ a size. numbered_of f number (drop size rest) (place + size)))
-    go read (ArgumentRefused n) r = r
-    go read (ArgumentRead a size) r = read (drop size rest) (place + size) (behind_read a (arguments_of f count (drop size rest) (place + size)) r)
+        → Numbered (on_argued x Err (λ a size. numbered_of f number (drop size rest) (place + size)))
+    go more (Err reason) r = r
+    go more (Ok read) r =
+        more (drop read.size rest) (place + read.size)
+        (behind_read read.argument (arguments_of f count (drop read.size rest) (place + read.size)) r)
 
 -- an argument that is shown, and not refused
 abbrev pub IsArgument : Asked → Type 0
-IsArgument (Refused number place) = ⊥
-IsArgument (ArgumentShown a) = Unit {0}
+IsArgument (Err r) = ⊥
+IsArgument (Ok a) = Unit {0}
 
 argument_at_lem : (f : Format) (archive tables : List ℕ) (s : State) (place number : ℕ) (e : Report) → Sound f archive s tables
     → opening_number f archive (length tables) ≡ 0 → place % 8 ≡ 0 → (record_at f archive place).next ≡ s.place
@@ -235,10 +239,11 @@ argument_at_lem f archive tables s place number e h d w n k l =
     (numbered_read f number e.count (take (s.place - e.arguments) (drop e.arguments archive)) e.arguments l
     (rw n at (report-arguments f archive place e k))))
   where
-    of_argument : (x : Argued) → Numbered x
-        → IsArgument (on_argued x (λ refused. Refused 4 s.place) (λ a size. shown_argument f archive tables s a))
-    of_argument (ArgumentRefused number) r = r
-    of_argument (ArgumentRead a size) r = rw (none_bad_lem f archive tables s (argument_lookups (a ∷ [])) h (argument_tables (a ∷ []))) tt
+    of_argument : (x : Result Argued Reason) → Numbered x
+        → IsArgument (on_argued x (λ refused. refused_at 4 s.place) (λ a size. shown_argument f archive tables s a))
+    of_argument (Err reason) r = r
+    of_argument (Ok read) r =
+        rw (none_bad_lem f archive tables s (argument_lookups (read.argument ∷ [])) h (argument_tables (read.argument ∷ []))) tt
 
 -- right after an event of a sound run each of its arguments is shown
 pub argument_shown : (f : Format) (archive tables : List ℕ) (s : State) (e : ShownReport) (number : ℕ) → Sound f archive s tables
@@ -268,9 +273,9 @@ items_given f archive tables s place number (suc count) h =
     (items_given f archive tables s place (suc number) count (λ n l. h n (omega arith)))
   where
     go : (x : Asked) → IsArgument x → (l : Option (List ArgumentItem)) → Given l → Given (prepend_item archive x l)
-    go (Refused number place) h l k = h
-    go (ArgumentShown a) h none k = k
-    go (ArgumentShown a) h (some l) k = tt
+    go (Err r) h l k = h
+    go (Ok a) h none k = k
+    go (Ok a) h (some l) k = tt
 
 -- so an event that a step from a sound state shows is an item
 pub report_item_lem : (f : Format) (archive tables : List ℕ) (s : State) (e : ShownReport) → Sound f archive s tables

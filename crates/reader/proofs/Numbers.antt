@@ -12,7 +12,6 @@ use Rattle.words.specs.Stream.{starts_with_magic}
 use Rattle.words.proofs.Tests.{on-pick, cases}
 use Rattle.format.specs.declared.Format.{Format}
 use Rattle.arguments.specs.declared.Argued.{Argued}
-use Rattle.arguments.specs.declared.Argued.TheVariants.{Refused as ArgumentRefused, Argument as ArgumentRead}
 use Rattle.arguments.specs.Argument.{numbered_of, on_argued}
 use Rattle.records.specs.declared.Report.{Report}
 use Rattle.records.specs.declared.Content.{Content}
@@ -24,12 +23,15 @@ use Rattle.tables.specs.Table.{table_words}
 use Rattle.records.specs.Lookups.{on_report, argument_lookups}
 use Rattle.format.specs.Header.{archive_number}
 use Rattle.format.specs.Limits.{longest_archive}
+use Rattle.format.specs.declared.Reason.{Reason}
+use Rattle.std.specs.Prelude.{Result, Ok, Err}
 use Rattle.records.specs.Effect.{effect_of}
 use Rattle.views.specs.Shown.{none_bad}
 use Rattle.reader.specs.declared.Answer.{Answer}
 use Rattle.reader.specs.declared.Answer.TheVariants.{End, Nothing, Magic as MagicShown, ProviderInfo as ProviderInfoShown, Section as SectionShown, ProviderEvent as ProviderEventShown, Initialization as InitializationShown, Report as ReportShown, Skipped as SkippedShown}
-use Rattle.reader.specs.declared.Asked.{Asked}
-use Rattle.reader.specs.declared.Asked.TheVariants.{Refused as AskedRefused, Argument as ArgumentShown}
+use Rattle.reader.specs.Ask.{Asked}
+use Rattle.format.specs.Limits.{refused_at}
+use Rattle.std.specs.Prelude.{Ok, Err}
 use Rattle.reader.specs.Step.{Decision}
 use Rattle.effects.specs.Follow.{changed, followed, change_of}
 use Rattle.reader.specs.Step.{opening_number, stopping, content_decision, place_decision, decision_of, open_reply, open_tables, step_reply, step_tables, effect_decision, plain_answer}
@@ -227,8 +229,8 @@ opening_places f archive room number place =
 
 -- the numbers that an argument can be refused by, each with its place
 abbrev AskedEnds : List ℕ → State → Asked → Type 0
-AskedEnds archive s (AskedRefused number place) = Between 1 4 number × Places archive s number place
-AskedEnds archive s (ArgumentShown a) = Unit {0}
+AskedEnds archive s (Err refused) = Between 1 4 refused.number × Places archive s refused.number refused.place
+AskedEnds archive s (Ok a) = Unit {0}
 
 -- so is every argument
 asked_ends : (f : Format) (archive tables : List ℕ) (s : State) (at number : ℕ) → AskedEnds archive s (argument_reply f archive tables s at number)
@@ -247,20 +249,20 @@ asked_ends f archive tables s at number =
     P : Asked → Type 0
     P a = AskedEnds archive s a
 
-    four : P (AskedRefused 4 s.place)
+    four : P (refused_at 4 s.place)
     four = ((omega arith, omega arith), at_state archive s 4 (omega arith))
 
-    of_argument : (x : Argued) → P (on_argued x (λ refused. AskedRefused 4 s.place) (λ a size. shown_argument f archive tables s a))
-    of_argument (ArgumentRefused number) = four
-    of_argument (ArgumentRead a size) =
-        on-pick P (none_bad f archive tables s.current s.place (argument_lookups (a ∷ []))) _ _ (λ e. tt) (λ e. four)
+    of_argument : (x : Result Argued Reason) → P (on_argued x (λ refused. refused_at 4 s.place) (λ a size. shown_argument f archive tables s a))
+    of_argument (Err reason) = four
+    of_argument (Ok read) =
+        on-pick P (none_bad f archive tables s.current s.place (argument_lookups (read.argument ∷ []))) _ _ (λ e. tt) (λ e. four)
 
     of_event : (e : Report) → P (asked_report f archive tables s e number)
     of_event e =
         on-pick P (leb e.count number) _ _ (λ q. four)
         (λ q. of_argument (numbered_of f number (take (s.place - e.arguments) (drop e.arguments archive)) e.arguments))
 
-    of_content : (c : Content) → P (on_report c (AskedRefused 4 s.place) (λ e. asked_report f archive tables s e number))
+    of_content : (c : Content) → P (on_report c (refused_at 4 s.place) (λ e. asked_report f archive tables s e number))
     of_content (Refused number) = four
     of_content Magic = four
     of_content (ProviderInfo id place long) = four
@@ -279,10 +281,10 @@ pub argument_numbers : (f : Format) (archive tables : List ℕ) (s : State) (at 
 argument_numbers f archive tables s at number n = go (argument_reply f archive tables s at number) (asked_ends f archive tables s at number)
   where
     go : (a : Asked) → AskedEnds archive s a → asked_number a ≡ some n → Between 1 4 n
-    go (AskedRefused m place) h e = let q : m ≡ n = cc in subst (Between 1 4) q h.0
-    go (ArgumentShown a) h e = absurd (none-some refl e)
+    go (Err refused) h e = let q : refused.number ≡ n = cc in subst (Between 1 4) q h.0
+    go (Ok a) h e = absurd (none-some refl e)
 
 -- and each number with the place that a step has for it
 pub argument_places : (f : Format) (archive tables : List ℕ) (s : State) (at asked number place : ℕ)
-    → argument_reply f archive tables s at asked ≡ AskedRefused number place → Places archive s number place
+    → argument_reply f archive tables s at asked ≡ refused_at number place → Places archive s number place
 argument_places f archive tables s at asked number place e = (subst (AskedEnds archive s) e (asked_ends f archive tables s at asked)).1

@@ -16,7 +16,7 @@ use Rattle.records.specs.declared.Content.TheVariants.{Refused}
 use Rattle.records.specs.Record.{record_at}
 use Rattle.records.specs.Item.{Item}
 use Rattle.contexts.specs.declared.State.{State}
-use Rattle.contexts.specs.declared.Found.TheVariants.{Nothing as NotFound}
+use Rattle.std.specs.Prelude.{None}
 use Rattle.contexts.specs.Context.{opening, find_id, moved, with_id}
 use Rattle.contexts.proofs.Contexts.{found_lt, found_none}
 use Rattle.tables.specs.Table.{Nothing as NoEntry, Entry}
@@ -140,7 +140,7 @@ sound_next f archive tables s rates current h l =
     r = record_whole f archive s.place
 
 -- with a new id, the ids are distinct still
-new_apart : (ids : List ℕ) (count id : ℕ) → count < length ids → find_id ids count id ≡ NotFound
+new_apart : (ids : List ℕ) (count id : ℕ) → count < length ids → find_id ids count id ≡ None
     → ((i j : ℕ) → i < count → j < count → get_or ids i 0 ≡ get_or ids j 0 → i ≡ j)
     → (i j : ℕ) → i < count + 1 → j < count + 1 → get_or (set ids count id) i 0 ≡ get_or (set ids count id) j 0 → i ≡ j
 new_apart ids count id h m d i j l l' e =
@@ -166,7 +166,7 @@ new_apart ids count id h m d i j l l' e =
 
 -- a sound state stays sound behind its record with a new id
 sound_new : (f : Format) (archive tables : List ℕ) (s : State) (id : ℕ) → Sound f archive s tables
-    → find_id s.ids s.count id ≡ NotFound → (s.count ≡ 8 → ⊥) → Sound f archive (with_id s id (record_at f archive s.place).next) tables
+    → find_id s.ids s.count id ≡ None → (s.count ≡ 8 → ⊥) → Sound f archive (with_id s id (record_at f archive s.place).next) tables
 sound_new f archive tables s id h m z =
     record {
       whole = n.whole;

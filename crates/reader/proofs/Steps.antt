@@ -10,7 +10,9 @@ use lib.ListN.{length, take, drop, length-drop}
 use Rattle.words.specs.Word.{pick, word_at}
 use Rattle.words.specs.Stream.{starts_with_magic}
 use Rattle.format.specs.declared.Format.{Format}
-use Rattle.format.specs.Limits.{longest_archive}
+use Rattle.format.specs.Limits.{longest_archive, number_of}
+use Rattle.format.specs.declared.Reason.{Reason}
+use Rattle.std.specs.Prelude.{Result, Ok, Err}
 use Rattle.format.specs.Header.{archive_number, extent_of}
 use Rattle.records.specs.Effect.{effect_of}
 use Rattle.effects.specs.Models.Bounds.{EffectFits}
@@ -29,17 +31,15 @@ use Rattle.views.proofs.Lookups.{ContentFits, content_fits, record_whole}
 use Rattle.contexts.specs.declared.State.{State}
 use Rattle.contexts.specs.Context.{provider_of, rate_of}
 use Rattle.effects.specs.declared.Change.TheVariants.{Keep}
-use Rattle.effects.specs.Follow.{followed, change_of}
+use Rattle.effects.specs.Follow.{stopped, followed, change_of}
 use Rattle.records.specs.declared.Effect.TheVariants.{Pass}
 use Rattle.records.specs.declared.Lookup.{Lookup}
 use Rattle.records.specs.Layout.{layout_of, report_of}
 use Rattle.records.proofs.Passes.{RecordNumber}
 use Rattle.records.proofs.Layouts.{on-report_read}
 use Rattle.records.proofs.Lookups.{plain_content}
-use Rattle.views.specs.declared.Seen.{Seen}
-use Rattle.views.specs.declared.Seen.TheVariants.{Refused as SeenRefused, Report as ReportSeen}
+use Rattle.views.specs.declared.ShownReport.{ShownReport}
 use lib.Seq.{length-take-le}
-use Rattle.format.specs.declared.Extent.TheVariants.{Refused as ExtentRefused, Bytes}
 use Rattle.format.proofs.Headers.{extent_read}
 
 -- what the first checks lets in: an archive that is short enough, and tables that are long enough
@@ -130,19 +130,19 @@ report_replies f archive tables s r next =
     goes : Decision
     goes = effect_decision f s Pass next (report_answer f archive tables s r)
 
-    shown : Seen
-    shown = ReportSeen (shown_report f archive s r (looked_up f archive tables s.current s.place r.first)
+    shown : Result ShownReport ℕ
+    shown = Ok (shown_report f archive s r (looked_up f archive tables s.current s.place r.first)
         (looked_up f archive tables s.current s.place r.second) (looked_up f archive tables s.current s.place r.third))
 
     go : (x y : Bool)
-        → (reply_of (pick (pick x y false) goes (stopping s 4 s.place)) ≡ seen_reply s (pick x (pick y shown (SeenRefused 4)) (SeenRefused 4)) next)
+        → (reply_of (pick (pick x y false) goes (stopping s 4 s.place)) ≡ seen_reply s (pick x (pick y shown (Err 4)) (Err 4)) next)
         × ((pick (pick x y false) goes (stopping s 4 s.place)).change ≡ Keep)
     go true true = (refl, refl)
     go true false = (refl, refl)
     go false y = (refl, refl)
 
 refused_replies : (f : Format) (archive tables : List ℕ) (s : State) (number next : ℕ) → RecordNumber number → Replies f archive tables s (Refused number) next
-unfolding content_decision effect_decision none_bad followed effect_of seen_reply stopping
+unfolding content_decision effect_decision none_bad followed stopped effect_of seen_reply stopping
 refused_replies f archive tables s number next n = rw (ne_eqb number 0 (omega (arith, n.stops))) (refl, refl)
 
 -- the step at a record that is laid out so
@@ -177,7 +177,7 @@ pub record SourceHere (f : Format) (archive : List ℕ) (place size : ℕ) : Typ
   pub inside : size ≤ length archive - place
   pub is : record_at f archive place ≡ record { content = content_of f (take size (drop place archive)) place; next = place + size }
 
-pub source_here : (f : Format) (archive : List ℕ) (place size : ℕ) → extent_of f (drop place archive) ≡ Bytes size → SourceHere f archive place size
+pub source_here : (f : Format) (archive : List ℕ) (place size : ℕ) → extent_of f (drop place archive) ≡ Ok size → SourceHere f archive place size
 unfolding record_of
 source_here f archive place size e =
     let w = extent_read f (drop place archive) size e in
@@ -189,9 +189,9 @@ source_here f archive place size e =
     }
 
 -- the step at a place that has none
-pub cut_decides : (f : Format) (archive tables : List ℕ) (s : State) (number : ℕ) → extent_of f (drop s.place archive) ≡ ExtentRefused number
-    → content_decision f archive tables s (record_at f archive s.place).content (record_at f archive s.place).next ≡ stopping s number s.place
-unfolding record_of content_decision effect_decision none_bad followed effect_of
-cut_decides f archive tables s number e =
-    let n : RecordNumber number = rw e at (record_whole f archive s.place).holds in
-    rw (e, ne_eqb number 0 (omega (arith, n.stops)))
+pub cut_decides : (f : Format) (archive tables : List ℕ) (s : State) (reason : Reason) → extent_of f (drop s.place archive) ≡ Err reason
+    → content_decision f archive tables s (record_at f archive s.place).content (record_at f archive s.place).next ≡ stopping s (number_of reason) s.place
+unfolding record_of content_decision effect_decision none_bad followed stopped effect_of
+cut_decides f archive tables s reason e =
+    let n : RecordNumber (number_of reason) = rw e at (record_whole f archive s.place).holds in
+    rw (e, ne_eqb (number_of reason) 0 (omega (arith, n.stops)))

@@ -1,6 +1,7 @@
 -- Document 01's number and values for each case of an answer: "Where an answer is an enum, a definition gives this paper's number and values for
 -- each of its cases."
-use Rattle.std.specs.Prelude.{ℕ, [], List, ◌∷◌, ◌++◌}
+use Rattle.std.specs.Prelude.{ℕ, [], List, ◌∷◌, ◌++◌, Some, None, Ok, Err}
+use Rattle.std.specs.Prelude as code
 use Rattle.std.proofs.Math.Option.{Option, none, some}
 use Rattle.arguments.specs.declared.Scalar.{Scalar}
 use Rattle.arguments.specs.declared.Scalar.TheVariants.{Null, Signed32, Unsigned32, Signed64, Unsigned64, Double, Pointer, KernelObject, Boolean, Unknown}
@@ -10,8 +11,6 @@ use Rattle.records.specs.declared.Event.{Event}
 use Rattle.records.specs.declared.Log.{Log}
 use Rattle.records.specs.declared.Own.{Own}
 use Rattle.records.specs.declared.Own.TheVariants.{Event as EventOwn, Log as LogOwn}
-use Rattle.contexts.specs.declared.Provider.{Provider}
-use Rattle.contexts.specs.declared.Provider.TheVariants.{None, Id}
 use Rattle.views.specs.declared.ShownText.{ShownText}
 use Rattle.views.specs.declared.ShownText.TheVariants.{At, Unresolved}
 use Rattle.views.specs.declared.ShownThread.{ShownThread}
@@ -21,8 +20,7 @@ use Rattle.views.specs.declared.ShownReferent.{ShownReferent}
 use Rattle.views.specs.declared.ShownReferent.TheVariants.{Text as TextReferent, Thread as ThreadReferent}
 use Rattle.views.specs.declared.ShownValue.{ShownValue}
 use Rattle.views.specs.declared.ShownValue.TheVariants.{Scalar as ScalarShown, Text as TextShown}
-use Rattle.reader.specs.declared.Asked.{Asked}
-use Rattle.reader.specs.declared.Asked.TheVariants.{Refused, Argument as ArgumentShown}
+use Rattle.reader.specs.Ask.{Asked}
 use Rattle.reader.specs.declared.Answer.{Answer}
 use Rattle.reader.specs.declared.Answer.TheVariants.{End, Nothing, Magic, ProviderInfo, Section, ProviderEvent, Initialization, Report, Skipped}
 
@@ -39,8 +37,8 @@ answer_number (Report r) = none
 answer_number (Skipped type size) = none
 
 abbrev pub asked_number : Asked → Option ℕ
-asked_number (Refused number place) = some number
-asked_number (ArgumentShown a) = none
+asked_number (Err refused) = some refused.number
+asked_number (Ok a) = none
 
 -- a text: 1 with its place and length, or 2 with the index of what is unresolved
 abbrev pub text_values : ShownText → List ℕ
@@ -52,10 +50,10 @@ abbrev pub thread_values : ShownThread → List ℕ
 thread_values (Words process thread) = 1 ∷ process ∷ thread ∷ []
 thread_values (ThreadUnresolved index) = 2 ∷ index ∷ 0 ∷ []
 
--- no provider: 0; otherwise 1 with its id
-abbrev pub provider_values : Provider → List ℕ
+-- no provider: 0; otherwise 1 with its id (`code.Option` is the Option that code answers, `Option` that of the numbers of an answer)
+abbrev pub provider_values : code.Option ℕ → List ℕ
 provider_values None = 0 ∷ 0 ∷ []
-provider_values (Id id) = 1 ∷ id ∷ []
+provider_values (Some id) = 1 ∷ id ∷ []
 
 -- the 64 bits of a value that is no text, of a signed one in two's complement
 abbrev pub scalar_value : Scalar → ℕ
@@ -111,5 +109,5 @@ answer_values (Skipped type size) = 9 ∷ type ∷ size ∷ []
 
 -- what is answered for an argument
 abbrev pub asked_values : Asked → List ℕ
-asked_values (Refused number place) = 1 ∷ number ∷ place ∷ []
-asked_values (ArgumentShown a) = 10 ∷ (text_values a.name ++ value_values a.value)
+asked_values (Err refused) = 1 ∷ refused.number ∷ refused.place ∷ []
+asked_values (Ok a) = 10 ∷ (text_values a.name ++ value_values a.value)

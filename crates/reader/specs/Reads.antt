@@ -1,13 +1,12 @@
 -- The list of items that an archive reads as, after "The list of items" of document 01. It is built of the definitions that the contracts of
 -- `step`, `argument` and `text` cite, from the state and the tables that opening leaves (proofs `Opening.reads_as_opened`).
-use Rattle.std.specs.Prelude.{ℕ, zero, suc, ◌≡◌, [], List, ◌∷◌, replicate}
+use Rattle.std.specs.Prelude.{ℕ, zero, suc, ◌≡◌, [], List, ◌∷◌, replicate, Some, None, Ok, Err}
+use Rattle.std.specs.Prelude as code
 use Rattle.std.proofs.Math.Option.{Option, none, some}
 use Rattle.words.specs.Stream.{part_of}
 use Rattle.format.specs.declared.Format.{Format}
 use Rattle.records.specs.Item.{Shown, known, unresolved, Thread, thread, Text, Value, scalar, text, Argument, Referent, text_referent, thread_referent, Item, magic, provider_info, section, provider_event, initialization, report, skipped}
 use Rattle.contexts.specs.declared.State.{State}
-use Rattle.contexts.specs.declared.Provider.{Provider}
-use Rattle.contexts.specs.declared.Provider.TheVariants.{None, Id}
 use Rattle.contexts.specs.Context.{opening}
 use Rattle.tables.specs.Table.{table_words}
 use Rattle.views.specs.declared.ShownStream.{ShownStream}
@@ -21,12 +20,10 @@ use Rattle.views.specs.declared.ShownReport.{ShownReport}
 use Rattle.views.specs.declared.ShownValue.{ShownValue}
 use Rattle.views.specs.declared.ShownValue.TheVariants.{Scalar as ScalarShown, Text as TextValue}
 use Rattle.views.specs.declared.ShownArgument.{ShownArgument}
-use Rattle.reader.specs.declared.Asked.{Asked}
-use Rattle.reader.specs.declared.Asked.TheVariants.{Refused, Argument as ArgumentShown}
 use Rattle.reader.specs.declared.Answer.{Answer}
 use Rattle.reader.specs.declared.Answer.TheVariants.{End, Nothing, Magic, ProviderInfo, Section, ProviderEvent, Initialization, Report as ReportShown, Skipped}
 use Rattle.reader.specs.Step.{opening_number, step_reply, step_tables}
-use Rattle.reader.specs.Ask.{argument_reply}
+use Rattle.reader.specs.Ask.{Asked, argument_reply}
 
 -- "a string's bytes are the part of the archive answered for the place and length shown"
 abbrev pub text_item : List ℕ → ShownText → Text
@@ -37,9 +34,10 @@ abbrev pub thread_item : ShownThread → Shown Thread
 thread_item (Words process t) = known (thread process t)
 thread_item (ThreadUnresolved index) = unresolved index
 
-abbrev pub provider_item : Provider → Option ℕ
+-- the provider of an item, from the Option that code answers (`code.Option`)
+abbrev pub provider_item : code.Option ℕ → Option ℕ
 provider_item None = none
-provider_item (Id id) = some id
+provider_item (Some id) = some id
 
 abbrev pub value_item : List ℕ → ShownValue → Value
 value_item archive (ScalarShown s) = scalar s
@@ -50,9 +48,9 @@ argument_item archive a = record { name = text_item archive a.name; value = valu
 
 -- an argument that is refused is no argument
 abbrev pub prepend : List ℕ → Asked → Option (List Argument) → Option (List Argument)
-prepend archive (Refused number place) rest = none
-prepend archive (ArgumentShown a) none = none
-prepend archive (ArgumentShown a) (some l) = some (argument_item archive a ∷ l)
+prepend archive (Err refused) rest = none
+prepend archive (Ok a) none = none
+prepend archive (Ok a) (some l) = some (argument_item archive a ∷ l)
 
 -- "An event's arguments are those asked for in the state right after it": so many, from a number on
 unfoldable pub argument_items : Format → List ℕ → List ℕ → State → ℕ → ℕ → ℕ → Option (List Argument)

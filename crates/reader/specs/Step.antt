@@ -15,7 +15,7 @@ use Rattle.contexts.specs.Context.{opening, belongs_to}
 use Rattle.tables.specs.Table.{table_words, cleared, looked_up}
 use Rattle.effects.specs.declared.Change.{Change}
 use Rattle.effects.specs.declared.Change.TheVariants.{Keep}
-use Rattle.effects.specs.Follow.{followed, change_of, changed}
+use Rattle.effects.specs.Follow.{followed, on_followed, change_of, changed}
 use Rattle.reader.specs.declared.Answer.{Answer}
 use Rattle.reader.specs.declared.Answer.TheVariants.{End, Nothing, Magic as MagicShown, ProviderInfo as ProviderInfoShown, Section as SectionShown, ProviderEvent as ProviderEventShown, Initialization as InitializationShown, Report as ReportShown, Skipped as SkippedShown}
 use Rattle.reader.specs.declared.Reply.{Reply}
@@ -61,9 +61,8 @@ content_answer f archive tables s content = on_report content (plain_answer cont
 -- a record with this effect, shown as this: it stops the reading, as one that is refused and "a ninth provider id" do, or the reading goes on
 unfoldable pub effect_decision : Format → State → Effect → ℕ → Answer → Decision
 effect_decision f s effect next answer =
-    pick (eqb (followed s effect next).number 0)
-    (record { answer = answer; state = (followed s effect next).state; change = change_of f s effect })
-    (stopping s (followed s effect next).number s.place)
+    on_followed (followed s effect next) (λ number. stopping s number s.place)
+    (λ state. record { answer = answer; state = state; change = change_of f s effect })
 
 -- a record that ends at `next`, by what stands in it: "last of all 4 for looked-up entries, those of arguments too". A record that stops the
 -- reading refers to nothing.

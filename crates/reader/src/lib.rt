@@ -3,7 +3,7 @@
 
 ghost use Rattle.std.specs.Prelude.{◌≡◌, ◌+◌, ◌^◌, ◌<◌, ◌≤◌, true, length};
 ghost use Rattle.words.specs.Stream.{part_of};
-ghost use Rattle.format.specs.Limits.{small_format};
+ghost use Rattle.format.specs.Limits.{small_format, Checks};
 ghost use Rattle.tables.specs.Table.{table_words};
 ghost use Rattle.tables.specs.Models.Entries.{FormatFits};
 ghost use Rattle.contexts.specs.Context.{belongs_to};
@@ -17,13 +17,15 @@ ghost use Rattle.reader.specs.Models.Replies.{seen_reply, asked_in};
 ghost use Rattle.reader.specs.Step.{opening_number, stopping, plain_answer, effect_decision, content_decision, place_decision, reply_of, open_reply, open_tables, step_reply, step_tables};
 ghost use Rattle.reader.specs.Ask.{shown_for, asked_place, argument_reply};
 
-use arguments::{Argued, Argument, Value};
+use arguments::{Argument, Value};
 use contexts::State;
-use format::{Extent, Format};
+use format::{Format, Reason, Refused};
 use records::Content;
-use views::{Seen, ShownArgument, ShownReport, ShownValue};
+use tables::Registrations;
+use views::{ShownArgument, ShownReport, ShownValue};
 
-// What a call answers: document 01's number and place where it ends or is refused, nothing to show, or an item.
+// What a call answers: document 01's number and place where it ends or is refused, nothing to show, or an item. The number is no
+// `Reason`, since 0 ends a trace, and `blocks::put_reply` answers for any number.
 #[derive(Clone, Copy)]
 pub enum Answer {
     End {
@@ -61,18 +63,13 @@ pub struct Reply {
     pub state: State,
 }
 
-#[derive(Clone, Copy)]
-pub enum Asked {
-    Refused { number: u8, place: usize },
-    Argument(ShownArgument),
-}
-
-// The number that archive and tables are refused by, or 0.
-fn opening_number(f: Format, archive: &[u8], room: usize) -> u8
+// Whether archive and tables are taken.
+fn check_opening(f: Format, archive: &[u8], lent: usize) -> Result<(), Refused>
     requires { FormatFits f }
-    ensures { result ≡ opening_number f archive.now room }
+    ensures { Checks (opening_number f archive.now lent) result }
 {
-    format::archive_number(archive, 3, tables::table_words(f), room)
+    let short = Reason::ShortTables.number();
+    format::check_archive(archive, short, tables::table_words(f), lent)
 }
 
 // What a record that refers to nothing is shown as.
@@ -109,12 +106,12 @@ fn stop(s: State, number: u8, place: usize) -> Reply
 }
 
 // A step at a record that refers to texts and threads, ends at `next` and is seen as this.
-fn show_seen(s: State, seen: Seen, next: usize) -> Reply
+fn show_seen(s: State, seen: Result<ShownReport, u8>, next: usize) -> Reply
     ensures { result ≡ seen_reply s seen next }
 {
     match seen {
-        Seen::Refused(number) => stop(s, number, s.place),
-        Seen::Report(report) => Reply {
+        Err(number) => stop(s, number, s.place),
+        Ok(report) => Reply {
             answer: Answer::Report(report),
             state: contexts::move_to(s, next),
         },
@@ -128,16 +125,15 @@ fn step_plain(f: Format, tables: &mut [u32], s: State, content: Content, next: u
     ensures tables_after { tables.new ≡ changed tables.old (effect_decision f s (effect_of content) next (plain_answer content)).change }
 {
     let effect = effects::effect_of(content);
-    let followed = effects::follow(s, effect, next);
-    let number = followed.number;
-    if number != 0 {
-        return stop(s, number, s.place);
-    }
-    effects::apply(tables, effects::change_of(f, s, effect));
-    let state = followed.state;
-    Reply {
-        answer: plain_answer(content),
-        state,
+    match effects::follow(s, effect, next) {
+        Err(number) => stop(s, number, s.place),
+        Ok(state) => {
+            effects::apply(tables, effects::change_of(f, s, effect));
+            Reply {
+                answer: plain_answer(content),
+                state,
+            }
+        }
     }
 }
 
@@ -152,16 +148,15 @@ fn step_record(f: Format, archive: &[u8], tables: &mut [u32], s: State, source: 
     let next = place + source.len();
     let layout = records::layout_of(words::word(order, source, 0));
     if layout.read {
-        let seen = views::see_report(
-            f,
+        let registrations = Registrations {
+            format: f,
             archive,
-            tables,
-            s.current,
-            place,
-            contexts::provider_of(s),
-            contexts::rate_of(s),
-            source,
-        );
+            words: tables,
+            context: s.current,
+            until: place,
+        };
+        let provider = contexts::provider_of(s);
+        let seen = views::see_report(&registrations, provider, contexts::rate_of(s), source);
         return show_seen(s, seen, next);
     }
     step_plain(f, tables, s, records::content_of(f, source, place), next)
@@ -178,10 +173,9 @@ fn step_place(f: Format, archive: &[u8], tables: &mut [u32], s: State) -> Reply
         return stop(s, 0, place);
     }
     let rest = &archive[place..];
-    let extent = format::extent_of(f, rest);
-    match extent {
-        Extent::Refused(number) => stop(s, number, place),
-        Extent::Bytes(size) => step_record(f, archive, tables, s, &rest[..size]),
+    match format::extent_of(f, rest) {
+        Err(reason) => stop(s, reason.number(), place),
+        Ok(size) => step_record(f, archive, tables, s, &rest[..size]),
     }
 }
 
@@ -192,10 +186,12 @@ pub fn open(archive: &[u8], tables: &mut [u32]) -> Reply
 {
     let f = format::small_format();
     let state = contexts::opening_state();
-    let number = opening_number(f, archive, tables.len());
-    if number != 0 {
+    if let Err(refused) = check_opening(f, archive, tables.len()) {
         return Reply {
-            answer: Answer::End { number, place: 0 },
+            answer: Answer::End {
+                number: refused.number,
+                place: 0,
+            },
             state,
         };
     }
@@ -212,9 +208,8 @@ pub fn step(archive: &[u8], state: State, tables: &mut [u32]) -> Reply
     ensures tables_after { tables.new ≡ step_tables small_format archive.now tables.old state }
 {
     let f = format::small_format();
-    let number = opening_number(f, archive, tables.len());
-    if number != 0 {
-        return stop(state, number, 0);
+    if let Err(refused) = check_opening(f, archive, tables.len()) {
+        return stop(state, refused.number, 0);
     }
     if contexts::belongs(state, archive.len()) {
         return step_place(f, archive, tables, state);
@@ -224,33 +219,29 @@ pub fn step(archive: &[u8], state: State, tables: &mut [u32]) -> Reply
 
 // The argument as it is shown, or number 4 where an entry does not belong.
 fn show_argument(
-    f: Format,
-    archive: &[u8],
-    tables: &[u32],
-    context: usize,
-    place: usize,
+    registrations: &Registrations,
     argument: Argument,
-) -> Asked
-    requires { FormatFits f × (length archive.now < 2 ^ 62) × (table_words f ≤ length tables.now) × (context ≤ 8) }
-    ensures { result ≡ shown_for f archive.now tables.now context place argument }
+) -> Result<ShownArgument, Refused>
+    ensures { result ≡ shown_for registrations.now.format registrations.now.archive.now registrations.now.words.now registrations.now.context registrations.now.until argument }
 {
     let name = argument.name;
     let value = argument.value;
-    let named = tables::resolve(f, archive, tables, context, 2, name, place);
+    let foreign = Reason::ForeignState.at(registrations.until);
+    let named = registrations.resolve(2, name);
     if views::is_bad(named) {
-        return Asked::Refused { number: 4, place };
+        return Err(foreign);
     }
     match value {
-        Value::Scalar(scalar) => Asked::Argument(ShownArgument {
+        Value::Scalar(scalar) => Ok(ShownArgument {
             name: views::shown_text(named),
             value: ShownValue::Scalar(scalar),
         }),
         Value::Text(reference) => {
-            let held = tables::resolve(f, archive, tables, context, 2, reference, place);
+            let held = registrations.resolve(2, reference);
             if views::is_bad(held) {
-                return Asked::Refused { number: 4, place };
+                return Err(foreign);
             }
-            Asked::Argument(ShownArgument {
+            Ok(ShownArgument {
                 name: views::shown_text(named),
                 value: ShownValue::Text(views::shown_text(held)),
             })
@@ -258,82 +249,77 @@ fn show_argument(
     }
 }
 
-// The argument of this number of the record that is `source`, whole, at `at`, as it is shown in a context at a place.
+// The argument of this number of the record that is `source`, whole, at `at`, as it is shown by what is registered.
 fn ask_report(
-    f: Format,
-    archive: &[u8],
-    tables: &[u32],
-    context: usize,
-    place: usize,
+    registrations: &Registrations,
     source: &[u8],
     at: usize,
     number: usize,
-) -> Asked
-    requires { FormatFits f × (length archive.now < 2 ^ 62) × (table_words f ≤ length tables.now) × (context ≤ 8) × (8 ≤ length source.now) × (at + length source.now < 2 ^ 62) }
-    ensures { result ≡ asked_in f archive.now tables.now context place (argument_in f source.now at (content_of f source.now at) number) }
+) -> Result<ShownArgument, Refused>
+    requires { (8 ≤ length source.now) × (at + length source.now < 2 ^ 62) }
+    ensures { result ≡ asked_in registrations.now.format registrations.now.archive.now registrations.now.words.now registrations.now.context registrations.now.until (argument_in registrations.now.format source.now at (content_of registrations.now.format source.now at) number) }
 {
-    let found = views::find_argument(f, source, at, number);
-    match found {
-        Argued::Refused(_) => Asked::Refused { number: 4, place },
-        Argued::Argument { argument, size: _ } => {
-            show_argument(f, archive, tables, context, place, argument)
-        }
+    match views::find_argument(registrations.format, source, at, number) {
+        Err(_) => Err(Reason::ForeignState.at(registrations.until)),
+        Ok(found) => show_argument(registrations, found.argument),
     }
 }
 
 // The argument of this number of the event at a place.
-fn ask_place(f: Format, archive: &[u8], tables: &[u32], s: State, at: usize, number: usize) -> Asked
+fn ask_place(
+    f: Format,
+    archive: &[u8],
+    tables: &[u32],
+    s: State,
+    at: usize,
+    number: usize,
+) -> Result<ShownArgument, Refused>
     requires { FormatFits f × (length archive.now < 2 ^ 31) × (table_words f ≤ length tables.now) × (belongs_to s (length archive.now) ≡ true) }
     ensures { result ≡ asked_place f archive.now tables.now s at number }
 {
     let place = s.place;
+    let foreign = Reason::ForeignState.at(place);
     if at % 8 != 0 {
-        return Asked::Refused { number: 4, place };
+        return Err(foreign);
     }
     if archive.len() < at {
-        return Asked::Refused { number: 4, place };
+        return Err(foreign);
     }
     let rest = &archive[at..];
-    let extent = format::extent_of(f, rest);
-    match extent {
-        Extent::Refused(_) => Asked::Refused { number: 4, place },
-        Extent::Bytes(size) => {
+    match format::extent_of(f, rest) {
+        Err(_) => Err(foreign),
+        Ok(size) => {
             if at + size != place {
-                return Asked::Refused { number: 4, place };
+                return Err(foreign);
             }
-            ask_report(
-                f,
+            let registrations = Registrations {
+                format: f,
                 archive,
-                tables,
-                s.current,
-                place,
-                &rest[..size],
-                at,
-                number,
-            )
+                words: tables,
+                context: s.current,
+                until: place,
+            };
+            ask_report(&registrations, &rest[..size], at, number)
         }
     }
 }
 
 // The argument of this number, from 0, of the event at a place, in the state right after that event.
-pub fn argument(archive: &[u8], state: State, tables: &[u32], event: usize, number: usize) -> Asked
+pub fn argument(
+    archive: &[u8],
+    state: State,
+    tables: &[u32],
+    event: usize,
+    number: usize,
+) -> Result<ShownArgument, Refused>
     ensures { result ≡ argument_reply small_format archive.now tables.now state event number }
 {
     let f = format::small_format();
-    let refused = opening_number(f, archive, tables.len());
-    if refused != 0 {
-        return Asked::Refused {
-            number: refused,
-            place: 0,
-        };
-    }
+    check_opening(f, archive, tables.len())?;
     if contexts::belongs(state, archive.len()) {
         return ask_place(f, archive, tables, state, event, number);
     }
-    Asked::Refused {
-        number: 4,
-        place: state.place,
-    }
+    Err(Reason::ForeignState.at(state.place))
 }
 
 // The part of the archive that a text stands in, or the empty part where that is not inside the archive.

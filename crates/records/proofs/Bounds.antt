@@ -9,17 +9,16 @@ use borrow.Author.Tests.{ltb-false, eqb-false, leb-true}
 use lib.Dec.{eqb, ltb}
 use lib.ListN.{length, take, drop, length-drop}
 use lib.Seq.{length-take-le}
+use Rattle.std.proofs.Common.{Result, Ok, Err}
 use Rattle.words.proofs.Tests.{on-pick, cases}
 use Rattle.words.specs.Word.{word_at, field}
 use Rattle.words.specs.Stream.{stream_words}
 use Rattle.words.proofs.Words.{AllBytes, bytes_left, bytes_before, word_at_lt, word_at-drop, word_at-take}
 use Rattle.format.specs.declared.Format.{Format}
+use Rattle.format.specs.declared.Reason.{Reason}
 use Rattle.format.specs.declared.Reference.{Reference}
 use Rattle.format.specs.declared.Reference.TheVariants.{Inline, Index}
 use Rattle.format.specs.declared.Taken.{Taken}
-use Rattle.format.specs.declared.Taken.TheVariants.{Refused as PartRefused, Part as PartRead}
-use Rattle.format.specs.declared.Extent.{Extent}
-use Rattle.format.specs.declared.Extent.TheVariants.{Refused as ExtentRefused, Bytes}
 use Rattle.format.specs.Header.{record_words, extent_of}
 use Rattle.format.specs.declared.Part.{Part}
 use Rattle.format.specs.declared.Part.TheVariants.{Words as words, Stream as stream, Text as text, Thread as thread}
@@ -35,13 +34,11 @@ use Rattle.records.specs.declared.Lookup.{Lookup}
 use Rattle.records.specs.declared.Report.{Report}
 use Rattle.records.specs.declared.Layout.{Layout}
 use Rattle.records.specs.declared.Fields.{Fields}
-use Rattle.records.specs.declared.Fields.TheVariants.{Refused as FieldsRefused, Fields as FieldsRead}
-use Rattle.records.specs.declared.Last.{Last}
-use Rattle.records.specs.declared.Last.TheVariants.{Refused as LastRefused, Word}
 use Rattle.records.specs.declared.Content.{Content}
 use Rattle.records.specs.declared.Content.TheVariants.{Refused, Magic, ProviderInfo, Section, ProviderEvent, Initialization, String, Thread, Report as ReportRead, Ignored, Skipped}
-use Rattle.records.specs.Layout.{is_event, event_layout, is_log, log_layout, layout_of, layout_parts, event_of, log_of, own_of, fields_of, take_fields, last_word, lookup_of, report_read}
-use Rattle.records.specs.Record.{content_of, on_extent, record_of, record_at}
+use Rattle.records.specs.declared.Record.{Record}
+use Rattle.records.specs.Layout.{is_event, event_layout, is_log, log_layout, layout_of, layout_parts, event_of, log_of, own_of, fields_of, take_fields, last_word, on_number, lookup_of, report_read, refused_by}
+use Rattle.records.specs.Record.{content_of, record_of, record_at}
 use Rattle.records.specs.Item.{own_layout}
 use Rattle.records.specs.Models.Layouts.{ReferenceFits}
 use Rattle.records.proofs.Layouts.{extra_few, layout_fits}
@@ -54,9 +51,9 @@ length_of (Inline place n) = n
 length_of (Index i) = 0
 
 -- an inline text is no longer than its reference says
-abbrev pub TakenLow : ℕ → Taken → Type 0
-TakenLow r (PartRefused number) = Unit {0}
-TakenLow r (PartRead x next) = length_of x ≤ r
+abbrev pub TakenLow : ℕ → Result Taken Reason → Type 0
+TakenLow r (Err reason) = Unit {0}
+TakenLow r (Ok t) = length_of t.reference ≤ r
 
 pub text-low : (f : Format) (r place : ℕ) (source : List ℕ) (start : ℕ) → TakenLow r (take_text f r place source start)
 unfolding take_text take_stream
@@ -72,9 +69,9 @@ Empty (Inline place n) = n ≡ 0
 Empty (Index i) = ⊥
 
 -- the reference 0 is the empty text
-abbrev TakenEmpty : Taken → Type 0
-TakenEmpty (PartRefused number) = Unit {0}
-TakenEmpty (PartRead x next) = Empty x
+abbrev TakenEmpty : Result Taken Reason → Type 0
+TakenEmpty (Err reason) = Unit {0}
+TakenEmpty (Ok t) = Empty t.reference
 
 text_empty : (f : Format) (r place : ℕ) (source : List ℕ) (start : ℕ) → r ≡ 0 → TakenEmpty (take_text f r place source start)
 unfolding take_text
@@ -87,31 +84,31 @@ PartShort f (stream n) x = (length_of x ≡ n) × (n ≤ f.longest)
 PartShort f (text r) x = TextShort f x × (length_of x ≤ r) × (r ≡ 0 → Empty x)
 PartShort f (thread r) x = Unit {0}
 
-abbrev TakenPart : Format → Part → Taken → Type 0
-TakenPart f p (PartRefused number) = Unit {0}
-TakenPart f p (PartRead x next) = PartShort f p x
+abbrev TakenPart : Format → Part → Result Taken Reason → Type 0
+TakenPart f p (Err reason) = Unit {0}
+TakenPart f p (Ok t) = PartShort f p t.reference
 
 part-short : (f : Format) (p : Part) (place : ℕ) (source : List ℕ) (start : ℕ) → TakenPart f p (take_part f p place source start)
 unfolding take_part take_stream
 part-short f (words n) place source start = go (take_words n place source start)
   where
-    go : (x : Taken) → TakenPart f (words n) x
-    go (PartRefused number) = tt
-    go (PartRead x next) = tt
+    go : (x : Result Taken Reason) → TakenPart f (words n) x
+    go (Err reason) = tt
+    go (Ok t) = tt
 part-short f (stream n) place source start =
     on-pick (TakenPart f (stream n)) (ltb f.longest n) _ _ (λ e. tt)
     (λ e. on-pick (TakenPart f (stream n)) (ltb (start + length source) (place + 8 * stream_words n)) _ _ (λ q. tt) (λ q. (refl, ltb-false f.longest n e)))
 part-short f (text r) place source start =
     go (take_text f r place source start) (text-short f r place source start) (text-low f r place source start) (text_empty f r place source start)
   where
-    go : (x : Taken) → TakenShort f x → TakenLow r x → (r ≡ 0 → TakenEmpty x) → TakenPart f (text r) x
-    go (PartRefused number) h l e = tt
-    go (PartRead x next) h l e = (h, l, e)
+    go : (x : Result Taken Reason) → TakenShort f x → TakenLow r x → (r ≡ 0 → TakenEmpty x) → TakenPart f (text r) x
+    go (Err reason) h l e = tt
+    go (Ok t) h l e = (h, l, e)
 part-short f (thread r) place source start = go (take_thread r place source start)
   where
-    go : (x : Taken) → TakenPart f (thread r) x
-    go (PartRefused number) = tt
-    go (PartRead x next) = tt
+    go : (x : Result Taken Reason) → TakenPart f (thread r) x
+    go (Err reason) = tt
+    go (Ok t) = tt
 
 abbrev AllShort : Format → List Part → List Reference → Type 0
 AllShort f [] [] = Unit {0}
@@ -120,7 +117,7 @@ AllShort f (p ∷ ps) [] = ⊥
 AllShort f (p ∷ ps) (x ∷ xs) = PartShort f p x × AllShort f ps xs
 
 abbrev BodyShort : Format → List Part → Body → Type 0
-BodyShort f ps (body_refused number) = Unit {0}
+BodyShort f ps (body_refused reason) = Unit {0}
 BodyShort f ps (body xs next) = AllShort f ps xs
 
 parts_short : (f : Format) (ps : List Part) (place : ℕ) (source : List ℕ) (start : ℕ) → BodyShort f ps (take_parts f ps place source start)
@@ -129,24 +126,25 @@ parts_short f [] place source start = tt
 parts_short f (p ∷ ps) place source start = go (take_part f p place source start) (part-short f p place source start) (λ next. parts_short f ps next source start)
   where
     with_first : (x : Reference) (b : Body) → PartShort f p x → BodyShort f ps b → BodyShort f (p ∷ ps) (prepend x b)
-    with_first x (body_refused number) h k = tt
+    with_first x (body_refused reason) h k = tt
     with_first x (body xs next) h k = (h, k)
 
-    go : (t : Taken) → TakenPart f p t → ((next : ℕ) → BodyShort f ps (take_parts f ps next source start))
+    go : (t : Result Taken Reason) → TakenPart f p t → ((next : ℕ) → BodyShort f ps (take_parts f ps next source start))
         → BodyShort f (p ∷ ps) (on_taken t (λ x next. prepend x (take_parts f ps next source start)))
-    go (PartRefused number) h k = tt
-    go (PartRead x next) h k = with_first x (take_parts f ps next source start) h (k next)
+    go (Err reason) h k = tt
+    go (Ok t) h k = with_first t.reference (take_parts f ps t.next source start) h (k t.next)
 
-abbrev FieldsBound : Format → Layout → Fields → Type 0
-FieldsBound f l (FieldsRefused number) = Unit {0}
-FieldsBound f l (FieldsRead a b c s next) = PartShort f l.first a × PartShort f l.second b × PartShort f l.third c × PartShort f (stream l.stream) s
+abbrev FieldsBound : Format → Layout → Result Fields Reason → Type 0
+FieldsBound f l (Err reason) = Unit {0}
+FieldsBound f l (Ok x) =
+    PartShort f l.first x.first × PartShort f l.second x.second × PartShort f l.third x.third × PartShort f (stream l.stream) x.stream
 
 fields_bound : (f : Format) (l : Layout) (source : List ℕ) (place : ℕ) → FieldsBound f l (take_fields f l source place)
 unfolding take_fields
 fields_bound f l source place = go (take_parts f (layout_parts l) (place + 8) source place) (parts_short f (layout_parts l) (place + 8) source place)
   where
     go : (b : Body) → BodyShort f (layout_parts l) b → FieldsBound f l (fields_of b)
-    go (body_refused number) k = tt
+    go (body_refused reason) k = tt
     go (body [] next) k = absurd k
     go (body (w ∷ []) next) k = absurd k.1
     go (body (w ∷ a ∷ []) next) k = absurd k.1.1
@@ -155,9 +153,9 @@ fields_bound f l source place = go (take_parts f (layout_parts l) (place + 8) so
     go (body (w ∷ a ∷ b ∷ c ∷ s ∷ xs) next) k = (k.1.0, k.1.1.0, k.1.1.1.0, k.1.1.1.1.0)
 
 -- the last word fits, and is 0 where there is none
-abbrev LastBound : ℕ → Last → Type 0
-LastBound behind (LastRefused number) = Unit {0}
-LastBound behind (Word last) = (last < 2 ^ 64) × (behind ≡ 0 → last ≡ 0)
+abbrev LastBound : ℕ → Result ℕ Reason → Type 0
+LastBound behind (Err reason) = Unit {0}
+LastBound behind (Ok last) = (last < 2 ^ 64) × (behind ≡ 0 → last ≡ 0)
 
 last_bound : (f : Format) (source : List ℕ) (place at behind : ℕ) → AllBytes source → LastBound behind (last_word f source place at behind)
 unfolding last_word
@@ -366,12 +364,12 @@ pub record_short : (f : Format) (archive : List ℕ) (place : ℕ) → ContentSh
 unfolding record_of
 record_short f archive place = go (extent_of f (drop place archive)) refl
   where
-    go : (x : Extent) → extent_of f (drop place archive) ≡ x
+    go : (x : Result ℕ Reason) → extent_of f (drop place archive) ≡ x
         → ContentShort
-        (on_extent x (λ number. record { content = Refused number; next = place })
+        (on_number {A = Record} x (λ reason. record { content = refused_by reason; next = place })
         (λ size. record { content = content_of f (take size (drop place archive)) place; next = place + size })).content
-    go (ExtentRefused number) e = tt
-    go (Bytes size) e =
+    go (Err reason) e = tt
+    go (Ok size) e =
         let source = take size (drop place archive) in
         let w = extent_read f (drop place archive) size e in
         is-short f source place (content_of f source place)
@@ -430,12 +428,12 @@ pub record_bound : (f : Format) (archive : List ℕ) (place : ℕ) → AllBytes 
 unfolding record_of
 record_bound f archive place bytes = go (extent_of f (drop place archive)) refl
   where
-    go : (x : Extent) → extent_of f (drop place archive) ≡ x
+    go : (x : Result ℕ Reason) → extent_of f (drop place archive) ≡ x
         → ContentBound f
-        (on_extent x (λ number. record { content = Refused number; next = place })
+        (on_number {A = Record} x (λ reason. record { content = refused_by reason; next = place })
         (λ size. record { content = content_of f (take size (drop place archive)) place; next = place + size })).content
-    go (ExtentRefused number) e = tt
-    go (Bytes size) e =
+    go (Err reason) e = tt
+    go (Ok size) e =
         let w = extent_read f (drop place archive) size e in
         content_bound f (take size (drop place archive)) place (bytes_before size (drop place archive) (bytes_left place archive bytes))
         (omega (arith, w.some, length-take-le size (drop place archive) w.inside))
@@ -484,14 +482,14 @@ pub report_sizes : (f : Format) (archive : List ℕ) (place : ℕ) (r : Report) 
 unfolding record_of
 report_sizes f archive place r = go (extent_of f (drop place archive)) refl
   where
-    go : (x : Extent) → extent_of f (drop place archive) ≡ x
-        → (on_extent x (λ number. record { content = Refused number; next = place })
+    go : (x : Result ℕ Reason) → extent_of f (drop place archive) ≡ x
+        → (on_number {A = Record} x (λ reason. record { content = refused_by reason; next = place })
         (λ size. record { content = content_of f (take size (drop place archive)) place; next = place + size })).content ≡ ReportRead r
         → (8 ≤ length archive - place)
         × (length (own_layout r.own).words ≡ (layout_of (word_at f.order archive place)).words)
         × ((own_layout r.own).behind ≡ (layout_of (word_at f.order archive place)).behind)
-    go (ExtentRefused number) e k = let z : ◌≡◌ {A = ℕ} 0 1 = cc in absurd (omega arith)
-    go (Bytes size) e k =
+    go (Err reason) e k = cc
+    go (Ok size) e k =
         let w = extent_read f (drop place archive) size e in
         let long = length-take-le size (drop place archive) w.inside in
         let header = word_at-take f.order (drop place archive) 0 size w.some ∙ word_at-drop f.order archive place 0 in

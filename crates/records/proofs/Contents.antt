@@ -10,15 +10,16 @@ use borrow.Author.Tests.{ltb-false, le-ltb, ne_eqb, eqb-true, eqb-false}
 use lib.Dec.{eqb, ltb}
 use lib.ListN.{length, take, drop, length-take, length-drop}
 use lib.Seq.{length-take-le, take-append-le}
+use Rattle.std.proofs.Common.{Result, Ok, Err}
 use Rattle.words.specs.Word.{word_at, field}
 use Rattle.words.specs.Stream.{stream_words, starts_with_magic}
 use Rattle.words.proofs.Words.{word_at-take}
 use Rattle.words.proofs.Tests.{on-pick, cases}
 use Rattle.format.specs.declared.Format.{Format}
+use Rattle.format.specs.declared.Reason.{Reason}
+use Rattle.format.specs.Limits.{number_of}
 use Rattle.format.specs.declared.Reference.{Reference}
 use Rattle.format.specs.declared.Part.TheVariants.{Words as words, Stream as stream}
-use Rattle.format.specs.declared.Extent.{Extent}
-use Rattle.format.specs.declared.Extent.TheVariants.{Refused as ExtentRefused, Bytes}
 use Rattle.format.specs.Header.{record_words, extent_of}
 use Rattle.format.specs.Part.{take_words, take_stream, take_part, take_parts, on_body, inline_bytes}
 use Rattle.format.proofs.Headers.{Whole, extent_read}
@@ -28,17 +29,14 @@ use Rattle.arguments.specs.Argument.{Arguments, refused as arguments_refused, ar
 use Rattle.arguments.proofs.Arguments.{arguments_bytes, ArgumentsFit, arguments_fit}
 use Rattle.records.specs.declared.Layout.{Layout}
 use Rattle.records.specs.declared.Fields.{Fields}
-use Rattle.records.specs.declared.Fields.TheVariants.{Refused as FieldsRefused, Fields as FieldsRead}
-use Rattle.records.specs.declared.Last.{Last}
-use Rattle.records.specs.declared.Last.TheVariants.{Refused as LastRefused, Word}
 use Rattle.records.specs.declared.Content.{Content}
 use Rattle.records.specs.declared.Content.TheVariants.{Refused, Magic, ProviderInfo, Section, ProviderEvent, Initialization, String, Thread, Report as ReportRead, Ignored, Skipped}
 use Rattle.records.specs.declared.Record.{Record}
-use Rattle.records.specs.Layout.{is_event, event_layout, layout_of, take_fields, last_word, on_fields, on_walked, on_last, report_read, report_of}
+use Rattle.records.specs.Layout.{is_event, event_layout, layout_of, fields, take_fields, last_word, on_fields, on_number, report_read, report_of, refused_by}
 use Rattle.records.specs.Models.Layouts.{report_arguments}
 use Rattle.records.specs.Record.{provider_info_of, metadata_of, initialization_of, string_of, thread_of, content_of, record_of, record_at}
 use Rattle.records.specs.Models.Bounds.{ContentInside}
-use Rattle.records.proofs.Passes.{RecordNumber, number_malformed, number_long, number_high, ArgumentsPass, arguments_pass, Shape, FieldsPass, fields_pass}
+use Rattle.records.proofs.Passes.{RecordNumber, RecordReason, reason_malformed, reason_long, reason_high, ArgumentsPass, arguments_pass, Shape, FieldsPass, fields_pass}
 use Rattle.records.proofs.Layouts.{Stand, fields_stand, FieldsStand}
 
 -- ---- which content stands for which header
@@ -46,12 +44,12 @@ use Rattle.records.proofs.Layouts.{Stand, fields_stand, FieldsStand}
 -- a record that refers to texts and threads: the steps by which it was read, and where its parts stand
 pub record ReportIs (f : Format) (source : List ℕ) (place : ℕ) (a b c s : Reference) (first at last : ℕ) (list : List Argument) : Type 0 where
   pub is-report : (layout_of (word_at f.order source 0)).read ≡ true
-  pub fields : take_fields f (layout_of (word_at f.order source 0)) source place ≡ FieldsRead a b c s first
+  pub fields : take_fields f (layout_of (word_at f.order source 0)) source place ≡ fields a b c s first
   pub shapes : Shape (layout_of (word_at f.order source 0)).first a × Shape (layout_of (word_at f.order source 0)).second b × Shape (layout_of (word_at f.order source 0)).third c
   pub stand : Stand (layout_of (word_at f.order source 0)) (place + 8) (place + length source) a b c s first
   pub read : arguments_of f (layout_of (word_at f.order source 0)).count (drop (first - place) source) first ≡ arguments list at
   pub fit : ArgumentsFit (layout_of (word_at f.order source 0)).count (drop (first - place) source) first (arguments list at)
-  pub last-is : last_word f source place at (layout_of (word_at f.order source 0)).behind ≡ Word last
+  pub last-is : last_word f source place at (layout_of (word_at f.order source 0)).behind ≡ Ok last
   pub room : at + 8 * (layout_of (word_at f.order source 0)).behind ≤ place + length source
 
 -- the contents that a record can have, each with the tests that lead to it
@@ -78,17 +76,17 @@ pub data ContentIs (f : Format) (source : List ℕ) (place : ℕ) : Content → 
 
 -- a body of some words, or of a stream, fits into its record or is refused
 on-words : (P : Content → Type 0) (f : Format) (n place : ℕ) (source : List ℕ) (start : ℕ) (a : Content) → ((number : ℕ) → RecordNumber number → P (Refused number))
-    → (place + 8 * n ≤ (start + length source) → P a) → P (on_body (take_parts f (words n ∷ []) place source start) Refused (λ references next. a))
+    → (place + 8 * n ≤ (start + length source) → P a) → P (on_body (take_parts f (words n ∷ []) place source start) refused_by (λ references next. a))
 unfolding take_parts take_part take_words
 on-words P f n place source start a r g =
-    cases (ltb (start + length source) (place + 8 * n)) (λ e. rw e (r _ number_malformed)) (λ e. rw e (g (ltb-false (start + length source) (place + 8 * n) e)))
+    cases (ltb (start + length source) (place + 8 * n)) (λ e. rw e (r _ reason_malformed)) (λ e. rw e (g (ltb-false (start + length source) (place + 8 * n) e)))
 
 on-stream : (P : Content → Type 0) (f : Format) (n place : ℕ) (source : List ℕ) (start : ℕ) (c : Content) → ((number : ℕ) → RecordNumber number → P (Refused number))
-    → (n ≤ f.longest → place + 8 * stream_words n ≤ (start + length source) → P c) → P (on_body (take_parts f (stream n ∷ []) place source start) Refused (λ references next. c))
+    → (n ≤ f.longest → place + 8 * stream_words n ≤ (start + length source) → P c) → P (on_body (take_parts f (stream n ∷ []) place source start) refused_by (λ references next. c))
 unfolding take_parts take_part take_stream
 on-stream P f n place source start c r g =
-    cases (ltb f.longest n) (λ e. rw e (r _ number_long))
-    (λ e. cases (ltb (start + length source) (place + 8 * stream_words n)) (λ q. rw (e, q) (r _ number_malformed))
+    cases (ltb f.longest n) (λ e. rw e (r _ reason_long))
+    (λ e. cases (ltb (start + length source) (place + 8 * stream_words n)) (λ q. rw (e, q) (r _ reason_malformed))
     (λ q. rw (e, q) (g (ltb-false f.longest n e) (ltb-false (start + length source) (place + 8 * stream_words n) q))))
 
 module _ (f : Format) (source : List ℕ) (place : ℕ) where
@@ -105,7 +103,7 @@ module _ (f : Format) (source : List ℕ) (place : ℕ) where
       (λ _. on-pick Is (eqb (field 16 19 h) 2) _ _ (λ e. section t (eqb-true (field 16 19 h) 2 e))
       (λ _. on-pick Is (eqb (field 16 19 h) 3) _ _ (λ e. provider_event t (eqb-true (field 16 19 h) 3 e))
       (λ _. on-pick Is (eqb (field 16 23 h) 4) _ _
-      (λ _. on-pick Is (starts_with_magic source) _ _ (λ e. magic e) (λ _. refused _ number_malformed))
+      (λ _. on-pick Is (starts_with_magic source) _ _ (λ e. magic e) (λ _. refused _ reason_malformed))
       (λ _. skipped 0 (omega arith)))))
 
   string_is : field 0 3 (word_at f.order source 0) ≡ 2 → Is (string_of f source place)
@@ -113,7 +111,7 @@ module _ (f : Format) (source : List ℕ) (place : ℕ) where
   string_is t =
       let h = word_at f.order source 0 in
       on-pick Is (eqb (field 16 30 h) 0) _ _ (λ _. ignored)
-      (λ some. on-pick Is (ltb f.highest (field 16 30 h)) _ _ (λ _. refused _ number_high)
+      (λ some. on-pick Is (ltb f.highest (field 16 30 h)) _ _ (λ _. refused _ reason_high)
       (λ low. on-stream Is f (field 32 46 h) (place + 8) source place _ refused
       (λ short room. let is = eqb-false (field 16 30 h) 0 some in
       string t (omega arith) (ltb-false f.highest (field 16 30 h) low) short (omega (arith, room)))))
@@ -134,14 +132,14 @@ module _ (f : Format) (source : List ℕ) (place : ℕ) where
   abbrev l : Layout
   l = layout_of (word_at f.order source 0)
 
-  abbrev LastIs : ℕ → Last → Type 0
-  LastIs at (LastRefused number) = RecordNumber number
-  LastIs at (Word last) = at + 8 * l.behind ≤ place + length source
+  abbrev LastIs : ℕ → Result ℕ Reason → Type 0
+  LastIs at (Err reason) = RecordReason reason
+  LastIs at (Ok last) = at + 8 * l.behind ≤ place + length source
 
   last_room : (at : ℕ) → LastIs at (last_word f source place at l.behind)
   unfolding last_word
   last_room at =
-      on-pick (LastIs at) (ltb (place + length source) (at + 8 * l.behind)) _ _ (λ _. number_malformed)
+      on-pick (LastIs at) (ltb (place + length source) (at + 8 * l.behind)) _ _ (λ _. reason_malformed)
       (λ e. on-pick (LastIs at) (eqb l.behind 0) _ _ (λ _. ltb-false (place + length source) (at + 8 * l.behind) e)
       (λ _. ltb-false (place + length source) (at + 8 * l.behind) e))
 
@@ -152,34 +150,35 @@ module _ (f : Format) (source : List ℕ) (place : ℕ) where
       end : ℕ
       end = place + length source
 
-      of_last : (a b c s : Reference) (first at : ℕ) (list : List Argument) → take_fields f l source place ≡ FieldsRead a b c s first
+      of_last : (a b c s : Reference) (first at : ℕ) (list : List Argument) → take_fields f l source place ≡ fields a b c s first
           → Stand l (place + 8) end a b c s first → Shape l.first a × Shape l.second b × Shape l.third c
           → arguments_of f l.count (drop (first - place) source) first ≡ arguments list at
           → ArgumentsFit l.count (drop (first - place) source) first (arguments list at)
-          → (x : Last) → last_word f source place at l.behind ≡ x → LastIs at x
-          → Is (on_last x Refused (λ last. ReportRead (report_read f l source a b c s first last)))
-      of_last a b c s first at list e st sh q fit (LastRefused number) g r = refused number r
-      of_last a b c s first at list e st sh q fit (Word last) g r =
+          → (x : Result ℕ Reason) → last_word f source place at l.behind ≡ x → LastIs at x
+          → Is (on_number x refused_by (λ last. ReportRead (report_read f l source a b c s first last)))
+      of_last a b c s first at list e st sh q fit (Err reason) g r = refused (number_of reason) r
+      of_last a b c s first at list e st sh q fit (Ok last) g r =
           report a b c s first at last list (record { is-report = k; fields = e; shapes = sh; stand = st; read = q; fit = fit; last-is = g; room = r })
 
-      of_arguments : (a b c s : Reference) (first : ℕ) → take_fields f l source place ≡ FieldsRead a b c s first
+      of_arguments : (a b c s : Reference) (first : ℕ) → take_fields f l source place ≡ fields a b c s first
           → Stand l (place + 8) end a b c s first → Shape l.first a × Shape l.second b × Shape l.third c → ArgumentsPass (arguments_of f l.count (drop (first - place) source) first)
           → (q : Arguments) → arguments_of f l.count (drop (first - place) source) first ≡ q
           → ArgumentsFit l.count (drop (first - place) source) first q
-          → Is (on_walked (walked q) Refused
-          (λ at. on_last (last_word f source place at l.behind) Refused (λ last. ReportRead (report_read f l source a b c s first last))))
-      of_arguments a b c s first e st sh p (arguments_refused number) g fit = refused number (rw g at p)
+          → Is (on_number (walked q) refused_by
+          (λ at. on_number (last_word f source place at l.behind) refused_by (λ last. ReportRead (report_read f l source a b c s first last))))
+      of_arguments a b c s first e st sh p (arguments_refused reason) g fit = refused (number_of reason) (rw g at p)
       of_arguments a b c s first e st sh p (arguments list at) g fit =
           of_last a b c s first at list e st sh g fit (last_word f source place at l.behind) refl (last_room at)
 
-      of_fields : (x : Fields) → take_fields f l source place ≡ x → FieldsStand l (place + 8) end x → FieldsPass l x
-          → Is (on_fields x Refused
-          (λ a b c s first. on_walked (walked (arguments_of f l.count (drop (first - place) source) first)) Refused
-          (λ at. on_last (last_word f source place at l.behind) Refused (λ last. ReportRead (report_read f l source a b c s first last)))))
-      of_fields (FieldsRefused number) e st p = refused number p
-      of_fields (FieldsRead a b c s first) e st p =
-          of_arguments a b c s first e st p (arguments_pass f l.count (drop (first - place) source) first) (arguments_of f l.count (drop (first - place) source) first) refl
-          (arguments_fit f l.count (drop (first - place) source) first)
+      of_fields : (x : Result Fields Reason) → take_fields f l source place ≡ x → FieldsStand l (place + 8) end x → FieldsPass l x
+          → Is (on_fields x refused_by
+          (λ a b c s first. on_number (walked (arguments_of f l.count (drop (first - place) source) first)) refused_by
+          (λ at. on_number (last_word f source place at l.behind) refused_by (λ last. ReportRead (report_read f l source a b c s first last)))))
+      of_fields (Err reason) e st p = refused (number_of reason) p
+      of_fields (Ok x) e st p =
+          let rest = drop (x.next - place) source in
+          of_arguments x.first x.second x.third x.stream x.next e st p (arguments_pass f l.count rest x.next) (arguments_of f l.count rest x.next) refl
+          (arguments_fit f l.count rest x.next)
 
   -- every record has one of these contents
   pub content_is : 8 ≤ length source → Is (content_of f source place)
@@ -267,7 +266,7 @@ content_pays f source place h = (is_stands f source place h (content_of f source
 
 -- what is read of a record that is all there and has so many bytes
 pub record RecordStands (f : Format) (archive : List ℕ) (place size : ℕ) (r : Record) : Type 0 where
-  pub extent : extent_of f (drop place archive) ≡ Bytes size
+  pub extent : extent_of f (drop place archive) ≡ Ok size
   pub next : r.next ≡ place + size
   pub whole : size % 8 ≡ 0
   pub some : 8 ≤ size
@@ -276,7 +275,7 @@ pub record RecordStands (f : Format) (archive : List ℕ) (place size : ℕ) (r 
   pub shows : ContentInside place (place + size) r.content
   pub pays : content_bytes f (take size (drop place archive)) place r.content ≤ size
 
-stands : (f : Format) (archive : List ℕ) (place size : ℕ) → extent_of f (drop place archive) ≡ Bytes size
+stands : (f : Format) (archive : List ℕ) (place size : ℕ) → extent_of f (drop place archive) ≡ Ok size
     → RecordStands f archive place size (record { content = content_of f (take size (drop place archive)) place; next = place + size })
 stands f archive place size e =
     record {
@@ -300,7 +299,7 @@ stands f archive place size e =
     l = length-take-le size (drop place archive) w.inside
 
 -- a record that has an extent is read so
-pub record_stands : (f : Format) (archive : List ℕ) (place size : ℕ) → extent_of f (drop place archive) ≡ Bytes size
+pub record_stands : (f : Format) (archive : List ℕ) (place size : ℕ) → extent_of f (drop place archive) ≡ Ok size
     → RecordStands f archive place size (record_at f archive place)
 unfolding record_of
 record_stands f archive place size e = rw e (stands f archive place size e)
@@ -313,9 +312,9 @@ pub on_record : (P : Record → Type 0) (f : Format) (archive : List ℕ) (place
 unfolding record_of
 on_record P f archive place r g = go (extent_of f (drop place archive)) refl
   where
-    go : (x : Extent) → extent_of f (drop place archive) ≡ x → P (record_at f archive place)
-    go (ExtentRefused number) e = rw e (r number)
-    go (Bytes size) e = g size (record_stands f archive place size e)
+    go : (x : Result ℕ Reason) → extent_of f (drop place archive) ≡ x → P (record_at f archive place)
+    go (Err reason) e = rw e (r (number_of reason))
+    go (Ok size) e = g size (record_stands f archive place size e)
 
 -- the record at a place is refused there, or stands so
 pub record_read : (f : Format) (archive : List ℕ) (place : ℕ)
@@ -329,7 +328,7 @@ record_read f archive place =
 -- ---- the bytes that a record depends on
 
 -- an extent depends on the bytes of its record alone, and on whether they are all there
-pub extent_local : (f : Format) (a b : List ℕ) (size : ℕ) → extent_of f a ≡ Bytes size → take size a ≡ take size b → extent_of f b ≡ Bytes size
+pub extent_local : (f : Format) (a b : List ℕ) (size : ℕ) → extent_of f a ≡ Ok size → take size a ≡ take size b → extent_of f b ≡ Ok size
 unfolding extent_of
 extent_local f a b size e s =
     rw (
@@ -338,7 +337,7 @@ extent_local f a b size e s =
       ne_eqb n 0 (omega (arith, w.some, w.is)),
       le-ltb (length b) (8 * n) (omega (arith, w.is, there)),
     )
-    (ap Bytes (sym w.is))
+    (ap Ok (sym w.is))
   where
     w : Whole f a size
     w = extent_read f a size e
@@ -352,18 +351,18 @@ extent_local f a b size e s =
     word : word_at f.order a 0 ≡ word_at f.order b 0
     word = sym (word_at-take f.order a 0 size w.some) ∙ (ap (λ (l : List ℕ). word_at f.order l 0) s ∙ word_at-take f.order b 0 size w.some)
 
-rest_local : (f : Format) (a b : List ℕ) (place size : ℕ) → extent_of f a ≡ Bytes size → take size a ≡ take size b
+rest_local : (f : Format) (a b : List ℕ) (place size : ℕ) → extent_of f a ≡ Ok size → take size a ≡ take size b
     → record_of f a place ≡ record_of f b place
 unfolding record_of
 rest_local f a b place size e s = rw (e, extent_local f a b size e s, s)
 
 -- the record at a place depends on the bytes of that record alone, and on whether they are all there
-pub record_local : (f : Format) (a b : List ℕ) (place size : ℕ) → extent_of f (drop place a) ≡ Bytes size
+pub record_local : (f : Format) (a b : List ℕ) (place size : ℕ) → extent_of f (drop place a) ≡ Ok size
     → take size (drop place a) ≡ take size (drop place b) → record_at f a place ≡ record_at f b place
 record_local f a b place size e s = rest_local f (drop place a) (drop place b) place size e s
 
 -- bytes behind a record change nothing of it
-pub record_moved : (f : Format) (rest more : List ℕ) (place size : ℕ) → extent_of f rest ≡ Bytes size
+pub record_moved : (f : Format) (rest more : List ℕ) (place size : ℕ) → extent_of f rest ≡ Ok size
     → record_of f (rest ++ more) place ≡ record_of f rest place
 record_moved f rest more place size e =
     sym (rest_local f rest (rest ++ more) place size e (sym (take-append-le size rest more (extent_read f rest size e).inside)))

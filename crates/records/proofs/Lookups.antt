@@ -8,16 +8,16 @@ use native.Mathlib.Omega.{arith}
 use types.Run.{OneOf, miss}
 use denote.Enum.Declared.{tag_of}
 use lib.ListN.{length, drop}
+use Rattle.std.proofs.Common.{Result, Ok, Err}
 use Rattle.words.specs.Word.{word_at}
 use Rattle.format.specs.declared.Format.{Format}
+use Rattle.format.specs.declared.Reason.{Reason}
 use Rattle.format.specs.declared.Reference.{Reference}
 use Rattle.arguments.specs.declared.Argument.{Argument}
 use Rattle.arguments.specs.declared.Argued.{Argued}
-use Rattle.arguments.specs.declared.Argued.TheVariants.{Refused as ArgumentRefused, Argument as ArgumentRead}
 use Rattle.arguments.specs.declared.Texts.{Texts}
-use Rattle.arguments.specs.declared.Texts.TheVariants.{Refused as TextsRefused, Texts as TextsRead}
 use Rattle.arguments.specs.Argument.{argument_of, on_argued, text_in, arguments_read, arguments_of, Arguments, refused, arguments, prepend}
-use Rattle.arguments.specs.Models.Reading.{texts_of, listed}
+use Rattle.arguments.specs.Models.Reading.{texts, texts_of, listed}
 use Rattle.records.specs.declared.Report.{Report}
 use Rattle.records.specs.declared.Content.{Content}
 use Rattle.records.specs.declared.Content.TheVariants.{Refused, Magic, ProviderInfo, Section, ProviderEvent, Initialization, String, Thread, Report as ReportRead, Ignored, Skipped}
@@ -29,9 +29,9 @@ use Rattle.records.proofs.Contents.{ContentIs, refused as is_refused, magic as i
 use Rattle.records.proofs.Contents.{string as is_string, thread as is_thread, report as is_report, ignored as is_ignored, skipped as is_skipped, content_is}
 
 -- what is made of an argument's texts
-abbrev pub on_texts : {A : Type 0} → Texts → A → (Reference → Reference → ℕ → A) → A
-on_texts (TextsRefused number) refuse then = refuse
-on_texts (TextsRead name value size) refuse then = then name value size
+abbrev pub on_texts : {A : Type 0} → Result Texts Reason → A → (Reference → Reference → ℕ → A) → A
+on_texts (Err reason) refuse then = refuse
+on_texts (Ok t) refuse then = then t.name t.value t.size
 
 -- one turn of a walk over arguments: the references of the first, then those of the rest
 pub lookups_turn : (f : Format) (n : ℕ) (rest : List ℕ) (place : ℕ) → 0 < n
@@ -42,21 +42,21 @@ unfolding arguments_read texts_of
 lookups_turn f zero rest place h = absurd (omega arith)
 lookups_turn f (suc n) rest place h = let e : suc n - 1 ≡ n = omega arith in rw e (go (argument_of f rest place))
   where
-    go : (x : Argued)
-        → argument_lookups (on_argued x (λ number. []) (λ a size. a ∷ arguments_read f n (drop size rest) (place + size)))
-        ≡ on_texts (on_argued x TextsRefused (λ a size. TextsRead a.name (text_in a.value) size)) []
+    go : (x : Result Argued Reason)
+        → argument_lookups (on_argued x (λ reason. []) (λ a size. a ∷ arguments_read f n (drop size rest) (place + size)))
+        ≡ on_texts (on_argued x Err (λ a size. texts a.name (text_in a.value) size)) []
         (λ name value size. text_lookup name ∷ text_lookup value ∷ argument_lookups (arguments_read f n (drop size rest) (place + size)))
-    go (ArgumentRefused number) = refl
-    go (ArgumentRead a size) = refl
+    go (Err reason) = refl
+    go (Ok r) = refl
 
 -- every argument was read
 abbrev pub AllRead : Arguments → Type 0
-AllRead (refused number) = ⊥
+AllRead (refused reason) = ⊥
 AllRead (arguments l next) = Unit {0}
 
 -- so were those behind the first
 pub behind_read : (a : Argument) (q : Arguments) → AllRead (prepend a q) → AllRead q
-behind_read a (refused number) r = r
+behind_read a (refused reason) r = r
 behind_read a (arguments l next) r = tt
 
 -- arguments that are all read are listed as they are read
@@ -67,18 +67,18 @@ read_listed f zero rest place r = refl
 read_listed f (suc count) rest place r = go (λ size. read_listed f count (drop size rest) (place + size)) (argument_of f rest place) r
   where
     prepended : (a : Argument) (q : Arguments) → AllRead (prepend a q) → a ∷ listed q ≡ listed (prepend a q)
-    prepended a (refused number) r = absurd r
+    prepended a (refused reason) r = absurd r
     prepended a (arguments l next) r = refl
 
     go : ((size : ℕ) → AllRead (arguments_of f count (drop size rest) (place + size))
         → arguments_read f count (drop size rest) (place + size) ≡ listed (arguments_of f count (drop size rest) (place + size)))
-        → (x : Argued) → AllRead (on_argued x refused (λ a size. prepend a (arguments_of f count (drop size rest) (place + size))))
-        → on_argued x (λ number. []) (λ a size. a ∷ arguments_read f count (drop size rest) (place + size))
+        → (x : Result Argued Reason) → AllRead (on_argued x refused (λ a size. prepend a (arguments_of f count (drop size rest) (place + size))))
+        → on_argued x (λ reason. []) (λ a size. a ∷ arguments_read f count (drop size rest) (place + size))
         ≡ listed (on_argued x refused (λ a size. prepend a (arguments_of f count (drop size rest) (place + size))))
-    go more (ArgumentRefused number) r = absurd r
-    go more (ArgumentRead a size) r =
-        let q = arguments_of f count (drop size rest) (place + size) in
-        rw (more size (behind_read a q r)) (prepended a q r)
+    go more (Err reason) r = absurd r
+    go more (Ok x) r =
+        let q = arguments_of f count (drop x.size rest) (place + x.size) in
+        rw (more x.size (behind_read x.argument q r)) (prepended x.argument q r)
 
 -- the other arm of a match that names reports alone is taken for what is no report: the ninth variant is
 pub other_arm : {A : Type 0} (content : Content) (other : A) (report : Report → A)

@@ -6,61 +6,63 @@ use mathlib.Core.Logic.{◌⊎◌, inl, inr}
 use native.Mathlib.Omega.{arith}
 use lib.Dec.{eqb, ltb}
 use lib.ListN.{length, take, drop}
+use Rattle.std.proofs.Common.{Result, Ok, Err}
 use Rattle.words.specs.Word.{word_at, field}
 use Rattle.words.proofs.Tests.{on-pick}
 use Rattle.format.specs.declared.Format.{Format}
+use Rattle.format.specs.declared.Reason.{Reason}
+use Rattle.format.specs.declared.Reason.TheVariants.{Cut, Malformed, LongText, HighIndex}
 use Rattle.format.specs.declared.Reference.{Reference}
 use Rattle.format.specs.declared.Reference.TheVariants.{Inline, Index}
-use Rattle.format.specs.Limits.{cut, malformed, long_text, high_index}
+use Rattle.format.specs.Limits.{number_of}
 use Rattle.format.specs.declared.Part.{Part}
 use Rattle.format.specs.declared.Part.TheVariants.{Words as words, Stream as stream, Text as text, Thread as thread}
 use Rattle.format.specs.declared.Taken.{Taken}
-use Rattle.format.specs.declared.Taken.TheVariants.{Refused as PartRefused, Part as PartRead}
 use Rattle.format.specs.Part.{take_words, take_stream, take_text, take_thread, take_part, table_of, Body, refused as body_refused, body, prepend, on_taken, take_parts, on_body, part}
 use Rattle.arguments.specs.declared.Argument.{Argument}
 use Rattle.arguments.specs.declared.Argued.{Argued}
-use Rattle.arguments.specs.declared.Argued.TheVariants.{Refused as ArgumentRefused, Argument as ArgumentRead}
-use Rattle.arguments.specs.Argument.{argument_size, argument_body, argument_of, Arguments, refused, arguments, prepend as prepend_argument, on_argued, arguments_of, value_parts, value_of}
+use Rattle.arguments.specs.Argument.{argument_size, argued, argument_body, argument_of, Arguments, refused, arguments, prepend as prepend_argument, on_argued, arguments_of, value_parts, value_of}
 use Rattle.records.specs.declared.Layout.{Layout}
 use Rattle.records.specs.declared.Fields.{Fields}
-use Rattle.records.specs.declared.Fields.TheVariants.{Refused as FieldsRefused, Fields as FieldsRead}
 use Rattle.records.specs.Layout.{layout_parts, fields_of, take_fields}
 
--- a number that a record is refused by: it is no end of a reading and not 4, and one of those that a step can answer
+-- what a record can be refused by has a number from 5 to 8
 pub record RecordNumber (number : ℕ) : Type 0 where
   pub stops : 5 ≤ number
   pub answered : number ≤ 8
 
--- each of them
-pub number_cut : RecordNumber cut
-number_cut = record { stops = omega arith; answered = omega arith }
+abbrev pub RecordReason : Reason → Type 0
+RecordReason reason = RecordNumber (number_of reason)
 
-pub number_malformed : RecordNumber malformed
-number_malformed = record { stops = omega arith; answered = omega arith }
+pub reason_cut : RecordReason Cut
+reason_cut = record { stops = omega arith; answered = omega arith }
 
-pub number_long : RecordNumber long_text
-number_long = record { stops = omega arith; answered = omega arith }
+pub reason_malformed : RecordReason Malformed
+reason_malformed = record { stops = omega arith; answered = omega arith }
 
-pub number_high : RecordNumber high_index
-number_high = record { stops = omega arith; answered = omega arith }
+pub reason_long : RecordReason LongText
+reason_long = record { stops = omega arith; answered = omega arith }
 
-abbrev TakenPasses : Taken → Type 0
-TakenPasses (PartRefused number) = RecordNumber number
-TakenPasses (PartRead reference next) = Unit {0}
+pub reason_high : RecordReason HighIndex
+reason_high = record { stops = omega arith; answered = omega arith }
+
+abbrev TakenPasses : Result Taken Reason → Type 0
+TakenPasses (Err reason) = RecordReason reason
+TakenPasses (Ok t) = Unit {0}
 
 abbrev BodyPasses : Body → Type 0
-BodyPasses (body_refused number) = RecordNumber number
+BodyPasses (body_refused reason) = RecordReason reason
 BodyPasses (body references next) = Unit {0}
 
 words_pass : (n place : ℕ) (source : List ℕ) (start : ℕ) → TakenPasses (take_words n place source start)
 unfolding take_words
-words_pass n place source start = on-pick TakenPasses (ltb (start + length source) (place + 8 * n)) _ _ (λ e. number_malformed) (λ e. tt)
+words_pass n place source start = on-pick TakenPasses (ltb (start + length source) (place + 8 * n)) _ _ (λ e. reason_malformed) (λ e. tt)
 
 stream-passes : (f : Format) (n place : ℕ) (source : List ℕ) (start : ℕ) → TakenPasses (take_stream f n place source start)
 unfolding take_stream
 stream-passes f n place source start =
-    on-pick TakenPasses (ltb f.longest n) _ _ (λ e. number_long)
-    (λ e. on-pick TakenPasses (ltb (start + length source) _) _ _ (λ e. number_malformed) (λ e. tt))
+    on-pick TakenPasses (ltb f.longest n) _ _ (λ e. reason_long)
+    (λ e. on-pick TakenPasses (ltb (start + length source) _) _ _ (λ e. reason_malformed) (λ e. tt))
 
 part-passes : (f : Format) (p : Part) (place : ℕ) (source : List ℕ) (start : ℕ) → TakenPasses (take_part f p place source start)
 unfolding take_part take_text take_thread
@@ -73,13 +75,13 @@ part-passes f (thread reference) place source start =
     on-pick TakenPasses (eqb reference 0) _ _ (λ e. words_pass 2 place source start) (λ e. tt)
 
 prepend-passes : (x : Reference) (b : Body) → BodyPasses b → BodyPasses (prepend x b)
-prepend-passes x (body_refused number) h = h
+prepend-passes x (body_refused reason) h = h
 prepend-passes x (body references next) h = tt
 
-on_taken_passes : (t : Taken) (k : Reference → ℕ → Body) → TakenPasses t → ((x : Reference) (next : ℕ) → BodyPasses (k x next))
+on_taken_passes : (t : Result Taken Reason) (k : Reference → ℕ → Body) → TakenPasses t → ((x : Reference) (next : ℕ) → BodyPasses (k x next))
     → BodyPasses (on_taken t k)
-on_taken_passes (PartRefused number) k h g = h
-on_taken_passes (PartRead x next) k h g = g x next
+on_taken_passes (Err reason) k h g = h
+on_taken_passes (Ok t) k h g = g t.reference t.next
 
 -- a body is read, or refused by such a number
 parts_pass : (f : Format) (ps : List Part) (place : ℕ) (source : List ℕ) (start : ℕ) → BodyPasses (take_parts f ps place source start)
@@ -90,27 +92,27 @@ parts_pass f (p ∷ ps) place source start =
     (λ x next. prepend-passes x (take_parts f ps next source start) (parts_pass f ps next source start))
 
 -- what holds of every such refusal and of what follows the parts holds of the whole
-on_parts : {A : Type 0} (P : A → Type 0) (f : Format) (ps : List Part) (place : ℕ) (source : List ℕ) (start : ℕ) (refuse : ℕ → A) (then : List Reference → ℕ → A)
-    → ((number : ℕ) → RecordNumber number → P (refuse number)) → ((rs : List Reference) (next : ℕ) → P (then rs next))
+on_parts : {A : Type 0} (P : A → Type 0) (f : Format) (ps : List Part) (place : ℕ) (source : List ℕ) (start : ℕ) (refuse : Reason → A) (then : List Reference → ℕ → A)
+    → ((reason : Reason) → RecordReason reason → P (refuse reason)) → ((rs : List Reference) (next : ℕ) → P (then rs next))
     → P (on_body (take_parts f ps place source start) refuse then)
 on_parts P f ps place source start refuse then r g = go (take_parts f ps place source start) (parts_pass f ps place source start)
   where
     go : (b : Body) → BodyPasses b → P (on_body b refuse then)
-    go (body_refused number) h = r number h
+    go (body_refused reason) h = r reason h
     go (body rs next) h = g rs next
 
-abbrev ArgumentPasses : Argued → Type 0
-ArgumentPasses (ArgumentRefused number) = RecordNumber number
-ArgumentPasses (ArgumentRead a size) = Unit {0}
+abbrev ArgumentPasses : Result Argued Reason → Type 0
+ArgumentPasses (Err reason) = RecordReason reason
+ArgumentPasses (Ok r) = Unit {0}
 
 argument_passes : (f : Format) (rest : List ℕ) (place : ℕ) → ArgumentPasses (argument_of f rest place)
 unfolding argument_of argument_body
 argument_passes f rest place =
-    on-pick ArgumentPasses (ltb (length rest) 8) _ _ (λ e. number_malformed)
-    (λ e. on-pick ArgumentPasses (eqb (argument_size (word_at f.order rest 0)) 0) _ _ (λ e. number_malformed)
-    (λ e. on-pick ArgumentPasses (ltb (length rest) (argument_size (word_at f.order rest 0))) _ _ (λ e. number_malformed)
-    (λ e. on_parts ArgumentPasses f (text (field 16 31 hd) ∷ value_parts hd) (place + 8) own place ArgumentRefused
-    (λ rs next. ArgumentRead (record { name = part 0 rs; value = value_of f hd own place (part 1 rs) }) (argument_size hd)) (λ number h. h)
+    on-pick ArgumentPasses (ltb (length rest) 8) _ _ (λ e. reason_malformed)
+    (λ e. on-pick ArgumentPasses (eqb (argument_size (word_at f.order rest 0)) 0) _ _ (λ e. reason_malformed)
+    (λ e. on-pick ArgumentPasses (ltb (length rest) (argument_size (word_at f.order rest 0))) _ _ (λ e. reason_malformed)
+    (λ e. on_parts ArgumentPasses f (text (field 16 31 hd) ∷ value_parts hd) (place + 8) own place Err
+    (λ rs next. argued (record { name = part 0 rs; value = value_of f hd own place (part 1 rs) }) (argument_size hd)) (λ reason h. h)
     (λ rs next. tt))))
   where
     hd : ℕ
@@ -120,17 +122,17 @@ argument_passes f rest place =
     own = take (argument_size hd) rest
 
 abbrev pub ArgumentsPass : Arguments → Type 0
-ArgumentsPass (refused number) = RecordNumber number
+ArgumentsPass (refused reason) = RecordReason reason
 ArgumentsPass (arguments l next) = Unit {0}
 
 prepend_argument_passes : (a : Argument) (q : Arguments) → ArgumentsPass q → ArgumentsPass (prepend_argument a q)
-prepend_argument_passes a (refused number) h = h
+prepend_argument_passes a (refused reason) h = h
 prepend_argument_passes a (arguments l next) h = tt
 
-on_argued_passes : (x : Argued) (k : Argument → ℕ → Arguments) → ArgumentPasses x → ((a : Argument) (size : ℕ) → ArgumentsPass (k a size))
+on_argued_passes : (x : Result Argued Reason) (k : Argument → ℕ → Arguments) → ArgumentPasses x → ((a : Argument) (size : ℕ) → ArgumentsPass (k a size))
     → ArgumentsPass (on_argued x refused k)
-on_argued_passes (ArgumentRefused number) k h g = h
-on_argued_passes (ArgumentRead a size) k h g = g a size
+on_argued_passes (Err reason) k h g = h
+on_argued_passes (Ok r) k h g = g r.argument r.size
 
 -- arguments are read, or refused by such a number
 pub arguments_pass : (f : Format) (count : ℕ) (rest : List ℕ) (place : ℕ) → ArgumentsPass (arguments_of f count rest place)
@@ -158,23 +160,23 @@ is_table (thread reference) = inr refl
 abbrev pub Shape : Part → Reference → Type 0
 Shape p x = table_of p ≡ 3 → ThreadReference x
 
-abbrev TakenShape : Part → Taken → Type 0
-TakenShape p (PartRefused number) = Unit {0}
-TakenShape p (PartRead x next) = Shape p x
+abbrev TakenShape : Part → Result Taken Reason → Type 0
+TakenShape p (Err reason) = Unit {0}
+TakenShape p (Ok t) = Shape p t.reference
 
 part_shape : (f : Format) (p : Part) (place : ℕ) (source : List ℕ) (start : ℕ) → TakenShape p (take_part f p place source start)
 unfolding take_part take_thread take_words table_of
 part_shape f (words n) place source start = on-pick (TakenShape (words n)) (ltb (start + length source) (place + 8 * n)) _ _ (λ e. tt) (λ e k. absurd (omega (arith, k)))
 part_shape f (stream n) place source start = no (take_stream f n place source start)
   where
-    no : (x : Taken) → TakenShape (stream n) x
-    no (PartRefused number) = tt
-    no (PartRead x next) = λ k. absurd (omega (arith, k))
+    no : (x : Result Taken Reason) → TakenShape (stream n) x
+    no (Err reason) = tt
+    no (Ok t) = λ k. absurd (omega (arith, k))
 part_shape f (text r) place source start = no (take_text f r place source start)
   where
-    no : (x : Taken) → TakenShape (text r) x
-    no (PartRefused number) = tt
-    no (PartRead x next) = λ k. absurd (omega (arith, k))
+    no : (x : Result Taken Reason) → TakenShape (text r) x
+    no (Err reason) = tt
+    no (Ok t) = λ k. absurd (omega (arith, k))
 part_shape f (thread r) place source start =
     on-pick (TakenShape (thread r)) (eqb r 0) _ _
     (λ e. on-pick (TakenShape (thread r)) (ltb (start + length source) (place + 8 * 2)) _ _ (λ e. tt) (λ e k. refl)) (λ e k. tt)
@@ -186,11 +188,11 @@ AllShape (p ∷ ps) [] = ⊥
 AllShape (p ∷ ps) (x ∷ xs) = Shape p x × AllShape ps xs
 
 abbrev BodyShape : List Part → Body → Type 0
-BodyShape ps (body_refused number) = Unit {0}
+BodyShape ps (body_refused reason) = Unit {0}
 BodyShape ps (body xs next) = AllShape ps xs
 
 prepend_shape : (p : Part) (ps : List Part) (x : Reference) (b : Body) → Shape p x → BodyShape ps b → BodyShape (p ∷ ps) (prepend x b)
-prepend_shape p ps x (body_refused number) h k = tt
+prepend_shape p ps x (body_refused reason) h k = tt
 prepend_shape p ps x (body xs next) h k = (h, k)
 
 parts_shape : (f : Format) (ps : List Part) (place : ℕ) (source : List ℕ) (start : ℕ) → BodyShape ps (take_parts f ps place source start)
@@ -198,15 +200,15 @@ unfolding take_parts
 parts_shape f [] place source start = tt
 parts_shape f (p ∷ ps) place source start = go (take_part f p place source start) (part_shape f p place source start) (λ next. parts_shape f ps next source start)
   where
-    go : (t : Taken) → TakenShape p t → ((next : ℕ) → BodyShape ps (take_parts f ps next source start))
+    go : (t : Result Taken Reason) → TakenShape p t → ((next : ℕ) → BodyShape ps (take_parts f ps next source start))
         → BodyShape (p ∷ ps) (on_taken t (λ x next. prepend x (take_parts f ps next source start)))
-    go (PartRefused number) h k = tt
-    go (PartRead x next) h k = prepend_shape p ps x (take_parts f ps next source start) h (k next)
+    go (Err reason) h k = tt
+    go (Ok t) h k = prepend_shape p ps t.reference (take_parts f ps t.next source start) h (k t.next)
 
 -- the fields of a layout are refused by such a number, or each reference is one of its table
-abbrev pub FieldsPass : Layout → Fields → Type 0
-FieldsPass l (FieldsRefused number) = RecordNumber number
-FieldsPass l (FieldsRead a b c s next) = Shape l.first a × Shape l.second b × Shape l.third c
+abbrev pub FieldsPass : Layout → Result Fields Reason → Type 0
+FieldsPass l (Err reason) = RecordReason reason
+FieldsPass l (Ok x) = Shape l.first x.first × Shape l.second x.second × Shape l.third x.third
 
 pub fields_pass : (f : Format) (l : Layout) (source : List ℕ) (place : ℕ) → FieldsPass l (take_fields f l source place)
 unfolding take_fields
@@ -215,7 +217,7 @@ fields_pass f l source place =
     (parts_shape f (layout_parts l) (place + 8) source place)
   where
     go : (b : Body) → BodyPasses b → BodyShape (layout_parts l) b → FieldsPass l (fields_of b)
-    go (body_refused number) h k = h
+    go (body_refused reason) h k = h
     go (body [] next) h k = absurd k
     go (body (w ∷ []) next) h k = absurd k.1
     go (body (w ∷ a ∷ []) next) h k = absurd k.1.1

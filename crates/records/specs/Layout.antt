@@ -1,16 +1,16 @@
 -- Records that refer to texts and threads: which records are read so, how each kind is laid out, and what is read of any of them.
 -- A body is leading words, three references, a stream that is no reference, arguments, and words behind them; what a kind has not, takes no bytes.
 -- A kind is its layout and what is particular to it; all else is the same for all kinds.
-use Rattle.std.specs.Prelude.{ℕ, ◌+◌, ◌-◌, ◌*◌, [], List, ◌∷◌, Bool, true, false, length, drop, eqb, leb, ltb}
+use Rattle.std.specs.Prelude.{ℕ, ◌+◌, ◌-◌, ◌*◌, [], List, ◌∷◌, Bool, true, false, length, drop, Result, Ok, Err, eqb, leb, ltb}
 use Rattle.words.specs.Word.{pick, word_at, field}
 use Rattle.format.specs.declared.Format.{Format}
 use Rattle.format.specs.declared.Reference.{Reference}
-use Rattle.format.specs.Limits.{malformed}
+use Rattle.format.specs.declared.Reason.{Reason}
+use Rattle.format.specs.declared.Reason.TheVariants.{Malformed}
+use Rattle.format.specs.Limits.{number_of}
 use Rattle.format.specs.declared.Part.{Part}
 use Rattle.format.specs.declared.Part.TheVariants.{Words as words, Stream as stream, Text as text, Thread as thread}
 use Rattle.format.specs.Part.{table_of, Body, refused, body, take_parts, part}
-use Rattle.arguments.specs.declared.Walked.{Walked}
-use Rattle.arguments.specs.declared.Walked.TheVariants.{Refused as WalkRefused, End}
 use Rattle.arguments.specs.Argument.{arguments_of, walked}
 use Rattle.records.specs.declared.Event.{Event}
 use Rattle.records.specs.declared.Log.{Log}
@@ -20,9 +20,6 @@ use Rattle.records.specs.declared.Lookup.{Lookup}
 use Rattle.records.specs.declared.Report.{Report}
 use Rattle.records.specs.declared.Layout.{Layout}
 use Rattle.records.specs.declared.Fields.{Fields}
-use Rattle.records.specs.declared.Fields.TheVariants.{Refused as FieldsRefused, Fields as FieldsRead}
-use Rattle.records.specs.declared.Last.{Last}
-use Rattle.records.specs.declared.Last.TheVariants.{Refused as LastRefused, Word}
 use Rattle.records.specs.declared.Content.{Content}
 use Rattle.records.specs.declared.Content.TheVariants.{Refused, Report as ReportRead}
 
@@ -92,34 +89,39 @@ own_of f source = pick (is_log (word_at f.order source 0)) (LogOwn (log_of f sou
 
 -- ---- any kind
 
+-- a record that is refused, by document 01's number of the reason
+abbrev pub refused_by : Reason → Content
+refused_by reason = Refused (number_of reason)
+
 abbrev pub layout_parts : Layout → List Part
 layout_parts l = words l.words ∷ l.first ∷ l.second ∷ l.third ∷ stream l.stream ∷ []
 
-abbrev pub fields_of : Body → Fields
-fields_of (refused number) = FieldsRefused number
-fields_of (body references next) = FieldsRead (part 1 references) (part 2 references) (part 3 references) (part 4 references) next
+-- the references and the stream of a layout that are read, and the place behind them
+abbrev pub fields : (first second third stream : Reference) → ℕ → Result Fields Reason
+fields a b c s next = Ok (record { first = a; second = b; third = c; stream = s; next = next })
+
+abbrev pub fields_of : Body → Result Fields Reason
+fields_of (refused reason) = Err reason
+fields_of (body references next) = fields (part 1 references) (part 2 references) (part 3 references) (part 4 references) next
 
 -- a record up to its arguments: its bytes are `source` and start at `place`
-unfoldable pub take_fields : Format → Layout → List ℕ → ℕ → Fields
+unfoldable pub take_fields : Format → Layout → List ℕ → ℕ → Result Fields Reason
 take_fields f l source place = fields_of (take_parts f (layout_parts l) (place + 8) source place)
 
 -- the word behind the arguments, which end at `at`
-unfoldable pub last_word : Format → List ℕ → ℕ → ℕ → ℕ → Last
+unfoldable pub last_word : Format → List ℕ → ℕ → ℕ → ℕ → Result ℕ Reason
 last_word f source place at behind =
-    pick (ltb (place + length source) (at + 8 * behind)) (LastRefused malformed)
-    (pick (eqb behind 0) (Word 0) (Word (word_at f.order source (at - place))))
+    pick (ltb (place + length source) (at + 8 * behind)) (Err Malformed)
+    (pick (eqb behind 0) (Ok 0) (Ok (word_at f.order source (at - place))))
 
-abbrev pub on_fields : {A : Type 0} → Fields → (ℕ → A) → (Reference → Reference → Reference → Reference → ℕ → A) → A
-on_fields (FieldsRefused number) refuse then = refuse number
-on_fields (FieldsRead a b c s next) refuse then = then a b c s next
+abbrev pub on_fields : {A : Type 0} → Result Fields Reason → (Reason → A) → (Reference → Reference → Reference → Reference → ℕ → A) → A
+on_fields (Err reason) refuse then = refuse reason
+on_fields (Ok x) refuse then = then x.first x.second x.third x.stream x.next
 
-abbrev pub on_walked : {A : Type 0} → Walked → (ℕ → A) → (ℕ → A) → A
-on_walked (WalkRefused number) refuse then = refuse number
-on_walked (End next) refuse then = then next
-
-abbrev pub on_last : {A : Type 0} → Last → (ℕ → A) → (ℕ → A) → A
-on_last (LastRefused number) refuse then = refuse number
-on_last (Word last) refuse then = then last
+-- what is made of a number that is read, a place, a size or a last word, or of its refusal
+abbrev pub on_number : {A : Type 0} → Result ℕ Reason → (Reason → A) → (ℕ → A) → A
+on_number (Err reason) refuse then = refuse reason
+on_number (Ok n) refuse then = then n
 
 -- a reference that was taken for a part
 abbrev pub lookup_of : Part → Reference → Lookup
@@ -142,9 +144,9 @@ report_read f l source a b c s first last =
 unfoldable pub report_of : Format → List ℕ → ℕ → Content
 report_of f source place =
     let l = layout_of (word_at f.order source 0) in
-    on_fields (take_fields f l source place) Refused
+    on_fields (take_fields f l source place) refused_by
     (λ a b c s first.
-    on_walked (walked (arguments_of f l.count (drop (first - place) source) first)) Refused
+    on_number (walked (arguments_of f l.count (drop (first - place) source) first)) refused_by
     (λ at.
-    on_last (last_word f source place at l.behind) Refused
+    on_number (last_word f source place at l.behind) refused_by
     (λ last. ReportRead (report_read f l source a b c s first last))))

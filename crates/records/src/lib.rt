@@ -9,7 +9,7 @@ ghost use Rattle.records.specs.Models.Layouts.{LayoutFits, take_pair};
 ghost use Rattle.records.specs.Record.{provider_info_of, metadata_of, initialization_of, string_of, thread_of, content_of, record_at};
 ghost use Rattle.records.specs.Item.{own_layout};
 
-use format::{Format, HIGH_INDEX, MALFORMED, Part, Reference, Taken};
+use format::{Format, Part, Reason, Reference};
 
 // What is particular to an event: its type and its timestamp.
 #[derive(Clone, Copy)]
@@ -31,7 +31,8 @@ pub enum Own {
     Log(Log),
 }
 
-// A reference with the table that it is looked up in, by the type of its records: 2 for texts, 3 for threads.
+// A reference with the table that it is looked up in, by the type of its records: 2 for texts, 3 for threads. The type is a number and no
+// enum, since `Registrations::resolve` of tables and `passes::recall` answer for any.
 #[derive(Clone, Copy)]
 pub struct Lookup {
     pub table: u64,
@@ -54,7 +55,7 @@ pub struct Report {
 }
 
 // Whether a record is read so, and how it is laid out: words, three references and a stream of so many bytes, arguments, and words behind them; its
-// reserved bits.
+// reserved bits. `read` stands beside the rest and makes no Option of it, since `layout_of` lays out any header.
 #[derive(Clone, Copy)]
 pub struct Layout {
     pub read: bool,
@@ -68,7 +69,8 @@ pub struct Layout {
     pub reserved: u64,
 }
 
-// What stands in a record. A string or thread record of index 0 is ignored.
+// What stands in a record. A string or thread record of index 0 is ignored. A refusal is by its number and not by a `Reason`, since
+// `effects::effect_of` and `passes::follow` answer for any number.
 #[derive(Clone, Copy)]
 pub enum Content {
     Refused(u8),
@@ -106,7 +108,8 @@ pub enum Content {
 }
 
 // What a record does to the state and the tables: it stops the reading by a number, changes nothing, makes an id current,
-// sets the rate of the current context, or registers a text (table 2) or a thread (table 3) by the place and length of its bytes.
+// sets the rate of the current context, or registers a text (table 2) or a thread (table 3) by the place and length of its bytes. The number
+// may be any, since `effects::follow` answers for any.
 #[derive(Clone, Copy)]
 pub enum Effect {
     Stop(u8),
@@ -134,53 +137,34 @@ pub struct Record {
 
 // The references and the stream of a layout, and where its arguments start.
 #[derive(Clone, Copy)]
-pub enum Fields {
-    Refused(u8),
-    Fields {
-        first: Reference,
-        second: Reference,
-        third: Reference,
-        stream: Reference,
-        next: usize,
-    },
+pub struct Fields {
+    pub first: Reference,
+    pub second: Reference,
+    pub third: Reference,
+    pub stream: Reference,
+    pub next: usize,
 }
 
 // Two parts that were taken, and the place behind them.
 #[derive(Clone, Copy)]
-pub enum Pair {
-    Refused(u8),
-    Pair {
-        first: Reference,
-        second: Reference,
-        next: usize,
-    },
-}
-
-// A last word, 0 where there is none.
-#[derive(Clone, Copy)]
-pub enum Last {
-    Refused(u8),
-    Word(u64),
+pub struct Pair {
+    pub first: Reference,
+    pub second: Reference,
+    pub next: usize,
 }
 
 // Whether events of this type have one more word.
 pub fn has_extra(variant: u64) -> bool
     ensures { result ≡ has_extra variant }
 {
-    if variant == 1 {
-        return true;
-    }
-    3 < variant
+    variant == 1 || 3 < variant
 }
 
 // Whether this is the header of an event that is read.
 fn is_event(header: u64) -> bool
     ensures { result ≡ is_event header }
 {
-    if words::field(header, 0, 3) == 4 {
-        return words::field(header, 16, 19) <= 10;
-    }
-    false
+    words::field(header, 0, 3) == 4 && words::field(header, 16, 19) <= 10
 }
 
 // How many words an event of this type has behind its arguments.
@@ -249,10 +233,9 @@ fn event_of(f: Format, source: &[u8]) -> Event
     requires { 16 ≤ length source.now }
     ensures { result ≡ event_of f source.now }
 {
-    let order = f.order;
     Event {
-        variant: words::field(words::word(order, source, 0), 16, 19) as u8,
-        timestamp: words::word(order, source, 8),
+        variant: words::field(words::word(f.order, source, 0), 16, 19) as u8,
+        timestamp: words::word(f.order, source, 8),
     }
 }
 
@@ -261,9 +244,8 @@ fn log_of(f: Format, source: &[u8]) -> Log
     requires { 16 ≤ length source.now }
     ensures { result ≡ log_of f source.now }
 {
-    let order = f.order;
     Log {
-        timestamp: words::word(order, source, 8),
+        timestamp: words::word(f.order, source, 8),
     }
 }
 
@@ -272,127 +254,90 @@ fn own_of(f: Format, source: &[u8]) -> Own
     requires { 8 + 8 * (layout_of (word_at f.order source.now 0)).words ≤ length source.now }
     ensures { result ≡ own_of f source.now }
 {
-    let order = f.order;
-    if is_log(words::word(order, source, 0)) {
+    if is_log(words::word(f.order, source, 0)) {
         return Own::Log(log_of(f, source));
     }
     Own::Event(event_of(f, source))
 }
 
 // Two parts, one behind the other, at a place of a record, whose bytes are `source` and start at the place `start`.
-fn take_pair(f: Format, one: Part, two: Part, place: usize, source: &[u8], start: usize) -> Pair
+fn take_pair(
+    f: Format,
+    one: Part,
+    two: Part,
+    place: usize,
+    source: &[u8],
+    start: usize,
+) -> Result<Pair, Reason>
     requires { PartFits one × PartFits two × (place ≤ start + length source.now) × (start + length source.now < 2 ^ 63) }
     ensures { result ≡ take_pair f one two place source.now start }
 {
-    let taken = format::take_part(f, one, place, source, start);
-    match taken {
-        Taken::Refused(number) => Pair::Refused(number),
-        Taken::Part {
-            reference: first,
-            next: at,
-        } => {
-            let behind = format::take_part(f, two, at, source, start);
-            match behind {
-                Taken::Refused(number) => Pair::Refused(number),
-                Taken::Part {
-                    reference: second,
-                    next,
-                } => Pair::Pair {
-                    first,
-                    second,
-                    next,
-                },
-            }
-        }
-    }
+    let first = format::take_part(f, one, place, source, start)?;
+    let second = format::take_part(f, two, first.next, source, start)?;
+    Ok(Pair {
+        first: first.reference,
+        second: second.reference,
+        next: second.next,
+    })
 }
 
-// A part and a stream of so many bytes behind it. By itself, so that each of the two has one caller and is read in place.
-fn take_tail(f: Format, part: Part, long: usize, place: usize, source: &[u8], start: usize) -> Pair
+// A part and a stream of so many bytes behind it. Apart from `take_pair`, so that each of the two has one caller and is read
+// in place, and so that a stream is taken without asking what kind of part it is.
+fn take_tail(
+    f: Format,
+    part: Part,
+    long: usize,
+    place: usize,
+    source: &[u8],
+    start: usize,
+) -> Result<Pair, Reason>
     requires { PartFits part × (long < 2 ^ 32) × (place ≤ start + length source.now) × (start + length source.now < 2 ^ 63) }
     ensures { result ≡ take_pair f part (Part.Stream long) place source.now start }
 {
-    let taken = format::take_part(f, part, place, source, start);
-    match taken {
-        Taken::Refused(number) => Pair::Refused(number),
-        Taken::Part {
-            reference: first,
-            next: at,
-        } => {
-            let behind = format::take_stream(f, long, at, source, start);
-            match behind {
-                Taken::Refused(number) => Pair::Refused(number),
-                Taken::Part {
-                    reference: second,
-                    next,
-                } => Pair::Pair {
-                    first,
-                    second,
-                    next,
-                },
-            }
-        }
-    }
+    let first = format::take_part(f, part, place, source, start)?;
+    let second = format::take_stream(f, long, first.next, source, start)?;
+    Ok(Pair {
+        first: first.reference,
+        second: second.reference,
+        next: second.next,
+    })
 }
 
 // The references and the stream of the record that is `source`, whole, at a place of the archive.
-pub fn take_fields(f: Format, layout: Layout, source: &[u8], place: usize) -> Fields
+pub fn take_fields(f: Format, layout: Layout, source: &[u8], place: usize) -> Result<Fields, Reason>
     requires { LayoutFits layout × (8 ≤ length source.now) × (place + length source.now < 2 ^ 63) }
     ensures { result ≡ take_fields f layout source.now place }
 {
-    let one = layout.first;
-    let two = layout.second;
-    let three = layout.third;
-    let leading = format::take_words(layout.words, place + 8, source, place);
-    match leading {
-        Taken::Refused(number) => Fields::Refused(number),
-        Taken::Part {
-            reference: _,
-            next: start,
-        } => {
-            let pair = take_pair(f, one, two, start, source, place);
-            match pair {
-                Pair::Refused(number) => Fields::Refused(number),
-                Pair::Pair {
-                    first,
-                    second,
-                    next: middle,
-                } => {
-                    let rest = take_tail(f, three, layout.stream, middle, source, place);
-                    match rest {
-                        Pair::Refused(number) => Fields::Refused(number),
-                        Pair::Pair {
-                            first: third,
-                            second: stream,
-                            next,
-                        } => Fields::Fields {
-                            first,
-                            second,
-                            third,
-                            stream,
-                            next,
-                        },
-                    }
-                }
-            }
-        }
-    }
+    let leading = format::take_words(layout.words, place + 8, source, place)?;
+    let pair = take_pair(f, layout.first, layout.second, leading.next, source, place)?;
+    let tail = take_tail(f, layout.third, layout.stream, pair.next, source, place)?;
+    Ok(Fields {
+        first: pair.first,
+        second: pair.second,
+        third: tail.first,
+        stream: tail.second,
+        next: tail.next,
+    })
 }
 
-// The last word of a record whose arguments end at `at`, where it has any behind them.
-pub fn last_word(f: Format, source: &[u8], place: usize, at: usize, behind: usize) -> Last
+// The last word of a record whose arguments end at `at`, where it has any behind them, and 0 where it has none.
+pub fn last_word(
+    f: Format,
+    source: &[u8],
+    place: usize,
+    at: usize,
+    behind: usize,
+) -> Result<u64, Reason>
     requires { (place ≤ at) × (at ≤ place + length source.now) × (place + length source.now < 2 ^ 63) × (behind ≤ 1) }
     ensures { result ≡ last_word f source.now place at behind }
 {
-    let order = f.order;
-    let end = place + source.len();
-    if end < at + 8 * behind {
-        return Last::Refused(MALFORMED);
+    if place + source.len() < at + 8 * behind {
+        return Err(Reason::Malformed);
     }
     if behind == 0 {
-        return Last::Word(0);
+        return Ok(0);
     }
-    Last::Word(words::word(order, source, at - place))
+    Ok(words::word(f.order, source, at - place))
 }
 
 // A reference that was taken for a part, with the table that it is looked up in.
@@ -440,16 +385,11 @@ fn provider_info_of(f: Format, source: &[u8], place: usize) -> Content
     requires { (8 ≤ length source.now) × (place + length source.now < 2 ^ 62) }
     ensures { result ≡ provider_info_of f source.now place }
 {
-    let order = f.order;
-    let header = words::word(order, source, 0);
+    let header = words::word(f.order, source, 0);
     let length = words::field(header, 52, 59) as usize;
-    let stream = format::take_stream(f, length, place + 8, source, place);
-    match stream {
-        Taken::Refused(number) => Content::Refused(number),
-        Taken::Part {
-            reference: _,
-            next: _,
-        } => Content::ProviderInfo {
+    match format::take_stream(f, length, place + 8, source, place) {
+        Err(reason) => Content::Refused(reason.number()),
+        Ok(_) => Content::ProviderInfo {
             id: words::field(header, 20, 51) as u32,
             place: place + 8,
             length,
@@ -462,8 +402,7 @@ fn metadata_of(f: Format, source: &[u8], place: usize) -> Content
     requires { (8 ≤ length source.now) × (place + length source.now < 2 ^ 62) }
     ensures { result ≡ metadata_of f source.now place }
 {
-    let order = f.order;
-    let header = words::word(order, source, 0);
+    let header = words::word(f.order, source, 0);
     let metadata_type = words::field(header, 16, 19);
     if metadata_type == 1 {
         return provider_info_of(f, source, place);
@@ -483,7 +422,7 @@ fn metadata_of(f: Format, source: &[u8], place: usize) -> Content
         if words::starts_with_magic(source) {
             return Content::Magic;
         }
-        return Content::Refused(MALFORMED);
+        return Content::Refused(Reason::Malformed.number());
     }
     Content::Skipped {
         record_type: 0,
@@ -496,13 +435,12 @@ fn initialization_of(f: Format, source: &[u8], place: usize) -> Content
     requires { place + length source.now < 2 ^ 62 }
     ensures { result ≡ initialization_of f source.now place }
 {
-    let order = f.order;
     let end = place + source.len();
     if end < place + 8 + 8 {
-        return Content::Refused(MALFORMED);
+        return Content::Refused(Reason::Malformed.number());
     }
     Content::Initialization {
-        rate: words::word(order, source, 8),
+        rate: words::word(f.order, source, 8),
     }
 }
 
@@ -511,23 +449,18 @@ fn string_of(f: Format, source: &[u8], place: usize) -> Content
     requires { (8 ≤ length source.now) × (place + length source.now < 2 ^ 62) }
     ensures { result ≡ string_of f source.now place }
 {
-    let order = f.order;
-    let header = words::word(order, source, 0);
+    let header = words::word(f.order, source, 0);
     let index = words::field(header, 16, 30) as usize;
     let length = words::field(header, 32, 46) as usize;
     if index == 0 {
         return Content::Ignored;
     }
     if (f.highest as usize) < index {
-        return Content::Refused(HIGH_INDEX);
+        return Content::Refused(Reason::HighIndex.number());
     }
-    let stream = format::take_stream(f, length, place + 8, source, place);
-    match stream {
-        Taken::Refused(number) => Content::Refused(number),
-        Taken::Part {
-            reference: _,
-            next: _,
-        } => Content::String {
+    match format::take_stream(f, length, place + 8, source, place) {
+        Err(reason) => Content::Refused(reason.number()),
+        Ok(_) => Content::String {
             index,
             place: place + 8,
             length,
@@ -540,19 +473,14 @@ fn thread_of(f: Format, source: &[u8], place: usize) -> Content
     requires { (8 ≤ length source.now) × (place + length source.now < 2 ^ 62) }
     ensures { result ≡ thread_of f source.now place }
 {
-    let order = f.order;
-    let header = words::word(order, source, 0);
+    let header = words::word(f.order, source, 0);
     let index = words::field(header, 16, 23) as usize;
     if index == 0 {
         return Content::Ignored;
     }
-    let pair = format::take_words(2, place + 8, source, place);
-    match pair {
-        Taken::Refused(number) => Content::Refused(number),
-        Taken::Part {
-            reference: _,
-            next: _,
-        } => Content::Thread {
+    match format::take_words(2, place + 8, source, place) {
+        Err(reason) => Content::Refused(reason.number()),
+        Ok(_) => Content::Thread {
             index,
             place: place + 8,
         },
@@ -565,8 +493,7 @@ pub fn content_of(f: Format, source: &[u8], place: usize) -> Content
     requires { (8 ≤ length source.now) × (place + length source.now < 2 ^ 62) × ((layout_of (word_at f.order source.now 0)).read ≡ false) }
     ensures { result ≡ content_of f source.now place }
 {
-    let order = f.order;
-    let header = words::word(order, source, 0);
+    let header = words::word(f.order, source, 0);
     let record_type = words::field(header, 0, 3);
     if record_type == 2 {
         return string_of(f, source, place);
@@ -591,8 +518,7 @@ pub fn own_words(f: Format, archive: &[u8], place: usize, report: Report) -> usi
     requires { (record_at f archive.now place).content ≡ Content.Report report }
     ensures { result ≡ length (own_layout report.own).words }
 {
-    let order = f.order;
-    let layout = layout_of(words::word(order, archive, place));
+    let layout = layout_of(words::word(f.order, archive, place));
     layout.words
 }
 
@@ -601,7 +527,6 @@ pub fn own_behind(f: Format, archive: &[u8], place: usize, report: Report) -> us
     requires { (record_at f archive.now place).content ≡ Content.Report report }
     ensures { result ≡ (own_layout report.own).behind }
 {
-    let order = f.order;
-    let layout = layout_of(words::word(order, archive, place));
+    let layout = layout_of(words::word(f.order, archive, place));
     layout.behind
 }

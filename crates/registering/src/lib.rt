@@ -8,14 +8,9 @@ ghost use Rattle.registering.specs.Registers.{registers};
 pub fn is_registered(words: u64, uses: u64) -> bool
     ensures { result ≡ registers words uses }
 {
-    if words == 0 {
-        return false;
+    match uses {
+        0 | 1 => false,
+        2 => 1 < words,
+        _ => 0 < words,
     }
-    if uses < 2 {
-        return false;
-    }
-    if uses == 2 {
-        return 1 < words;
-    }
-    true
 }

@@ -12,6 +12,5 @@ pub mod Ready
 pub mod Pass
 pub mod Spelling
 pub mod Registering
-pub mod Putting
 pub mod Settled
 pub mod Passing

@@ -14,7 +14,7 @@ use lib.Seq.{ext_get_or}
 use Rattle.passes.specs.Models.Codes.{last_from, last_of, Chosen}
 use Rattle.passes.specs.Models.Last.{tables_from, tables_of}
 use Rattle.passes.specs.Models.Item.{item_at}
-use Rattle.passes.specs.Models.Follow.{after_record, tables_after}
+use Rattle.passes.specs.Models.Follow.{stop_after, state_after, tables_after}
 use Rattle.passes.specs.Models.Memory.{renewed, RenewFits}
 use Rattle.indexing.specs.Models.Indexes.{Indexes, chosen_key}
 use Rattle.effects.specs.Follow.{change_of, changed}
@@ -217,9 +217,9 @@ goes_on number place run stop =
 
 -- what a turn does: no number stops it, what is written fits and has room, and the same holds behind it
 pub record Turned (f : Format) (archive : List ℕ) (s : State) (tables slots₀ slots sofar : List ℕ) (c : Content) (next : ℕ) : Type 0 where
-  pub number : (after_record s c next).number ≡ 0
+  pub number : (stop_after s c next) ≡ 0
   pub fits : ContentFits f archive (tables_after f tables s c) slots s c next
-  pub writing : Writing f archive (after_record s c next).state (tables_after f tables s c) slots₀
+  pub writing : Writing f archive (state_after s c next) (tables_after f tables s c) slots₀
       (content_slots f archive (tables_after f tables s c) slots s c next)
       (sofar ++ content_bytes f archive (tables_after f tables s c) slots s c next)
   pub room : length (sofar ++ content_bytes f archive (tables_after f tables s c) slots s c next) ≤ length (rule f (items_of (run_of f archive)))
@@ -243,12 +243,12 @@ module _ (f : Format) (archive : List ℕ) (s : State) (tables slots₀ slots so
   chosen = chosen_in uses
 
   -- no number stops the turn
-  goes : (after_record s content next).number ≡ 0
-  goes = goes_on (after_record s content next).number s.place _ (rw (run_turn f archive tables s w.sound w.opens more w.steps) at w.stop)
+  goes : (stop_after s content next) ≡ 0
+  goes = goes_on (stop_after s content next) s.place _ (rw (run_turn f archive tables s w.sound w.opens more w.steps) at w.stop)
 
   -- the state behind the record
   abbrev state : State
-  state = (after_record s content next).state
+  state = (state_after s content next)
 
   -- the tables behind it
   abbrev tables' : List ℕ
@@ -266,7 +266,7 @@ module _ (f : Format) (archive : List ℕ) (s : State) (tables slots₀ slots so
   passes : run_from f archive (suc w.steps) s tables ≡ passed s.place (keeps_at f archive s.place) item rest
   passes =
       run_turn f archive tables s w.sound w.opens more w.steps
-      ∙ rw (eq-eqb (after_record s content next).number 0 goes, item_followed f archive tables s content next)
+      ∙ rw (eq-eqb (stop_after s content next) 0 goes, item_followed f archive tables s content next)
 
   -- the record and what is behind it lose nothing
   loses_none : (keeps_at f archive s.place ≡ true) × (loss_refusal rest ≡ none)

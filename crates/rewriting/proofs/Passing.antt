@@ -8,7 +8,8 @@ use lib.ListN.{length, take, drop, get_or, length-append, length-drop}
 use lib.Seq.{length-take-le, take_at, drop_at, drop-drop, get_or-take, get_or-drop}
 use Rattle.passes.specs.Models.Codes.{Chosen}
 use Rattle.passes.specs.Models.Last.{tables_of}
-use Rattle.passes.specs.Models.Follow.{after_record, tables_after}
+use Rattle.passes.specs.Models.Follow.{stop_after, state_after, tables_after}
+use Rattle.tally.specs.Models.Slots.{slot_of_word}
 use Rattle.passes.specs.Models.Memory.{renewed, RenewFits, Remembers}
 use Rattle.tables.specs.Models.Entries.{FormatFits}
 use Rattle.tally.specs.Models.Tally.{Wide}
@@ -17,6 +18,8 @@ use Rattle.effects.specs.Models.Bounds.{EffectFits}
 use Rattle.records.specs.Effect.{effect_of}
 use Rattle.words.proofs.Words.{AllBytes}
 use Rattle.words.specs.Stream.{overwritten}
+use Rattle.encoding.specs.declared.Output.{Output}
+use Rattle.encoding.specs.Models.Output.{Holds}
 use Rattle.words.proofs.Streams.{length-overwritten, overwritten_twice, none-overwritten}
 use Rattle.format.specs.declared.Format.{Format}
 use Rattle.format.specs.Limits.{small_format, longest_archive}
@@ -75,7 +78,8 @@ passing_start {f} {archive} {room} {out} asks bytes chosen =
       writing = writing_start f archive (take (table_words f) room) (drop (table_words f) room) asks.0 bytes asks.1 asks.2
           (length-take-le (table_words f) room (omega arith)) (λ i low. get_or-take (table_words f) room i 0 low ∙ asks.4 i low) chosen;
       remembers = remembers_none f archive (take (table_words f) room) (drop (table_words f) room) opening.place
-          (λ entry low. get_or-drop (table_words f) room (2 * table_words f + entry) 0 ∙ ap (λ (i : ℕ). get_or room i 0) (on entry) ∙ asks.6 entry low);
+          (λ entry low. ap slot_of_word
+          (get_or-drop (table_words f) room (2 * table_words f + entry) 0 ∙ ap (λ (i : ℕ). get_or room i 0) (on entry) ∙ asks.6 entry low));
       long = refl;
       out_is = none-overwritten out 0 [];
       at_is = refl;
@@ -126,8 +130,8 @@ passing_end {f} {archive} {room₀} {out₀} {room} {out} {s} p ends =
 -- what a turn does with a record, from the room `first` that has its entry in the tables and remembers its slot: no number stops it, it comes nearer to the end,
 -- the record can be written and has space, and the same holds behind it
 pub record Turn (f : Format) (archive room₀ out₀ first out : List ℕ) (s : State) (at : ℕ) (c : Content) (next : ℕ) : Type 0 where
-  pub number : (after_record s c next).number ≡ 0
-  pub nearer : s.place < (after_record s c next).state.place
+  pub number : (stop_after s c next) ≡ 0
+  pub nearer : s.place < (state_after s c next).place
   pub long : length first ≡ length room₀
   pub can : RoomFits f archive first s.current
       × (s.place ≤ length archive)
@@ -139,7 +143,13 @@ pub record Turn (f : Format) (archive room₀ out₀ first out : List ℕ) (s : 
       → after ≡ content_room f archive first s c next
       → last ≡ overwritten out at (content_in f archive first s c next)
       → end ≡ at + length (content_in f archive first s c next)
-      → Passing f archive room₀ out₀ after last (after_record s c next).state end
+      → Passing f archive room₀ out₀ after last (state_after s c next) end
+
+-- an output of the format has space for it
+pub turn_holds : {f : Format} {archive room₀ out₀ first : List ℕ} (output : Output) {s : State} {c : Content} {next : ℕ}
+    → Turn f archive room₀ out₀ first output.buffer.now s output.place c next → output.format ≡ f → Holds output (λ g. content_in g archive first s c next)
+turn_holds {archive = archive} {first = first} output {s} {c} {next} t same =
+    subst (λ (g : Format). output.place + length (content_in g archive first s c next) ≤ length output.buffer.now) (sym same) t.space
 
 -- the record of a turn loses nothing
 pub passing_keeps : {f : Format} {archive room₀ out₀ room out : List ℕ} {s : State} {at : ℕ} → Passing f archive room₀ out₀ room out s at
@@ -199,7 +209,7 @@ module _ {f : Format} {archive room₀ out₀ room out : List ℕ} {s : State} {
       (writing_renewed p.writing (record_at f archive s.place).content (record_renews f archive s.place)) more)
 
   -- what is remembered behind the record
-  remembers_on : Remembers f archive tables' slots' (after_record s content next).state.place
+  remembers_on : Remembers f archive tables' slots' (state_after s content next).place
   remembers_on =
       let w = p.writing in
       let wide = w.indexing.indexes.wide in
@@ -214,7 +224,7 @@ module _ {f : Format} {archive room₀ out₀ room out : List ℕ} {s : State} {
   remembers_for x e = let same = report_renews f archive tables slots s content x e in rw (same.0, same.1) p.remembers
 
   -- it comes nearer to the end
-  comes_nearer : s.place < (after_record s content next).state.place
+  comes_nearer : s.place < (state_after s content next).place
   comes_nearer =
       let w = p.writing in
       let t = turn_place f archive tables s w.sound w.opens more (rw is at turned.number) in
@@ -230,7 +240,7 @@ module _ {f : Format} {archive room₀ out₀ room out : List ℕ} {s : State} {
 
   -- with them the pass goes on
   goes_on : (after last : List ℕ) (end : ℕ) → after ≡ tables' ++ slots' → last ≡ overwritten out at bytes → end ≡ at + length bytes
-      → Passing f archive room₀ out₀ after last (after_record s content next).state end
+      → Passing f archive room₀ out₀ after last (state_after s content next) end
   goes_on after last end a l e =
       let from : at ≡ 0 + length p.sofar = omega (arith, p.at_is) in
       let w = turned.writing in
@@ -288,7 +298,7 @@ module _ {f : Format} {archive room₀ out₀ room out : List ℕ} {s : State} {
       rw (first-is, drop_at tables' fresh (table_words f) tables_long) (renewed-settled f archive slots s content settled)
 
   -- no number stops the turn
-  pub passing_goes : (after_record s content next).number ≡ 0
+  pub passing_goes : (stop_after s content next) ≡ 0
   passing_goes = turned.number
 
   -- and the room makes the turn

@@ -5,15 +5,14 @@ use mathlib.Core.Path.{◌≡◌, refl, sym, ap, subst, ◌∙◌}
 use mathlib.Core.List.{List, [], ◌∷◌, ◌++◌, append-nil}
 use native.Mathlib.Omega.{arith}
 use borrow.Author.Tests.{eq-eqb, ne_eqb}
-use lib.ListN.{length, take, drop, get_or, length-append, take-append-drop}
+use lib.ListN.{length, drop, get_or, take-append-drop}
 use lib.Seq.{get_or-drop}
 use Rattle.tally.specs.declared.Slot.TheVariants.{Here}
 use Rattle.tally.specs.Models.Slots.{label_of, key_of, place_in, label_in, place_at, label_at, find_of}
 use Rattle.indexing.specs.Models.Indexes.{new_index, indexed}
 use Rattle.encoding.specs.Encoded.{string_record, thread_record}
 use Rattle.words.specs.Word.{word_at}
-use Rattle.words.specs.Stream.{overwritten, part_of}
-use Rattle.words.proofs.Streams.{overwritten_twice, length-overwritten}
+use Rattle.words.specs.Stream.{part_of}
 use Rattle.format.specs.declared.Format.{Format}
 use Rattle.records.specs.declared.Lookup.{Lookup}
 use Rattle.records.specs.declared.Report.{Report}
@@ -23,7 +22,9 @@ use Rattle.contexts.specs.declared.State.{State}
 use Rattle.tables.specs.declared.Resolved.{Resolved}
 use Rattle.tables.specs.declared.Resolved.TheVariants.{Bad, Known, Unresolved}
 use Rattle.tables.specs.Table.{table_words, looked_up}
-use Rattle.encoding.proofs.Parts.{nothing_written}
+use Rattle.encoding.specs.declared.Output.{Output}
+use Rattle.encoding.specs.Models.Output.{Holds, Writes}
+use Rattle.encoding.proofs.Writing.{writes_none, writes_same, ◌then◌, Writing, writing_starts, writing_as, writing_fits, writing_goes_on, writing_ends}
 use Rattle.passes.proofs.Rooms.{tables_stay, slots_stand}
 use Rattle.rewriting.specs.Models.Write.{tables_in, slots_in, registration_bytes, given_index, given_slots, known_bytes, given_bytes, slot_bytes, slot_index}
 use Rattle.rewriting.specs.Models.Write.{slot_given_bytes, slot_given_slots, lookups_given_slots, lookups_given_bytes, registered_room, registered_bytes, report_given_slots, report_given_bytes, report_bytes, report_in}
@@ -52,36 +53,34 @@ registration_text f table index bytes some k = rw (ne_eqb index 0 some, ne_eqb t
 
 -- ---- what a reference stands for
 
--- the room, the output and the place right behind it, where what a reference stands for is registered if it is to be
-abbrev pub Given : Format → (archive room out : List ℕ) → (at context table : ℕ) → Resolved → (after now : List ℕ) → ℕ → Type 0
-Given f archive room out at context table r after now next =
-    (after ≡ take (table_words f) room ++ given_slots f archive (drop (table_words f) room) context table r)
-    × ((now ≡ overwritten out at (given_bytes f archive (drop (table_words f) room) context table r))
-    × (next ≡ at + length (given_bytes f archive (drop (table_words f) room) context table r)))
+-- the room and the output behind it, where what a reference stands for is registered if it is to be
+abbrev pub Given : (archive room : List ℕ) → Output → (context table : ℕ) → Resolved → (after : List ℕ) → Output → Type 0
+Given archive room out context table r after behind =
+    (after ≡ tables_in out.format room ++ given_slots out.format archive (slots_in out.format room) context table r)
+    × Writes out (λ f. given_bytes f archive (slots_in f room) context table r) behind
 
-module _ (f : Format) (archive room out : List ℕ) (at context table : ℕ) (r : Resolved) where
+module _ (archive room : List ℕ) (out : Output) (context table : ℕ) (r : Resolved) where
   -- nothing is registered without an index
-  given_none : given_slots f archive (drop (table_words f) room) context table r ≡ drop (table_words f) room
-      → given_index f archive (drop (table_words f) room) context table r ≡ 0 → Given f archive room out at context table r room out at
+  given_none : given_slots out.format archive (slots_in out.format room) context table r ≡ slots_in out.format room
+      → given_index out.format archive (slots_in out.format room) context table r ≡ 0 → Given archive room out context table r room out
   given_none same z =
-      let index = given_index f archive (drop (table_words f) room) context table r in
-      let none : given_bytes f archive (drop (table_words f) room) context table r ≡ [] = registration_none f table index (known_bytes archive r) z in (
-        rw same (sym (take-append-drop (table_words f) room)),
-        (rw none (nothing_written out at), omega (arith, ap length none)),
-      )
+      let f = out.format in
+      let index = given_index f archive (slots_in f room) context table r in
+      let none : given_bytes f archive (slots_in f room) context table r ≡ [] = registration_none f table index (known_bytes archive r) z in
+      (rw same (sym (take-append-drop (table_words f) room)), writes_same (writes_none out) (sym none))
 
   -- nothing is registered for a bad reference
-  pub given_bad : r ≡ Bad → Given f archive room out at context table r room out at
+  pub given_bad : r ≡ Bad → Given archive room out context table r room out
   unfolding given_slots given_index
   given_bad e = given_none (rw e) (rw e)
 
   -- nor for one that is not resolved
-  pub given_unresolved : (index : ℕ) → r ≡ Unresolved index → Given f archive room out at context table r room out at
+  pub given_unresolved : (index : ℕ) → r ≡ Unresolved index → Given archive room out context table r room out
   unfolding given_slots given_index
   given_unresolved index e = given_none (rw e) (rw e)
 
   -- nor for an empty text
-  pub given_empty : (place long : ℕ) → r ≡ Known place long → long ≡ 0 → Given f archive room out at context table r room out at
+  pub given_empty : (place long : ℕ) → r ≡ Known place long → long ≡ 0 → Given archive room out context table r room out
   unfolding given_slots given_index
   given_empty place long e z = given_none (rw (e, eq-eqb long 0 z)) (rw (e, eq-eqb long 0 z))
 
@@ -117,21 +116,23 @@ module _ (f : Format) (archive slots : List ℕ) (context table : ℕ) (r : Reso
     registration_fits at size g h = rw (← index_is, ← bytes_are) (g, h)
 
 -- where it is written under its index, it is registered
-pub given_known : (f : Format) (archive room out : List ℕ) (at context table : ℕ) (r : Resolved) (place long label index : ℕ) (bytes slots after now : List ℕ)
-    (next : ℕ)
-    → Indexed f archive (drop (table_words f) room) context table r place long label index bytes
+pub given_known : (archive room : List ℕ) (out : Output) (context table : ℕ) (r : Resolved) (place long label index : ℕ) (bytes slots after : List ℕ)
+    (behind : Output)
+    → Indexed out.format archive (slots_in out.format room) context table r place long label index bytes
     → slots
-    ≡ indexed (table_words f) (drop (table_words f) room) label
-    (find_of archive (table_words f) (drop (table_words f) room) (key_of archive place label))
-    → after ≡ take (table_words f) room ++ slots → now ≡ overwritten out at (registration_bytes f table index bytes)
-    → next ≡ at + length (registration_bytes f table index bytes) → Given f archive room out at context table r after now next
-given_known f archive room out at context table r place long label index bytes slots after now next i s a w n =
-    let old = drop (table_words f) room in
-    rw (
-      slots_are f archive old context table r place long label index bytes i slots s,
-      index_is f archive old context table r place long label index bytes i,
-      bytes_are f archive old context table r place long label index bytes i,
-    ) (a, (w, n))
+    ≡ indexed (table_words out.format) (slots_in out.format room) label
+    (find_of archive (table_words out.format) (slots_in out.format room) (key_of archive place label))
+    → after ≡ tables_in out.format room ++ slots → Writes out (λ f. registration_bytes f table index bytes) behind
+    → Given archive room out context table r after behind
+given_known archive room out context table r place long label index bytes slots after behind i s a w =
+    let f = out.format in
+    let old = slots_in f room in (
+      rw (slots_are f archive old context table r place long label index bytes i slots s) a,
+      writes_same w (rw (
+        index_is f archive old context table r place long label index bytes i,
+        bytes_are f archive old context table r place long label index bytes i,
+      )),
+    )
 
 -- ---- the slot that is remembered
 
@@ -145,8 +146,12 @@ slot_words n room s =
     let second = get_or-drop n room (n + s) 0 ∙ ap (λ (i : ℕ). get_or room i 0) on in
     (ap place_in (sym first), rw (first, second))
 
-module _ (f : Format) (archive room out : List ℕ) (at context until : ℕ) (l : Lookup) (s : ℕ) (low : context ≤ 8) (can : CanLookUp l)
-    (k : SlotOf f archive (tables_in f room) (slots_in f room) context l.table until l.reference s) where
+module _ (archive room : List ℕ) (out : Output) (context until : ℕ) (l : Lookup) (s : ℕ) (low : context ≤ 8) (can : CanLookUp l)
+    (k : SlotOf out.format archive (tables_in out.format room) (slots_in out.format room) context l.table until l.reference s) where
+  -- the format of what is written
+  abbrev f : Format
+  f = out.format
+
   -- what the reference stands for
   abbrev stands_for : Resolved
   stands_for = looked_up f archive (tables_in f room) context until l
@@ -172,12 +177,13 @@ module _ (f : Format) (archive room out : List ℕ) (at context until : ℕ) (l 
 
   -- the registration of the slot's key fits where what is given fits
   pub slot_fits : GivenFits f archive (slots_in f room) context l.table stands_for
-      → at + length (given_bytes f archive (slots_in f room) context l.table stands_for) ≤ length out
-      → SlotFits f archive (slots_in f room) l.table s × (at + length (slot_given_bytes f archive (slots_in f room) l.table s) ≤ length out)
+      → out.place + length (given_bytes f archive (slots_in f room) context l.table stands_for) ≤ length out.buffer.now
+      → SlotFits f archive (slots_in f room) l.table s × Holds out (λ f. slot_given_bytes f archive (slots_in f room) l.table s)
   unfolding slot_given_bytes
   slot_fits g h =
       let x =
-      registration_fits f archive (slots_in f room) context l.table stands_for k.is.place k.is.long slot_label _ _ slot_indexed at (length out) g h in (
+      registration_fits f archive (slots_in f room) context l.table stands_for k.is.place k.is.long slot_label _ _ slot_indexed out.place
+      (length out.buffer.now) g h in (
         record {
           low = k.low;
           label = rw k.label (label_mark context l.table k.is.long low can.low can.high k.short).1;
@@ -187,163 +193,182 @@ module _ (f : Format) (archive room out : List ℕ) (at context until : ℕ) (l 
       )
 
   -- and where it is written, what the reference stands for is registered
-  pub given_slot : (after now : List ℕ) (next : ℕ) → after ≡ take (table_words f) room ++ slot_given_slots f (slots_in f room) s
-      → now ≡ overwritten out at (slot_given_bytes f archive (slots_in f room) l.table s)
-      → next ≡ at + length (slot_given_bytes f archive (slots_in f room) l.table s)
-      → Given f archive room out at context l.table stands_for after now next
+  pub given_slot : (after : List ℕ) (behind : Output) → after ≡ tables_in f room ++ slot_given_slots f (slots_in f room) s
+      → Writes out (λ f. slot_given_bytes f archive (slots_in f room) l.table s) behind → Given archive room out context l.table stands_for after behind
   unfolding slot_given_bytes slot_given_slots
-  given_slot after now next a w n =
-      given_known f archive room out at context l.table stands_for k.is.place k.is.long slot_label _ _
-      (indexed (table_words f) (slots_in f room) slot_label (Here s)) after now next slot_indexed
-      (ap (indexed (table_words f) (slots_in f room) slot_label) (sym slot_found)) a w n
+  given_slot after behind a w =
+      given_known archive room out context l.table stands_for k.is.place k.is.long slot_label _ _
+      (indexed (table_words f) (slots_in f room) slot_label (Here s)) after behind slot_indexed
+      (ap (indexed (table_words f) (slots_in f room) slot_label) (sym slot_found)) a (writes_same w refl)
 
 -- ---- references one behind the other
 
--- the room, the output and the place right behind, where what references stand for is registered
-abbrev pub Registered : Format → List ℕ → (context until : ℕ) → List Lookup → (room out : List ℕ) → ℕ → (after now : List ℕ) → ℕ → Type 0
-Registered f archive context until ls room out at after now next =
-    (after ≡ registered_room f archive room context until ls)
-    × ((now ≡ overwritten out at (registered_bytes f archive room context until ls)) × (next ≡ at + length (registered_bytes f archive room context until ls)))
+-- the room and the output behind them, where what references stand for is registered; which these are may depend on the format
+abbrev pub Registered : List ℕ → (context until : ℕ) → (Format → List Lookup) → (room : List ℕ) → Output → (after : List ℕ) → Output → Type 0
+Registered archive context until ls room out after behind =
+    (after ≡ registered_room out.format archive room context until (ls out.format))
+    × Writes out (λ f. registered_bytes f archive room context until (ls f)) behind
 
 -- one reference
-pub one_registered : (f : Format) (archive room out : List ℕ) (at context until : ℕ) (l : Lookup) (after now : List ℕ) (next : ℕ)
-    → Given f archive room out at context l.table (looked_up f archive (tables_in f room) context until l) after now next
-    → Registered f archive context until (l ∷ []) room out at after now next
-one_registered f archive room out at context until l after now next g =
-    rw (append-nil (given_bytes f archive (slots_in f room) context l.table (looked_up f archive (tables_in f room) context until l))) g
+pub one_registered : (archive room : List ℕ) (out : Output) (context until : ℕ) (l : Lookup) (after : List ℕ) (behind : Output)
+    → Given archive room out context l.table (looked_up out.format archive (tables_in out.format room) context until l) after behind
+    → Registered archive context until (λ f. l ∷ []) room out after behind
+one_registered archive room out context until l after behind g =
+    let f = out.format in
+    let bytes = given_bytes f archive (slots_in f room) context l.table (looked_up f archive (tables_in f room) context until l) in
+    (g.0, writes_same g.1 (sym (append-nil bytes)))
 
-module _ (f : Format) (archive : List ℕ) (context until : ℕ) (whole : List Lookup) (room₀ out₀ : List ℕ) (start : ℕ) where
+module _ (archive : List ℕ) (context until : ℕ) (whole : Format → List Lookup) (room₀ : List ℕ) (out₀ : Output) where
+  -- the format of what is written, and the bytes of all
+  abbrev form : Format
+  form = out₀.format
+
+  abbrev whole_bytes : List ℕ
+  whole_bytes = registered_bytes form archive room₀ context until (whole form)
+
   -- where references are registered one behind the other: with those that are left registered too, from here, all are
-  pub record Registering (left : List Lookup) (room out : List ℕ) (at : ℕ) : Type 0 where
-    pub tables : tables_in f room ≡ tables_in f room₀
+  pub record Registering (left : List Lookup) (room : List ℕ) (out : Output) : Type 0 where
+    pub tables : tables_in form room ≡ tables_in form room₀
     pub long : length room ≡ length room₀
-    pub out_long : length out ≡ length out₀
-    pub slots : lookups_given_slots f archive (tables_in f room₀) context until (slots_in f room₀) whole
-        ≡ lookups_given_slots f archive (tables_in f room) context until (slots_in f room) left
-    pub bytes : overwritten out₀ start (registered_bytes f archive room₀ context until whole) ≡ overwritten out at (registered_bytes f archive room context until left)
-    pub behind : start + length (registered_bytes f archive room₀ context until whole) ≡ at + length (registered_bytes f archive room context until left)
-    pub fits : LookupsFitIn f archive room context until left
-    pub remembers : RemembersIn f archive room until
-    pub space : at + length (registered_bytes f archive room context until left) ≤ length out
+    pub slots : lookups_given_slots form archive (tables_in form room₀) context until (slots_in form room₀) (whole form)
+        ≡ lookups_given_slots form archive (tables_in form room) context until (slots_in form room) left
+    pub writing : Writing out₀ whole_bytes out (registered_bytes form archive room context until left)
+    pub fits : LookupsFitIn form archive room context until left
+    pub remembers : RemembersIn form archive room until
+    pub space : out₀.place + length whole_bytes ≤ length out₀.buffer.now
 
   -- at the start all are left
-  pub registering-starts : LookupsFitIn f archive room₀ context until whole → start + length (registered_bytes f archive room₀ context until whole) ≤ length out₀
-      → RemembersIn f archive room₀ until → Registering whole room₀ out₀ start
+  pub registering-starts : LookupsFitIn form archive room₀ context until (whole form)
+      → out₀.place + length whole_bytes ≤ length out₀.buffer.now
+      → RemembersIn form archive room₀ until → Registering (whole form) room₀ out₀
   registering-starts fits space remembers =
-      record { tables = refl; long = refl; out_long = refl; slots = refl; bytes = refl; behind = refl; fits = fits; remembers = remembers; space = space }
+      record {
+        tables = refl;
+        long = refl;
+        slots = refl;
+        writing = writing_starts out₀ whole_bytes;
+        fits = fits;
+        remembers = remembers;
+        space = space;
+      }
 
   -- the same list of those that are left
-  pub registering_as : {left left' : List Lookup} {room out : List ℕ} {at : ℕ} → left ≡ left' → Registering left room out at → Registering left' room out at
-  registering_as {room = room} {out} {at} e g = subst (λ (ls : List Lookup). Registering ls room out at) e g
+  pub registering_as : {left left' : List Lookup} {room : List ℕ} {out : Output} → left ≡ left' → Registering left room out → Registering left' room out
+  registering_as {room = room} {out} e g = subst (λ (ls : List Lookup). Registering ls room out) e g
 
   -- once those that are left are registered, all are
-  pub registering-ends : {left : List Lookup} {room out : List ℕ} {at : ℕ} {after now : List ℕ} {next : ℕ} → Registering left room out at
-      → Registered f archive context until left room out at after now next → Registered f archive context until whole room₀ out₀ start after now next
-  registering-ends {left} {room} g r =
-      (r.0 ∙ rw (g.slots, g.tables), (r.1.0 ∙ sym g.bytes, r.1.1 ∙ sym g.behind))
+  pub registering-ends : (left : Format → List Lookup) {room : List ℕ} {out : Output} {after : List ℕ} {behind : Output}
+      → Registering (left form) room out → Registered archive context until left room out after behind
+      → Registered archive context until whole room₀ out₀ after behind
+  registering-ends left {room} {out} {after} g r =
+      let room_is : after ≡ registered_room form archive room context until (left form) = rw g.writing.written.same.format at r.0 in
+      let all = writing_goes_on r.1 (writing_as g.writing (sym (append-nil (registered_bytes form archive room context until (left form))))) in
+      (room_is ∙ rw (g.slots, g.tables), writes_same (writing_ends all) refl)
 
   -- where none is left, all are
-  pub registering_done : {room out : List ℕ} {at : ℕ} → Registering [] room out at → Registered f archive context until whole room₀ out₀ start room out at
-  registering_done {room} {out} {at} g =
-      registering-ends g (sym (take-append-drop (table_words f) room), (nothing_written out at, omega arith))
+  pub registering_done : {room : List ℕ} {out : Output} → Registering [] room out → Registered archive context until whole room₀ out₀ room out
+  registering_done {room} {out} g = registering-ends (λ f. []) g (sym (take-append-drop (table_words out.format) room), writes_none out)
 
-  module _ {l : Lookup} {more : List Lookup} {room out : List ℕ} {at : ℕ} (g : Registering (l ∷ more) room out at) where
+  module _ {left : List Lookup} {room : List ℕ} {out : Output} (can : RoomFits form archive room₀ context) (g : Registering left room out) where
+    -- the room fits as it did
+    pub still_fits : RoomFits out.format archive room context
+    still_fits =
+        rw g.writing.written.same.format
+        (record { limits = can.limits; short = can.short; wide = omega (arith, can.wide, g.long); low = can.low })
+
+    -- what is remembered is right
+    pub still_remembers : RemembersIn out.format archive room until
+    still_remembers = rw g.writing.written.same.format g.remembers
+
+    -- and there is space for those that are left
+    pub left_space : out.place + length (registered_bytes form archive room context until left) ≤ length out.buffer.now
+    left_space =
+        let bytes = registered_bytes form archive room context until left in
+        writing_fits bytes [] (writing_as g.writing (sym (append-nil bytes))) g.space
+
+  module _ {l : Lookup} {more : List Lookup} {room : List ℕ} {out : Output} (can : RoomFits form archive room₀ context)
+      (g : Registering (l ∷ more) room out) where
     -- the bytes of the next
-    abbrev next_bytes : List ℕ
-    next_bytes = given_bytes f archive (slots_in f room) context l.table (looked_up f archive (tables_in f room) context until l)
+    abbrev next_bytes : Format → List ℕ
+    next_bytes f = given_bytes f archive (slots_in f room) context l.table (looked_up f archive (tables_in f room) context until l)
 
     -- the slots after it
     abbrev next_slots : List ℕ
-    next_slots = given_slots f archive (slots_in f room) context l.table (looked_up f archive (tables_in f room) context until l)
+    next_slots = given_slots form archive (slots_in form room) context l.table (looked_up form archive (tables_in form room) context until l)
 
     -- and the bytes of the others
     abbrev others : List ℕ
-    others = lookups_given_bytes f archive (tables_in f room) context until next_slots more
+    others = lookups_given_bytes form archive (tables_in form room) context until next_slots more
 
     -- the next fits
-    pub next_fits : LookupsFitIn f archive room context until (l ∷ [])
-        × (at + length (registered_bytes f archive room context until (l ∷ [])) ≤ length out)
-    next_fits =
-        ((g.fits.0, tt), rw (append-nil next_bytes) (omega (arith, g.space, length-append next_bytes others)))
+    pub next_fits : LookupsFitIn out.format archive room context until (l ∷ [])
+    next_fits = rw g.writing.written.same.format (g.fits.0, tt)
+
+    -- and there is space
+    pub next_space : Holds out (λ f. registered_bytes f archive room context until (l ∷ []))
+    next_space =
+        rw (g.writing.written.same.format, append-nil (next_bytes form)) (writing_fits (next_bytes form) others g.writing g.space)
 
     -- once it is registered the others are left
-    pub registering_next : {after now : List ℕ} {next : ℕ} → Registered f archive context until (l ∷ []) room out at after now next
-        → RoomFits f archive room₀ context → length after ≡ length room → Registering more after now next
-    registering_next {after} {now} {next} r can same =
+    pub registering_next : {after : List ℕ} {behind : Output} → Registered archive context until (λ f. l ∷ []) room out after behind
+        → length after ≡ length room → Registering more after behind
+    registering_next {after} {behind} r same =
         let wide = can.wide in
-        let slots-low = room_wide f room can.limits (omega (arith, g.long)) in
-        let unmoved = lookups_unmoved f archive context can.low (tables_in f room) until (slots_in f room) (l ∷ []) can.short slots-low (g.fits.0, tt) in
-        let tables_are : tables_in f after ≡ tables_in f room = tables_stay (table_words f) room next_slots after (omega (arith, g.long)) r.0 in
-        let slots_are : slots_in f after ≡ next_slots = slots_stand (table_words f) room next_slots after (omega (arith, g.long)) r.0 in
-        let bytes_are : now ≡ overwritten out at next_bytes = r.1.0 ∙ rw (append-nil next_bytes) in
-        let place_is : next ≡ at + length next_bytes = r.1.1 ∙ rw (append-nil next_bytes) in
-        let sum = length-append next_bytes others in
-        let now_long : length now ≡ length out = ap length bytes_are ∙ length-overwritten out at next_bytes (omega (arith, g.space, sum)) in
+        let room_is : after ≡ registered_room form archive room context until (l ∷ []) = rw g.writing.written.same.format at r.0 in
+        let slots-low = room_wide form room can.limits (omega (arith, g.long)) in
+        let unmoved = lookups_unmoved form archive context can.low (tables_in form room) until (slots_in form room) (l ∷ []) can.short slots-low (g.fits.0, tt) in
+        let tables_are : tables_in form after ≡ tables_in form room = tables_stay (table_words form) room next_slots after (omega (arith, g.long)) room_is in
+        let slots_are : slots_in form after ≡ next_slots = slots_stand (table_words form) room next_slots after (omega (arith, g.long)) room_is in
         record {
           tables = tables_are ∙ g.tables;
           long = same ∙ g.long;
-          out_long = now_long ∙ g.out_long;
           slots = g.slots ∙ rw (tables_are, slots_are);
-          bytes = g.bytes ∙ rw (tables_are, slots_are, bytes_are, place_is) (sym (overwritten_twice out at next_bytes others (omega (arith, g.space, sum))));
-          behind = rw (tables_are, slots_are) (omega (arith, g.behind, place_is, sum));
+          writing = rw (tables_are, slots_are) (writing_goes_on {part = next_bytes} (writes_same r.1 (append-nil (next_bytes out.format))) g.writing);
           fits = rw (tables_are, slots_are) g.fits.1;
           remembers = rw (tables_are, slots_are) (unmoved_remembers unmoved g.remembers);
-          space = rw (tables_are, slots_are) (omega (arith, g.space, place_is, sum, now_long));
+          space = g.space;
         }
 
 -- ---- a record behind its registrations
 
-module _ (f : Format) (archive room out : List ℕ) (at : ℕ) (s : State) (r : Report) (next : ℕ) (after now : List ℕ) (end : ℕ) (wide : table_words f ≤ length room)
-    (space : at
-    + length
-    (report_given_bytes f archive (tables_in f room) (slots_in f room) s r next
-    ++ report_bytes f archive (tables_in f room) (report_given_slots f archive (tables_in f room) (slots_in f room) s r next) s r next)
-    ≤ length out)
-    (g : Registered f archive s.current s.place (report_lookups f archive r next) room out at after now end)
+module _ (archive room : List ℕ) (out : Output) (s : State) (r : Report) (next : ℕ) (after : List ℕ) (behind : Output)
+    (wide : table_words out.format ≤ length room)
+    (g : Registered archive s.current s.place (λ f. report_lookups f archive r next) room out after behind)
   where
-    -- the slots after the registrations, and their bytes
+    -- the tables and slots as they were, and the slots after the registrations
+    abbrev tables : List ℕ
+    tables = tables_in out.format room
+
+    abbrev old : List ℕ
+    old = slots_in out.format room
+
     abbrev slots : List ℕ
-    slots = report_given_slots f archive (tables_in f room) (slots_in f room) s r next
-
-    abbrev given : List ℕ
-    given = report_given_bytes f archive (tables_in f room) (slots_in f room) s r next
-
-    -- the record's bytes
-    abbrev body : List ℕ
-    body = report_bytes f archive (tables_in f room) slots s r next
+    slots = report_given_slots out.format archive tables old s r next
 
     -- the tables are as they were
-    kept : tables_in f after ≡ tables_in f room
-    kept = tables_stay (table_words f) room slots after wide g.0
+    kept : tables_in out.format after ≡ tables
+    kept = tables_stay (table_words out.format) room slots after wide g.0
 
     -- and the slots are those after the registrations
-    changed : slots_in f after ≡ slots
-    changed = slots_stand (table_words f) room slots after wide g.0
+    changed : slots_in out.format after ≡ slots
+    changed = slots_stand (table_words out.format) room slots after wide g.0
 
     -- it fits
-    pub record_fits : length now ≡ length out → ReportFits f archive (tables_in f room) slots s r next
-        → ReportFitsIn f archive after s r next × (end + length (report_in f archive after s r next) ≤ length now)
-    record_fits same fit = rw (kept, changed) (fit, omega (arith, length-append given body, g.1.1))
+    pub record_fits : ReportFits out.format archive tables slots s r next → ReportFitsIn behind.format archive after s r next
+    record_fits fit = rw (g.1.same.format, kept, changed) fit
 
     -- what is remembered is right for it
-    pub record_remembers : RoomFits f archive room s.current
-        → LookupsFitIn f archive room s.current s.place (report_lookups f archive r next) → RemembersIn f archive room s.place
-        → RemembersIn f archive after s.place
+    pub record_remembers : RoomFits out.format archive room s.current
+        → LookupsFitIn out.format archive room s.current s.place (report_lookups out.format archive r next) → RemembersIn out.format archive room s.place
+        → RemembersIn behind.format archive after s.place
     record_remembers can fit h =
-        let unmoved = lookups_unmoved f archive s.current can.low (tables_in f room) s.place (slots_in f room) (report_lookups f archive r next)
-        can.short (room_wide f room can.limits can.wide) fit in
-        rw (kept, changed) (unmoved_remembers unmoved h)
+        let unmoved = lookups_unmoved out.format archive s.current can.low tables s.place old (report_lookups out.format archive r next)
+        can.short (room_wide out.format room can.limits can.wide) fit in
+        rw (g.1.same.format, kept, changed) (unmoved_remembers unmoved h)
 
     -- and once it is written, both are
-    pub record_written : (then : List ℕ) (last : ℕ) → then ≡ overwritten now end (report_in f archive after s r next)
-        → last ≡ end + length (report_in f archive after s r next)
-        → (after ≡ tables_in f room ++ slots) × ((then ≡ overwritten out at (given ++ body)) × (last ≡ at + length (given ++ body)))
-    record_written then last w n =
-        let w' : then ≡ overwritten now end body = rw (kept, changed) at w in
-        let n' : last ≡ end + length body = rw (kept, changed) at n in (
-          g.0,
-          (
-            w' ∙ rw (g.1.0, g.1.1) (overwritten_twice out at given body (omega (arith, length-append given body))),
-            omega (arith, length-append given body, g.1.1),
-          ),
-        )
+    pub record_written : {last : Output} → Writes behind (λ f. report_in f archive after s r next) last
+        → Writes out
+        (λ f. report_given_bytes f archive (tables_in f room) (slots_in f room) s r next
+        ++ report_bytes f archive (tables_in f room) (report_given_slots f archive (tables_in f room) (slots_in f room) s r next) s r next) last
+    record_written w = writes_same (g.1 then w) (rw (kept, changed))

@@ -1,5 +1,6 @@
 -- What the second pass remembers stays: an index that is given changes no search and no word of the memory. And a record that is passed changes only
 -- the memory: places, labels, choices, indexes and counters stay. Assumes nothing.
+use Rattle.std.specs.Prelude.{Some}
 use Prim.Native.Nat.{ℕ, ◌+◌, ◌-◌, ◌*◌, ◌/◌, ◌%◌, ◌<◌, ◌≤◌}
 use mathlib.Core.Path.{◌≡◌, refl, sym, ap, ◌∙◌}
 use mathlib.Core.List.{List, [], ◌∷◌}
@@ -31,7 +32,7 @@ use Rattle.tables.proofs.Tables.{position_lt}
 use Rattle.effects.specs.Follow.{change_of, changed}
 use Rattle.tally.specs.declared.Slot.{Slot}
 use Rattle.tally.specs.declared.Slot.TheVariants.{Here, Free, Full}
-use Rattle.tally.specs.Models.Slots.{label_of, key_of, label_at, uses_in, uses_at, find_of, remembered_at}
+use Rattle.tally.specs.Models.Slots.{label_of, key_of, label_at, uses_in, uses_at, find_of, slot_of_word, remembered_at}
 use Rattle.tally.specs.Models.Tally.{Wide}
 use Rattle.tally.proofs.Probing.{found-low, here_key, find_alike}
 use Rattle.tally.proofs.Stays.{remembering_other}
@@ -42,7 +43,7 @@ use Rattle.passes.specs.Models.Known.{KnownFits}
 use Rattle.passes.specs.Models.Memory.{registered_slot, renewed_by, renewed, RenewFits, recalled, Recalled, Remembers}
 use Rattle.passes.proofs.Known.{reference-fits}
 use Rattle.passes.proofs.Memory.{recalled-is, remembers_still}
-use Rattle.rewriting.specs.Models.Write.{tables_in, slots_in, slot_bytes, given_slots, lookups_given_slots, content_slots, spelled_of, slot_spelled, spelled_in, spelled_bytes, SpelledAs}
+use Rattle.rewriting.specs.Models.Write.{tables_in, slots_in, slot_bytes, given_slots, lookups_given_slots, content_slots, spelled_of, slot_spelled, spelled_in, SpelledAs}
 use Rattle.rewriting.specs.declared.Spelled.{Spelled}
 use Rattle.rewriting.specs.Models.Fits.{RoomFits, RemembersIn, CanLookUp, LookupsGivenFit, ContentFits}
 use Rattle.rewriting.proofs.Spelling.{slots_wide, room_wide}
@@ -83,7 +84,8 @@ indexed_unmoved archive stretch slots label key wide mark (Here s) is =
       long = simp length-set;
       found = find_alike archive stretch slots _ wide.some
           (λ x l. let k = index_key stretch slots label s low mark wide x l in (k.0, λ taken. k.1));
-      memory = λ entry. index_other stretch slots label s low mark (2 * stretch + entry) (λ q. omega arith) (λ q. omega (arith, wide.some));
+      memory = λ entry. ap slot_of_word
+          (index_other stretch slots label s low mark (2 * stretch + entry) (λ q. omega arith) (λ q. omega (arith, wide.some)));
     }))
     (λ e. rw e (unmoved_same archive stretch slots))
 indexed_unmoved archive stretch slots label key wide mark (Free s) is = unmoved_same archive stretch slots
@@ -155,21 +157,19 @@ key-label a b x y e = cc
 key_bytes : (a b : ℕ) (x y : List ℕ) → a ∷ x ≡ b ∷ y → x ≡ y
 key_bytes a b x y e = cc
 
--- every word that is recalled for a reference, but 0, tells such a slot
-pub slot_of : (f : Format) (archive tables slots : List ℕ) (context until : ℕ) (l : Lookup) (word : ℕ) → Remembers f archive tables slots until
+-- every slot that is recalled for a reference is such a slot
+pub slot_of : (f : Format) (archive tables slots : List ℕ) (context until : ℕ) (l : Lookup) (s : ℕ) → Remembers f archive tables slots until
     → Wide (table_words f) slots → context ≤ 8 → length archive ≤ longest_archive → CanLookUp l
-    → word ≡ recalled f slots context l.table l.reference → (word ≡ 0 → ⊥)
-    → SlotOf f archive tables slots context l.table until l.reference (word - 1)
-slot_of f archive tables slots context until l word h wide low short can e some =
-    let w : recalled f slots context l.table l.reference ≡ (word - 1) + 1 = omega arith in
-    let r = recalled-is f archive tables slots context l.table until l.reference (word - 1) h low can.low can.high w in
+    → Some s ≡ recalled f slots context l.table l.reference → SlotOf f archive tables slots context l.table until l.reference s
+slot_of f archive tables slots context until l s h wide low short can e =
+    let r = recalled-is f archive tables slots context l.table until l.reference s h low can.low can.high (sym e) in
     let label = label_of context l.table r.long in
     let fits = rw r.known at (reference-fits f archive tables context l.table until l.reference can.reference short) in
-    let key = (here_key archive (table_words f) slots (key_of archive r.place label) wide.some (word - 1) r.found).1 in
+    let key = (here_key archive (table_words f) slots (key_of archive r.place label) wide.some s r.found).1 in
     let length-is = (label_mark context l.table r.long low can.low can.high fits.1).2 in
     record {
       is = r;
-      low = found-low archive (table_words f) slots (key_of archive r.place label) wide.some (Here (word - 1)) r.found;
+      low = found-low archive (table_words f) slots (key_of archive r.place label) wide.some (Here s) r.found;
       short = fits.1;
       label = key-label _ _ _ _ key;
       bytes = key_bytes _ _ _ _ key ∙ ap (part_of archive r.place) length-is;
@@ -182,26 +182,22 @@ slot_spelled_lem : {f : Format} {archive tables slots : List ℕ} {context until
 unfolding slot_spelled spelled_of index_of
 slot_spelled_lem k = rw (k.is.known, k.is.found) (refl, k.bytes)
 
--- what is spelled in one way is spelled so
-pub spelled_same : (archive : List ℕ) (p q : Spelled) → p ≡ q → SpelledAs archive p q
-spelled_same archive p q e = (ap (λ x. x.index) e, ap (spelled_bytes archive) e)
-
 -- the slot that is recalled, in a room whose slots are lent from its n-th word on
-module _ (f : Format) (archive room : List ℕ) (context until : ℕ) (l : Lookup) (n word : ℕ) (fits : RoomFits f archive room context) (can : CanLookUp l)
+module _ (f : Format) (archive room : List ℕ) (context until : ℕ) (l : Lookup) (n s : ℕ) (fits : RoomFits f archive room context) (can : CanLookUp l)
     (remembers : RemembersIn f archive room until) (words : n ≡ table_words f)
-    (told : word ≡ recalled f (take (length room - n) (drop n room)) context l.table l.reference) (some : word ≡ 0 → ⊥) where
+    (told : Some s ≡ recalled f (take (length room - n) (drop n room)) context l.table l.reference) where
   -- it has the label and the bytes of what the reference stands for
-  slot_in : SlotOf f archive (tables_in f room) (slots_in f room) context l.table until l.reference (word - 1)
+  slot_in : SlotOf f archive (tables_in f room) (slots_in f room) context l.table until l.reference s
   slot_in =
-      slot_of f archive (tables_in f room) (slots_in f room) context until l word remembers (room_wide f room fits.limits fits.wide) fits.low
-      fits.short can (rw (part_from n room, words) at told) some
+      slot_of f archive (tables_in f room) (slots_in f room) context until l s remembers (room_wide f room fits.limits fits.wide) fits.low
+      fits.short can (rw (part_from n room, words) at told)
 
   -- it can be spelled by
-  pub slot_can : Wide n (take (length room - n) (drop n room)) × (word - 1 < n - 18)
+  pub slot_can : Wide n (take (length room - n) (drop n room)) × (s < n - 18)
   slot_can = (slots_wide f n room fits.limits words fits.wide, omega (arith, slot_in.low, words))
 
   -- and what is spelled by it is spelled as what the reference stands for
-  pub slot_spells : (p : Spelled) → p ≡ slot_spelled n (take (length room - n) (drop n room)) (word - 1)
+  pub slot_spells : (p : Spelled) → p ≡ slot_spelled n (take (length room - n) (drop n room)) s
       → SpelledAs archive p (spelled_in f archive room context until l)
   slot_spells p e = let is = rw (part_from n room, words) at e in rw is (slot_spelled_lem slot_in)
 

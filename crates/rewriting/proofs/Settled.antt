@@ -1,5 +1,6 @@
 -- Where no key waits for its index, a record has no registrations and leaves the slots as they are; what follows for the room. Assumes nothing.
-use Prim.Native.Nat.{ℕ, ◌+◌, ◌-◌, ◌*◌, ◌<◌, ◌≤◌}
+use Rattle.std.specs.Prelude.{Option, MatchOption}
+use Prim.Native.Nat.{ℕ, ◌-◌, ◌*◌, ◌<◌, ◌≤◌}
 use mathlib.Core.Path.{◌≡◌, refl, sym}
 use mathlib.Core.List.{List, [], ◌∷◌}
 use mathlib.Core.Logic.{◌⊎◌, inl, inr}
@@ -10,7 +11,6 @@ use Rattle.tally.specs.Models.Tally.{Wide}
 use Rattle.tally.specs.Models.Slots.{label_of, key_of}
 use Rattle.tables.specs.Models.Entries.{FormatFits}
 use Rattle.indexing.specs.Models.Indexes.{Settled, Waiting}
-use Rattle.words.specs.Stream.{overwritten}
 use Rattle.words.proofs.Tests.{on-pick}
 use Rattle.indexing.proofs.Settled.{settled-index, settled_table}
 use Rattle.format.specs.declared.Format.{Format}
@@ -24,12 +24,13 @@ use Rattle.contexts.specs.declared.State.{State}
 use Rattle.tables.specs.declared.Resolved.{Resolved}
 use Rattle.tables.specs.declared.Resolved.TheVariants.{Bad, Known, Unresolved}
 use Rattle.tables.specs.Table.{table_words, looked_up}
-use Rattle.encoding.proofs.Parts.{nothing_written}
+use Rattle.encoding.specs.declared.Output.{Output}
+use Rattle.encoding.proofs.Writing.{writes_none, writes_same}
 use Rattle.passes.proofs.Rooms.{slots_stand}
-use Rattle.rewriting.specs.Models.Write.{tables_in, slots_in, given_index, given_slots, known_bytes, given_bytes, lookups_given_slots, lookups_given_bytes, registered_room, registered_bytes, content_slots, content_room}
+use Rattle.rewriting.specs.Models.Write.{tables_in, slots_in, given_index, given_slots, known_bytes, given_bytes, lookups_given_slots, lookups_given_bytes, content_slots, content_room}
 use Rattle.rewriting.proofs.Others.{Other, report_or}
 use Rattle.rewriting.proofs.Spelling.{slots_wide, room_wide}
-use Rattle.rewriting.proofs.Registering.{registration_none}
+use Rattle.rewriting.proofs.Registering.{registration_none, Registered}
 
 module _ (f : Format) (archive slots : List ℕ) (wide : Wide (table_words f) slots) (settled : Settled (table_words f) slots) where
   -- what a reference stands for gets no index
@@ -79,17 +80,16 @@ module _ (f : Format) (archive slots : List ℕ) (wide : Wide (table_words f) sl
 -- ---- in a room
 
 -- where none waits, references are registered where nothing is done
-pub settled_registered : (f : Format) (archive room out : List ℕ) (at context until : ℕ) (ls : List Lookup) → FormatFits f
-    → 4 * table_words f ≤ length room → Settled (table_words f) (slots_in f room)
-    → (room ≡ registered_room f archive room context until ls)
-    × ((out ≡ overwritten out at (registered_bytes f archive room context until ls)) × (at ≡ at + length (registered_bytes f archive room context until ls)))
-settled_registered f archive room out at context until ls fit long settled =
-    let wide = room_wide f room fit long in
-    rw (
-      settled_lookups_slots f archive (slots_in f room) wide settled (tables_in f room) context until ls,
-      settled_lookups_bytes f archive (slots_in f room) wide settled (tables_in f room) context until ls,
+pub settled_registered : (archive room : List ℕ) (out : Output) (context until : ℕ) (ls : Format → List Lookup) → FormatFits out.format
+    → 4 * table_words out.format ≤ length room → Settled (table_words out.format) (slots_in out.format room)
+    → Registered archive context until ls room out room out
+settled_registered archive room out context until ls fit long settled =
+    let f = out.format in
+    let wide = room_wide f room fit long in (
+      rw (settled_lookups_slots f archive (slots_in f room) wide settled (tables_in f room) context until (ls f))
+          (sym (take-append-drop (table_words f) room)),
+      writes_same (writes_none out) (sym (settled_lookups_bytes f archive (slots_in f room) wide settled (tables_in f room) context until (ls f))),
     )
-    (sym (take-append-drop (table_words f) room), (nothing_written out at, omega arith))
 
 -- where none waits, none waits behind a record
 pub settled-behind : (f : Format) (archive room after : List ℕ) (s : State) (c : Content) (next : ℕ) → FormatFits f → 4 * table_words f ≤ length room
@@ -102,14 +102,13 @@ settled-behind f archive room after s c next fit long e settled =
     rw (stand, same) settled
 
 -- what is asked of a room to find a slot whose key waits
-pub can_wait : (f : Format) (words : ℕ) (room : List ℕ) (slot : ℕ) → FormatFits f → words ≡ table_words f → 4 * table_words f ≤ length room
-    → (slot < words → slot < words - 18) → (words ≤ slot → Settled (table_words f) (drop (table_words f) room))
+pub can_wait : (f : Format) (words : ℕ) (room : List ℕ) (slot : Option ℕ) → FormatFits f → words ≡ table_words f → 4 * table_words f ≤ length room
+    → MatchOption slot (Settled (table_words f) (drop (table_words f) room)) (λ s. s < table_words f - 18)
     → Wide words (take (length room - words) (drop words room))
-    × (slot < words → slot < words - 18)
-    × (words ≤ slot → Settled words (take (length room - words) (drop words room)))
-can_wait f words room slot fit same long low settled = (slots_wide f words room fit same long, low, λ high. rw (part_from words room, same) (settled high))
+    × MatchOption slot (Settled words (take (length room - words) (drop words room))) (λ s. s < words - 18)
+can_wait f words room slot fit same long asked = (slots_wide f words room fit same long, rw (part_from words room, same) asked)
 
 -- the slot that is found, in the room
-pub waiting_in : (f : Format) (words : ℕ) (room : List ℕ) (slot : ℕ) → words ≡ table_words f
+pub waiting_in : (f : Format) (words : ℕ) (room : List ℕ) (slot : Option ℕ) → words ≡ table_words f
     → Waiting words (take (length room - words) (drop words room)) slot → Waiting (table_words f) (drop (table_words f) room) slot
 waiting_in f words room slot same w = rw (part_from words room, same) at w

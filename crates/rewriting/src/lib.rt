@@ -7,8 +7,8 @@ ghost use Rattle.std.specs.Prelude.{◌≡◌, [], ◌∷◌, ◌++◌, false, �
 ghost use Rattle.passes.specs.Models.Item.{plain_item};
 ghost use Rattle.indexing.specs.Models.Indexes.{Settled};
 ghost use Rattle.encoding.specs.Encoded.{words_bytes, part_bytes, parts_bytes};
+ghost use Rattle.encoding.specs.Models.Output.{Holds, Writes, Heads};
 ghost use Rattle.encoding.specs.Models.Part.{referent_reference};
-ghost use Rattle.words.specs.Stream.{overwritten};
 ghost use Rattle.format.specs.Limits.{longest_archive};
 ghost use Rattle.arguments.specs.Argument.{arguments_read};
 ghost use Rattle.records.specs.Record.{record_at};
@@ -23,11 +23,12 @@ ghost use Rattle.rewriting.specs.Models.Write.{tables_in, slots_in, registration
 ghost use Rattle.rewriting.specs.Models.Write.{spelled_part, spelled_bytes, argument_in, arguments_in, spelled_pieces, spelled_header, report_in, plain_bytes, content_in, content_room};
 ghost use Rattle.rewriting.specs.Models.Fits.{RoomFits, RemembersIn, RemembersFor, RegistrationFits, SlotFits, LookupsFitIn, CanLookUp, SpelledThread, ArgumentFitsIn, ArgumentsFitIn, ReportAt, SpelledHeaderFits, ReportFitsIn, PlainFits, ContentFitsIn};
 
-use arguments::{Argued, Argument, Texts, Value};
+use arguments::{Argument, Value};
 use contexts::State;
+use encoding::Output;
 use format::{Format, Reference};
 use records::{Content, Lookup, Report};
-use tables::Resolved;
+use tables::{Registrations, Resolved};
 
 // A text or a thread as it is written: by its index, or inline, where that is 0, from its place and length in the archive.
 #[derive(Clone, Copy)]
@@ -38,250 +39,193 @@ pub struct Spelled {
 }
 
 // The registration of a key under an index; none where that is 0.
-fn put_registration(
-    f: Format,
-    out: &mut [u8],
-    at: usize,
-    table: u64,
-    index: usize,
-    bytes: &[u8],
-) -> usize
+fn put_registration(out: &mut Output, table: u64, index: usize, bytes: &[u8])
     requires registration_fits { RegistrationFits table index bytes.now }
-    requires bytes_in_bounds { at + length (registration_bytes f table index bytes.now) ≤ length out.old }
-    ensures out_after { out.new ≡ overwritten out.old at (registration_bytes f table index bytes.now) }
-    ensures value { result ≡ at + length (registration_bytes f table index bytes.now) }
+    requires bytes_in_bounds { Holds out.old (λ f. registration_bytes f table index bytes.now) }
+    ensures { Writes out.old (λ f. registration_bytes f table index bytes.now) out.new }
 {
-    let order = f.order;
     if index == 0 {
-        return at;
+        return;
     }
     if table == 3 {
-        return encoding::put_thread_record(
-            f,
-            out,
-            at,
+        let order = out.format.order;
+        return out.put_thread_record(
             index,
             words::word(order, bytes, 0),
             words::word(order, bytes, 8),
         );
     }
-    encoding::put_string_record(f, out, at, index, bytes)
+    out.put_string_record(index, bytes);
 }
 
-// The key of a slot is registered at the place `at`, where it is to be and is not yet.
-fn register_slot(
-    f: Format,
-    archive: &[u8],
-    room: &mut [u32],
-    out: &mut [u8],
-    at: usize,
-    table: u64,
-    s: usize,
-) -> usize
-    requires format_fits { FormatFits f × (4 * table_words f ≤ length room.old) × SlotFits f archive.now (slots_in f room.old) table s }
-    requires s_in_bounds { at + length (slot_given_bytes f archive.now (slots_in f room.old) table s) ≤ length out.old }
-    ensures room_after { room.new ≡ tables_in f room.old ++ slot_given_slots f (slots_in f room.old) s }
-    ensures out_after { out.new ≡ overwritten out.old at (slot_given_bytes f archive.now (slots_in f room.old) table s) }
-    ensures value { result ≡ at + length (slot_given_bytes f archive.now (slots_in f room.old) table s) }
+// The key of a slot is registered, where it is to be and is not yet.
+fn register_slot(archive: &[u8], room: &mut [u32], out: &mut Output, table: u64, s: usize)
+    requires format_fits { FormatFits out.old.format × (4 * table_words out.old.format ≤ length room.old) × SlotFits out.old.format archive.now (slots_in out.old.format room.old) table s }
+    requires s_in_bounds { Holds out.old (λ f. slot_given_bytes f archive.now (slots_in f room.old) table s) }
+    ensures room_after { room.new ≡ tables_in out.old.format room.old ++ slot_given_slots out.old.format (slots_in out.old.format room.old) s }
+    ensures out_after { Writes out.old (λ f. slot_given_bytes f archive.now (slots_in f room.old) table s) out.new }
 {
-    let words = tables::table_words(f);
+    let words = tables::table_words(out.format);
     let first = room[words + s];
     let second = room[2 * words + s];
     let label = tally::label_in(first, second);
     let index = indexing::give_index_at(&mut room[words..], words, s, label);
-    put_registration(
-        f,
-        out,
-        at,
-        table,
-        index,
-        reader::text(archive, tally::place_in(first), label % 65536),
-    )
+    let bytes = reader::text(archive, tally::place_in(first), label % 65536);
+    put_registration(out, table, index, bytes);
 }
 
-// What a reference stands for is registered at the place `at`, where it is to be and is not yet.
+// What a reference stands for is registered, where it is to be and is not yet.
 fn register_resolved(
-    f: Format,
     archive: &[u8],
     room: &mut [u32],
-    out: &mut [u8],
-    at: usize,
+    out: &mut Output,
     context: usize,
     until: usize,
     lookup: Lookup,
-) -> usize
-    requires room_fits { RoomFits f archive.now room.old context × LookupsFitIn f archive.now room.old context until (lookup ∷ []) }
-    requires lookup_in_bounds { at + length (registered_bytes f archive.now room.old context until (lookup ∷ [])) ≤ length out.old }
-    ensures room_after { room.new ≡ registered_room f archive.now room.old context until (lookup ∷ []) }
-    ensures out_after { out.new ≡ overwritten out.old at (registered_bytes f archive.now room.old context until (lookup ∷ [])) }
-    ensures value { result ≡ at + length (registered_bytes f archive.now room.old context until (lookup ∷ [])) }
+)
+    requires room_fits { RoomFits out.old.format archive.now room.old context × LookupsFitIn out.old.format archive.now room.old context until (lookup ∷ []) }
+    requires lookup_in_bounds { Holds out.old (λ f. registered_bytes f archive.now room.old context until (lookup ∷ [])) }
+    ensures room_after { room.new ≡ registered_room out.old.format archive.now room.old context until (lookup ∷ []) }
+    ensures out_after { Writes out.old (λ f. registered_bytes f archive.now room.old context until (lookup ∷ [])) out.new }
 {
+    let f = out.format;
     let words = tables::table_words(f);
     let table = lookup.table;
     let reference = lookup.reference;
-    let resolved = tables::resolve(f, archive, &room[..words], context, table, reference, until);
-    match resolved {
-        Resolved::Bad => at,
-        Resolved::Unresolved { index: _ } => at,
+    let registrations = Registrations {
+        format: f,
+        archive,
+        words: &room[..words],
+        context,
+        until,
+    };
+    match registrations.resolve(table, reference) {
+        Resolved::Bad => {}
+        Resolved::Unresolved { index: _ } => {}
         Resolved::Known { place, length } => {
             if length == 0 {
-                return at;
+                return;
             }
             let label = tally::label_of(context, table, length);
             let index = indexing::give_index(archive, &mut room[words..], words, place, label);
-            put_registration(
-                f,
-                out,
-                at,
-                table,
-                index,
-                reader::text(archive, place, length),
-            )
+            put_registration(out, table, index, reader::text(archive, place, length));
         }
     }
 }
 
 // The same, by the slot that is remembered for the reference, where there is one.
 fn register_lookup(
-    f: Format,
     archive: &[u8],
     room: &mut [u32],
-    out: &mut [u8],
-    at: usize,
+    out: &mut Output,
     context: usize,
     until: usize,
     lookup: Lookup,
-) -> usize
-    requires room_fits { RoomFits f archive.now room.old context × LookupsFitIn f archive.now room.old context until (lookup ∷ []) × RemembersIn f archive.now room.old until }
-    requires lookup_in_bounds { at + length (registered_bytes f archive.now room.old context until (lookup ∷ [])) ≤ length out.old }
-    ensures room_after { room.new ≡ registered_room f archive.now room.old context until (lookup ∷ []) }
-    ensures out_after { out.new ≡ overwritten out.old at (registered_bytes f archive.now room.old context until (lookup ∷ [])) }
-    ensures value { result ≡ at + length (registered_bytes f archive.now room.old context until (lookup ∷ [])) }
+)
+    requires room_fits { RoomFits out.old.format archive.now room.old context × LookupsFitIn out.old.format archive.now room.old context until (lookup ∷ []) × RemembersIn out.old.format archive.now room.old until }
+    requires lookup_in_bounds { Holds out.old (λ f. registered_bytes f archive.now room.old context until (lookup ∷ [])) }
+    ensures room_after { room.new ≡ registered_room out.old.format archive.now room.old context until (lookup ∷ []) }
+    ensures out_after { Writes out.old (λ f. registered_bytes f archive.now room.old context until (lookup ∷ [])) out.new }
 {
-    let words = tables::table_words(f);
+    let words = tables::table_words(out.format);
     let table = lookup.table;
     let reference = lookup.reference;
-    let known = passes::recall(f, &room[words..], context, table, reference);
-    if known == 0 {
-        return register_resolved(f, archive, room, out, at, context, until, lookup);
+    if let Some(slot) = passes::recall(out.format, &room[words..], context, table, reference) {
+        return register_slot(archive, room, out, table, slot);
     }
-    register_slot(f, archive, room, out, at, table, known - 1)
+    register_resolved(archive, room, out, context, until, lookup);
 }
 
 // The registrations that so many arguments want.
 fn register_arguments(
-    f: Format,
     archive: &[u8],
     room: &mut [u32],
-    out: &mut [u8],
-    start: usize,
+    out: &mut Output,
     context: usize,
     until: usize,
     part: &[u8],
     place: usize,
     count: usize,
-) -> usize
-    requires room_fits { RoomFits f archive.now room.old context × LookupsFitIn f archive.now room.old context until (argument_lookups (arguments_read f count part.now place)) × RemembersIn f archive.now room.old until }
-    requires part_bound { (place + length part.now ≤ longest_archive) × (start + length (registered_bytes f archive.now room.old context until (argument_lookups (arguments_read f count part.now place))) ≤ length out.old) }
-    ensures room_after { room.new ≡ registered_room f archive.now room.old context until (argument_lookups (arguments_read f count part.now place)) }
-    ensures out_after { out.new ≡ overwritten out.old start (registered_bytes f archive.now room.old context until (argument_lookups (arguments_read f count part.now place))) }
-    ensures value { result ≡ start + length (registered_bytes f archive.now room.old context until (argument_lookups (arguments_read f count part.now place))) }
+)
+    requires room_fits { RoomFits out.old.format archive.now room.old context × LookupsFitIn out.old.format archive.now room.old context until (argument_lookups (arguments_read out.old.format count part.now place)) × RemembersIn out.old.format archive.now room.old until }
+    requires part_bound { (place + length part.now ≤ longest_archive) × Holds out.old (λ f. registered_bytes f archive.now room.old context until (argument_lookups (arguments_read f count part.now place))) }
+    ensures room_after { room.new ≡ registered_room out.old.format archive.now room.old context until (argument_lookups (arguments_read out.old.format count part.now place)) }
+    ensures out_after { Writes out.old (λ f. registered_bytes f archive.now room.old context until (argument_lookups (arguments_read f count part.now place))) out.new }
 {
     let mut rest = part;
     let mut from = place;
-    let mut left = count;
-    let mut at = start;
-    while 0 < left {
-        let texts = arguments::texts_of(f, rest, from);
-        match texts {
-            Texts::Refused(_) => {
-                return at;
-            }
-            Texts::Texts { name, value, size } => {
-                let named = Lookup {
-                    table: 2,
-                    reference: name,
-                };
-                let held = Lookup {
-                    table: 2,
-                    reference: value,
-                };
-                at = register_lookup(f, archive, room, out, at, context, until, named);
-                at = register_lookup(f, archive, room, out, at, context, until, held);
-                rest = &rest[size..];
-                from += size;
-                left -= 1;
-            }
-        }
+    for _ in 0..count {
+        let Ok(texts) = arguments::texts_of(out.format, rest, from) else {
+            return;
+        };
+        let named = Lookup {
+            table: 2,
+            reference: texts.name,
+        };
+        let held = Lookup {
+            table: 2,
+            reference: texts.value,
+        };
+        register_lookup(archive, room, out, context, until, named);
+        register_lookup(archive, room, out, context, until, held);
+        rest = &rest[texts.size..];
+        from += texts.size;
     }
-    at
 }
 
 // The registrations that a record which refers to texts and threads wants.
 fn register_report(
-    f: Format,
     archive: &[u8],
     room: &mut [u32],
-    out: &mut [u8],
-    at: usize,
+    out: &mut Output,
     s: State,
     report: Report,
     next: usize,
-) -> usize
-    requires room_fits { RoomFits f archive.now room.old s.current × ReportAt f archive.now s report next × RemembersIn f archive.now room.old s.place }
-    requires lookups_fit_in { LookupsFitIn f archive.now room.old s.current s.place (report_lookups f archive.now report next) }
-    requires next_in_bounds { at + length (registered_bytes f archive.now room.old s.current s.place (report_lookups f archive.now report next)) ≤ length out.old }
-    ensures room_after { room.new ≡ registered_room f archive.now room.old s.current s.place (report_lookups f archive.now report next) }
-    ensures out_after { out.new ≡ overwritten out.old at (registered_bytes f archive.now room.old s.current s.place (report_lookups f archive.now report next)) }
-    ensures value { result ≡ at + length (registered_bytes f archive.now room.old s.current s.place (report_lookups f archive.now report next)) }
+)
+    requires room_fits { RoomFits out.old.format archive.now room.old s.current × ReportAt out.old.format archive.now s report next × RemembersIn out.old.format archive.now room.old s.place }
+    requires lookups_fit_in { LookupsFitIn out.old.format archive.now room.old s.current s.place (report_lookups out.old.format archive.now report next) }
+    requires next_in_bounds { Holds out.old (λ f. registered_bytes f archive.now room.old s.current s.place (report_lookups f archive.now report next)) }
+    ensures room_after { room.new ≡ registered_room out.old.format archive.now room.old s.current s.place (report_lookups out.old.format archive.now report next) }
+    ensures out_after { Writes out.old (λ f. registered_bytes f archive.now room.old s.current s.place (report_lookups f archive.now report next)) out.new }
 {
     let until = s.place;
     let context = s.current;
     let start = report.arguments;
-    let one = report.first;
-    let two = report.second;
-    let three = report.third;
-    let first = register_lookup(f, archive, room, out, at, context, until, one);
-    let second = register_lookup(f, archive, room, out, first, context, until, two);
-    let third = register_lookup(f, archive, room, out, second, context, until, three);
+    register_lookup(archive, room, out, context, until, report.first);
+    register_lookup(archive, room, out, context, until, report.second);
+    register_lookup(archive, room, out, context, until, report.third);
     register_arguments(
-        f,
         archive,
         room,
         out,
-        third,
         context,
         until,
         &archive[start..next],
         start,
         report.count,
-    )
+    );
 }
 
 // The registrations that such a record wants; it is not walked where no key waits for its index.
 fn register_waiting(
-    f: Format,
     archive: &[u8],
     room: &mut [u32],
-    out: &mut [u8],
-    at: usize,
+    out: &mut Output,
     s: State,
     report: Report,
     next: usize,
     waits: bool,
-) -> usize
-    requires room_fits { RoomFits f archive.now room.old s.current × ReportAt f archive.now s report next × RemembersIn f archive.now room.old s.place }
-    requires lookups_fit_in { LookupsFitIn f archive.now room.old s.current s.place (report_lookups f archive.now report next) }
-    requires next_in_bounds { at + length (registered_bytes f archive.now room.old s.current s.place (report_lookups f archive.now report next)) ≤ length out.old }
-    requires settled { waits ≡ false → Settled (table_words f) (slots_in f room.old) }
-    ensures room_after { room.new ≡ registered_room f archive.now room.old s.current s.place (report_lookups f archive.now report next) }
-    ensures out_after { out.new ≡ overwritten out.old at (registered_bytes f archive.now room.old s.current s.place (report_lookups f archive.now report next)) }
-    ensures value { result ≡ at + length (registered_bytes f archive.now room.old s.current s.place (report_lookups f archive.now report next)) }
+)
+    requires room_fits { RoomFits out.old.format archive.now room.old s.current × ReportAt out.old.format archive.now s report next × RemembersIn out.old.format archive.now room.old s.place }
+    requires lookups_fit_in { LookupsFitIn out.old.format archive.now room.old s.current s.place (report_lookups out.old.format archive.now report next) }
+    requires next_in_bounds { Holds out.old (λ f. registered_bytes f archive.now room.old s.current s.place (report_lookups f archive.now report next)) }
+    requires settled { waits ≡ false → Settled (table_words out.old.format) (slots_in out.old.format room.old) }
+    ensures room_after { room.new ≡ registered_room out.old.format archive.now room.old s.current s.place (report_lookups out.old.format archive.now report next) }
+    ensures out_after { Writes out.old (λ f. registered_bytes f archive.now room.old s.current s.place (report_lookups f archive.now report next)) out.new }
 {
     if waits {
-        return register_report(f, archive, room, out, at, s, report, next);
+        register_report(archive, room, out, s, report, next);
     }
-    at
 }
 
 // How the key of a slot is written.
@@ -314,8 +258,14 @@ fn spell_resolved(
     let words = tables::table_words(f);
     let table = lookup.table;
     let reference = lookup.reference;
-    let resolved = tables::resolve(f, archive, &room[..words], context, table, reference, until);
-    match resolved {
+    let registrations = Registrations {
+        format: f,
+        archive,
+        words: &room[..words],
+        context,
+        until,
+    };
+    match registrations.resolve(table, reference) {
         Resolved::Bad => Spelled {
             index: 0,
             place: 0,
@@ -352,11 +302,10 @@ fn spell(
 {
     let words = tables::table_words(f);
     let reference = lookup.reference;
-    let known = passes::recall(f, &room[words..], context, lookup.table, reference);
-    if known == 0 {
-        return spell_resolved(f, archive, room, context, until, lookup);
+    if let Some(slot) = passes::recall(f, &room[words..], context, lookup.table, reference) {
+        return spell_slot(&room[words..], words, slot);
     }
-    spell_slot(&room[words..], words, known - 1)
+    spell_resolved(f, archive, room, context, until, lookup)
 }
 
 // The same for a text: arguments refer to texts alone. The slow way has two callers, so that it stays a function, and the quick way is small enough
@@ -373,32 +322,23 @@ fn spell_text(
     ensures { SpelledAs archive.now result (spelled_in f archive.now room.now context until (text_lookup reference)) }
 {
     let words = tables::table_words(f);
-    let known = passes::recall(f, &room[words..], context, 2, reference);
-    if known == 0 {
-        let lookup = Lookup {
-            table: 2,
-            reference,
-        };
-        return spell_resolved(f, archive, room, context, until, lookup);
+    if let Some(slot) = passes::recall(f, &room[words..], context, 2, reference) {
+        return spell_slot(&room[words..], words, slot);
     }
-    spell_slot(&room[words..], words, known - 1)
+    let lookup = Lookup {
+        table: 2,
+        reference,
+    };
+    spell_resolved(f, archive, room, context, until, lookup)
 }
 
 // A text or a thread that is spelled so, in a body.
-fn put_spelled(
-    f: Format,
-    archive: &[u8],
-    out: &mut [u8],
-    at: usize,
-    table: u64,
-    spelled: Spelled,
-) -> usize
-    requires { SpelledThread table archive.now spelled × (at + length (part_bytes f (spelled_part f archive.now table spelled)) ≤ length out.old) }
-    ensures out_after { out.new ≡ overwritten out.old at (part_bytes f (spelled_part f archive.now table spelled)) }
-    ensures value { result ≡ at + length (part_bytes f (spelled_part f archive.now table spelled)) }
+fn put_spelled(archive: &[u8], out: &mut Output, table: u64, spelled: Spelled)
+    requires { SpelledThread table archive.now spelled × Holds out.old (λ f. part_bytes f (spelled_part f archive.now table spelled)) }
+    ensures { Writes out.old (λ f. part_bytes f (spelled_part f archive.now table spelled)) out.new }
 {
     let bytes = reader::text(archive, spelled.place, spelled.long);
-    encoding::put_referent(f, out, at, table, spelled.index, bytes)
+    out.put_referent(table, spelled.index, bytes);
 }
 
 // Its reference.
@@ -411,107 +351,68 @@ fn spelled_reference(archive: &[u8], table: u64, spelled: Spelled) -> u64
 
 // An argument.
 fn put_argument(
-    f: Format,
     archive: &[u8],
     room: &[u32],
-    out: &mut [u8],
-    at: usize,
+    out: &mut Output,
     context: usize,
     until: usize,
     argument: Argument,
-) -> usize
-    requires room_fits { RoomFits f archive.now room.now context × ArgumentFitsIn f archive.now room.now context until argument × RemembersIn f archive.now room.now until }
-    requires argument_in_bounds { at + length (argument_in f archive.now room.now context until argument) ≤ length out.old }
-    ensures out_after { out.new ≡ overwritten out.old at (argument_in f archive.now room.now context until argument) }
-    ensures value { result ≡ at + length (argument_in f archive.now room.now context until argument) }
+)
+    requires room_fits { RoomFits out.old.format archive.now room.now context × ArgumentFitsIn out.old.format archive.now room.now context until argument × RemembersIn out.old.format archive.now room.now until }
+    requires argument_in_bounds { Holds out.old (λ f. argument_in f archive.now room.now context until argument) }
+    ensures { Writes out.old (λ f. argument_in f archive.now room.now context until argument) out.new }
 {
+    let f = out.format;
     let reference = argument.name;
     let value = argument.value;
     let named = spell_text(f, archive, room, context, until, reference);
+    let index = named.index;
     let bytes = reader::text(archive, named.place, named.long);
     match value {
-        Value::Scalar(scalar) => argument_encoding::put_scalar_argument(
-            f,
-            out,
-            at,
-            scalar,
-            named.index,
-            bytes,
-        ),
+        Value::Scalar(scalar) => argument_encoding::put_scalar_argument(out, scalar, index, bytes),
         Value::Text(inside) => {
             let held = spell_text(f, archive, room, context, until, inside);
             let content = reader::text(archive, held.place, held.long);
-            argument_encoding::put_text_argument(
-                f,
-                out,
-                at,
-                named.index,
-                bytes,
-                held.index,
-                content,
-            )
+            argument_encoding::put_text_argument(out, index, bytes, held.index, content);
         }
     }
 }
 
 // So many arguments.
 fn put_arguments(
-    f: Format,
     archive: &[u8],
     room: &[u32],
-    out: &mut [u8],
-    start: usize,
+    out: &mut Output,
     context: usize,
     until: usize,
     part: &[u8],
     place: usize,
     count: usize,
-) -> usize
-    requires room_fits { RoomFits f archive.now room.now context × ArgumentsFitIn f archive.now room.now context until (arguments_read f count part.now place) × RemembersIn f archive.now room.now until }
-    requires part_bound { (place + length part.now ≤ longest_archive) × (start + length (arguments_in f archive.now room.now context until (arguments_read f count part.now place)) ≤ length out.old) }
-    ensures out_after { out.new ≡ overwritten out.old start (arguments_in f archive.now room.now context until (arguments_read f count part.now place)) }
-    ensures value { result ≡ start + length (arguments_in f archive.now room.now context until (arguments_read f count part.now place)) }
+)
+    requires room_fits { RoomFits out.old.format archive.now room.now context × ArgumentsFitIn out.old.format archive.now room.now context until (arguments_read out.old.format count part.now place) × RemembersIn out.old.format archive.now room.now until }
+    requires part_bound { (place + length part.now ≤ longest_archive) × Holds out.old (λ f. arguments_in f archive.now room.now context until (arguments_read f count part.now place)) }
+    ensures { Writes out.old (λ f. arguments_in f archive.now room.now context until (arguments_read f count part.now place)) out.new }
 {
     let mut rest = part;
     let mut from = place;
-    let mut left = count;
-    let mut at = start;
-    while 0 < left {
-        let argued = arguments::argument_of(f, rest, from);
-        match argued {
-            Argued::Refused(_) => {
-                return at;
-            }
-            Argued::Argument { argument, size } => {
-                at = put_argument(f, archive, room, out, at, context, until, argument);
-                rest = &rest[size..];
-                from += size;
-                left -= 1;
-            }
-        }
+    for _ in 0..count {
+        let Ok(argued) = arguments::argument_of(out.format, rest, from) else {
+            return;
+        };
+        put_argument(archive, room, out, context, until, argued.argument);
+        rest = &rest[argued.size..];
+        from += argued.size;
     }
-    at
 }
 
 // The last word of a record, where its kind has one.
-fn put_last(
-    f: Format,
-    archive: &[u8],
-    out: &mut [u8],
-    at: usize,
-    place: usize,
-    report: Report,
-) -> usize
-    requires { ((record_at f archive.now place).content ≡ Content.Report report) × (at + length (words_bytes f (last_words (own_layout report.own).behind report.last)) ≤ length out.old) }
-    ensures out_after { out.new ≡ overwritten out.old at (words_bytes f (last_words (own_layout report.own).behind report.last)) }
-    ensures value { result ≡ at + length (words_bytes f (last_words (own_layout report.own).behind report.last)) }
+fn put_last(archive: &[u8], out: &mut Output, place: usize, report: Report)
+    requires { ((record_at out.old.format archive.now place).content ≡ Content.Report report) × Holds out.old (λ f. words_bytes f (last_words (own_layout report.own).behind report.last)) }
+    ensures { Writes out.old (λ f. words_bytes f (last_words (own_layout report.own).behind report.last)) out.new }
 {
-    let order = f.order;
-    if records::own_behind(f, archive, place, report) == 0 {
-        return at;
+    if records::own_behind(out.format, archive, place, report) != 0 {
+        out.put_word(report.last);
     }
-    words::put_word(order, out, at, report.last);
-    at + 8
 }
 
 // The bytes of a stream that is no reference.
@@ -526,174 +427,123 @@ fn stream_bytes(archive: &[u8], stream: Reference) -> &[u8]
 
 // The pieces of a record before its arguments: its own words, its three references and its stream.
 fn put_pieces(
-    f: Format,
     archive: &[u8],
-    out: &mut [u8],
-    at: usize,
+    out: &mut Output,
     report: Report,
     first: Spelled,
     second: Spelled,
     third: Spelled,
-) -> usize
+)
     requires spelled_thread { SpelledThread report.first.table archive.now first × SpelledThread report.second.table archive.now second × SpelledThread report.third.table archive.now third }
-    requires third_in_bounds { at + length (parts_bytes f (spelled_pieces f archive.now report first second third)) ≤ length out.old }
-    ensures out_after { out.new ≡ overwritten out.old at (parts_bytes f (spelled_pieces f archive.now report first second third)) }
-    ensures value { result ≡ at + length (parts_bytes f (spelled_pieces f archive.now report first second third)) }
+    requires third_in_bounds { Holds out.old (λ f. parts_bytes f (spelled_pieces f archive.now report first second third)) }
+    ensures { Writes out.old (λ f. parts_bytes f (spelled_pieces f archive.now report first second third)) out.new }
 {
-    let one = report.first;
-    let two = report.second;
-    let three = report.third;
-    let stream = report.stream;
-    let own = report.own;
-    let owned = encoding::put_own_words(f, out, at, own);
-    let behind_first = put_spelled(f, archive, out, owned, one.table, first);
-    let behind_second = put_spelled(f, archive, out, behind_first, two.table, second);
-    let behind_third = put_spelled(f, archive, out, behind_second, three.table, third);
-    encoding::put_stream(out, behind_third, stream_bytes(archive, stream))
+    out.put_own_words(report.own);
+    put_spelled(archive, out, report.first.table, first);
+    put_spelled(archive, out, report.second.table, second);
+    put_spelled(archive, out, report.third.table, third);
+    out.put_stream(stream_bytes(archive, report.stream));
 }
 
-// The header of a record of this size in words.
+// The header of a record of this size in words, written at an earlier place, where it was left out.
 fn put_header(
-    f: Format,
     archive: &[u8],
-    out: &mut [u8],
-    at: usize,
+    out: &mut Output,
+    start: usize,
     size: usize,
     report: Report,
     first: Spelled,
     second: Spelled,
     third: Spelled,
-) -> usize
-    requires { (size < 2 ^ 12) × SpelledHeaderFits f archive.now report first second third × (at + 8 ≤ length out.old) }
-    ensures out_after { out.new ≡ overwritten out.old at (spelled_header f archive.now size report first second third) }
-    ensures value { result ≡ at + 8 }
+)
+    requires { (size < 2 ^ 12) × SpelledHeaderFits out.old.format archive.now report first second third × (start + 8 ≤ length out.old.buffer.now) }
+    ensures { Heads out.old start (λ f. spelled_header f archive.now size report first second third) out.new }
 {
-    let one = report.first;
-    let two = report.second;
-    let three = report.third;
-    let stream = report.stream;
-    let own = report.own;
-    encoding::put_report_header(
-        f,
-        out,
-        at,
-        own,
+    out.put_report_header(
+        start,
+        report.own,
         size,
         report.count,
-        spelled_reference(archive, one.table, first),
-        spelled_reference(archive, two.table, second),
-        spelled_reference(archive, three.table, third),
-        stream_bytes(archive, stream).len(),
-    )
+        spelled_reference(archive, report.first.table, first),
+        spelled_reference(archive, report.second.table, second),
+        spelled_reference(archive, report.third.table, third),
+        stream_bytes(archive, report.stream).len(),
+    );
 }
 
 // A record that refers to texts and threads. Its header, which holds the size, is written last.
-fn put_report(
-    f: Format,
-    archive: &[u8],
-    room: &[u32],
-    out: &mut [u8],
-    at: usize,
-    s: State,
-    report: Report,
-    next: usize,
-) -> usize
-    requires room_fits { RoomFits f archive.now room.now s.current × ReportAt f archive.now s report next × ReportFitsIn f archive.now room.now s report next × RemembersIn f archive.now room.now s.place }
-    requires next_in_bounds { at + length (report_in f archive.now room.now s report next) ≤ length out.old }
-    ensures out_after { out.new ≡ overwritten out.old at (report_in f archive.now room.now s report next) }
-    ensures value { result ≡ at + length (report_in f archive.now room.now s report next) }
+fn put_report(archive: &[u8], room: &[u32], out: &mut Output, s: State, report: Report, next: usize)
+    requires room_fits { RoomFits out.old.format archive.now room.now s.current × ReportAt out.old.format archive.now s report next × ReportFitsIn out.old.format archive.now room.now s report next × RemembersIn out.old.format archive.now room.now s.place }
+    requires next_in_bounds { Holds out.old (λ f. report_in f archive.now room.now s report next) }
+    ensures { Writes out.old (λ f. report_in f archive.now room.now s report next) out.new }
 {
+    let f = out.format;
     let until = s.place;
     let context = s.current;
-    let start = report.arguments;
-    let one = report.first;
-    let two = report.second;
-    let three = report.third;
-    let first = spell(f, archive, room, context, until, one);
-    let second = spell(f, archive, room, context, until, two);
-    let third = spell(f, archive, room, context, until, three);
-    let pieced = put_pieces(f, archive, out, at + 8, report, first, second, third);
-    let argued = put_arguments(
-        f,
-        archive,
-        room,
-        out,
-        pieced,
-        context,
-        until,
-        &archive[start..next],
-        start,
-        report.count,
-    );
-    let end = put_last(f, archive, out, argued, until, report);
-    put_header(
-        f,
-        archive,
-        out,
-        at,
-        (end - at) / 8,
-        report,
-        first,
-        second,
-        third,
-    );
-    end
+    let from = report.arguments;
+    let first = spell(f, archive, room, context, until, report.first);
+    let second = spell(f, archive, room, context, until, report.second);
+    let third = spell(f, archive, room, context, until, report.third);
+    let start = out.place;
+    out.place += 8;
+    put_pieces(archive, out, report, first, second, third);
+    let part = &archive[from..next];
+    put_arguments(archive, room, out, context, until, part, from, report.count);
+    put_last(archive, out, until, report);
+    let size = (out.place - start) / 8;
+    put_header(archive, out, start, size, report, first, second, third);
 }
 
 // The record of an item that refers to nothing; nothing for a record that shows none.
-fn put_plain(f: Format, archive: &[u8], out: &mut [u8], at: usize, content: Content) -> usize
-    requires { PlainFits (plain_item archive.now content) × (at + length (plain_bytes f (plain_item archive.now content)) ≤ length out.old) }
-    ensures out_after { out.new ≡ overwritten out.old at (plain_bytes f (plain_item archive.now content)) }
-    ensures value { result ≡ at + length (plain_bytes f (plain_item archive.now content)) }
+fn put_plain(archive: &[u8], out: &mut Output, content: Content)
+    requires { PlainFits (plain_item archive.now content) × Holds out.old (λ f. plain_bytes f (plain_item archive.now content)) }
+    ensures { Writes out.old (λ f. plain_bytes f (plain_item archive.now content)) out.new }
 {
     match content {
-        Content::Magic => encoding::put_magic(out, at),
+        Content::Magic => out.put_magic(),
         Content::ProviderInfo { id, place, length } => {
-            encoding::put_provider_info(f, out, at, id, reader::text(archive, place, length))
+            out.put_provider_info(id, reader::text(archive, place, length))
         }
-        Content::Section { id } => encoding::put_section(f, out, at, id),
-        Content::ProviderEvent { id, event } => encoding::put_provider_event(f, out, at, id, event),
-        Content::Initialization { rate } => encoding::put_initialization(f, out, at, rate),
-        Content::Report(_) => at,
-        Content::Refused(_) => at,
+        Content::Section { id } => out.put_section(id),
+        Content::ProviderEvent { id, event } => out.put_provider_event(id, event),
+        Content::Initialization { rate } => out.put_initialization(rate),
+        Content::Report(_) => {}
+        Content::Refused(_) => {}
         Content::String {
             index: _,
             place: _,
             length: _,
-        } => at,
-        Content::Thread { index: _, place: _ } => at,
-        Content::Ignored => at,
+        } => {}
+        Content::Thread { index: _, place: _ } => {}
+        Content::Ignored => {}
         Content::Skipped {
             record_type: _,
             size: _,
-        } => at,
+        } => {}
     }
 }
 
 // The record of an item, with the registrations before it.
 pub fn put_record(
-    f: Format,
     archive: &[u8],
     room: &mut [u32],
-    out: &mut [u8],
-    at: usize,
+    out: &mut Output,
     s: State,
     content: Content,
     next: usize,
     waits: bool,
-) -> usize
-    requires room_fits { RoomFits f archive.now room.old s.current × (s.place ≤ length archive.now) × (record_at f archive.now s.place ≡ record { content = content; next = next }) × RemembersFor f archive.now room.old s content }
-    requires content_fits_in { ContentFitsIn f archive.now room.old s content next × (waits ≡ false → Settled (table_words f) (slots_in f room.old)) }
-    requires next_in_bounds { at + length (content_in f archive.now room.old s content next) ≤ length out.old }
-    ensures room_after { room.new ≡ content_room f archive.now room.old s content next }
-    ensures out_after { out.new ≡ overwritten out.old at (content_in f archive.now room.old s content next) }
-    ensures value { result ≡ at + length (content_in f archive.now room.old s content next) }
+)
+    requires room_fits { RoomFits out.old.format archive.now room.old s.current × (s.place ≤ length archive.now) × (record_at out.old.format archive.now s.place ≡ record { content = content; next = next }) × RemembersFor out.old.format archive.now room.old s content }
+    requires content_fits_in { ContentFitsIn out.old.format archive.now room.old s content next × (waits ≡ false → Settled (table_words out.old.format) (slots_in out.old.format room.old)) }
+    requires next_in_bounds { Holds out.old (λ f. content_in f archive.now room.old s content next) }
+    ensures room_after { room.new ≡ content_room out.old.format archive.now room.old s content next }
+    ensures out_after { Writes out.old (λ f. content_in f archive.now room.old s content next) out.new }
 {
     match content {
         Content::Report(report) => {
-            let registered = register_waiting(f, archive, room, out, at, s, report, next, waits);
-            put_report(f, archive, room, out, registered, s, report, next)
+            register_waiting(archive, room, out, s, report, next, waits);
+            put_report(archive, room, out, s, report, next);
         }
-        _ => put_plain(f, archive, out, at, content),
+        _ => put_plain(archive, out, content),
     }
 }

@@ -10,8 +10,7 @@ use borrow.Author.Tests.{eq-eqb, lt-leb}
 use lib.ListN.{length, take, drop}
 use lib.Seq.{drop-append_seam}
 use Rattle.format.specs.declared.Format.{Format}
-use Rattle.arguments.specs.declared.Argued.TheVariants.{Argument as Read}
-use Rattle.arguments.specs.Argument.{on_argued, numbered_of}
+use Rattle.arguments.specs.Argument.{argued, on_argued, numbered_of}
 use Rattle.records.specs.declared.Report.{Report as ReadReport}
 use Rattle.records.specs.declared.Content.TheVariants.{Report as ReportRead}
 use Rattle.records.specs.Record.{record_at}
@@ -19,7 +18,7 @@ use Rattle.records.specs.Item.{Argument, Key}
 use Rattle.encoding.specs.Encoded.{argument_record, arguments_records}
 use Rattle.encoding.proofs.EncodedArguments.{AllFit, AllSized, SpellsArguments, argument_at, arguments_at, argument_read}
 use Rattle.contexts.specs.declared.State.{State}
-use Rattle.reader.specs.declared.Asked.TheVariants.{Refused}
+use Rattle.format.specs.Limits.{refused_at}
 use Rattle.reader.specs.Step.{opening_number}
 use Rattle.reader.specs.Ask.{shown_argument, asked_report, asked_place, argument_reply}
 use Rattle.reader.specs.Reads.{argument_items}
@@ -38,7 +37,7 @@ pub asked_is : (f : Format) (archive tables : List ℕ) (s : State) (place numbe
     → opening_number f archive (length tables) ≡ 0 → place % 8 ≡ 0 → record_at f archive place ≡ record { content = ReportRead e; next = s.place }
     → number < e.count
     → argument_reply f archive tables s place number
-    ≡ on_argued (numbered_of f number (take (s.place - e.arguments) (drop e.arguments archive)) e.arguments) (λ refused. Refused 4 s.place)
+    ≡ on_argued (numbered_of f number (take (s.place - e.arguments) (drop e.arguments archive)) e.arguments) (λ refused. refused_at 4 s.place)
     (λ a size. shown_argument f archive tables s a)
 unfolding argument_reply asked_place asked_report
 asked_is f archive tables s place number e sound opens whole is l =
@@ -53,7 +52,7 @@ asked_is f archive tables s place number e sound opens whole is l =
 
 -- arguments that stand one behind the other are read by their numbers
 next_number : (f : Format) (index : Key → ℕ) (a : Argument) (l : List Argument) (more : List ℕ) (k at : ℕ)
-    → numbered_of f zero (arguments_records f index (a ∷ l) ++ more) at ≡ Read (argument_at f index a at) (length (argument_record f index a))
+    → numbered_of f zero (arguments_records f index (a ∷ l) ++ more) at ≡ argued (argument_at f index a at) (length (argument_record f index a))
     → numbered_of f (suc k) (arguments_records f index (a ∷ l) ++ more) at
     ≡ numbered_of f k (arguments_records f index l ++ more) (at + length (argument_record f index a))
 unfolding numbered_of
@@ -66,7 +65,7 @@ next_number f index a l more k at is =
 
 first_number : (f : Format) (index : Key → ℕ) (a : Argument) (l : List Argument) (more : List ℕ) (at : ℕ) → AllFit f index (a ∷ l)
     → AllSized index (a ∷ l)
-    → numbered_of f zero (arguments_records f index (a ∷ l) ++ more) at ≡ Read (argument_at f index a at) (length (argument_record f index a))
+    → numbered_of f zero (arguments_records f index (a ∷ l) ++ more) at ≡ argued (argument_at f index a at) (length (argument_record f index a))
 unfolding numbered_of
 first_number f index a l more at fit sized =
     rw (append_assoc (argument_record f index a) (arguments_records f index l) more)
@@ -77,7 +76,7 @@ module _ (f : Format) (archive tables : List ℕ) (s : State) (entries : List En
     (place count first : ℕ) (part more : List ℕ)
     (asks : (n : ℕ) → n < count
     → argument_reply f archive tables s place n
-    ≡ on_argued (numbered_of f n part first) (λ refused. Refused 4 s.place) (λ a size. shown_argument f archive tables s a)) where
+    ≡ on_argued (numbered_of f n part first) (λ refused. refused_at 4 s.place) (λ a size. shown_argument f archive tables s a)) where
   -- arguments that were written, from a number on, are the items asked for
   pub arguments_shown : (l : List Argument) (number at : ℕ) → AllFit f (index_in entries provider) l → AllSized (index_in entries provider) l
       → SpellsArguments f archive (index_in entries provider) (arguments_at f (index_in entries provider) l at) l → number + length l ≤ count
@@ -89,7 +88,7 @@ module _ (f : Format) (archive tables : List ℕ) (s : State) (entries : List En
       let index = index_in entries provider in
       let is = first_number f index a l more at fit sized in
       let size = length (argument_record f index a) in
-      let here : numbered_of f number part first ≡ Read (argument_at f index a at) size = rw (add-zero number) at (h zero) ∙ is in
+      let here : numbered_of f number part first ≡ argued (argument_at f index a at) size = rw (add-zero number) at (h zero) ∙ is in
       let next : (k : ℕ) → numbered_of f (suc number + k) part first ≡ numbered_of f k (arguments_records f index l ++ more) (at + size) =
       λ k. ap (λ n. numbered_of f n part first) (omega arith) ∙ (h (suc k) ∙ next_number f index a l more k at is) in
       rw (

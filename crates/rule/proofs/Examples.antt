@@ -7,7 +7,7 @@ use mathlib.Core.Bool.{true, false}
 use mathlib.Core.Option.{none, some}
 use lib.IntN.{negsuc}
 use lib.ListN.{length, replicate}
-use Rattle.effects.specs.Follow.{changed, followed, followed_entered, change_of}
+use Rattle.effects.specs.Follow.{changed, stopped, followed, change_of}
 use Rattle.words.specs.Word.{word_at, word_bytes, little, little_at, bytes_of}
 use Rattle.words.specs.Stream.{magic as magic_bytes, starts_with_magic, part_of}
 use Rattle.registering.specs.Registers.{registers}
@@ -17,8 +17,7 @@ use Rattle.format.specs.Header.{record_words, extent_of, archive_number}
 use Rattle.format.specs.Part.{take_words, take_stream, take_text, take_thread, take_part, take_parts, padding_zero, table_of}
 use Rattle.arguments.specs.declared.Scalar.TheVariants.{Null, Signed32, Unsigned32}
 use Rattle.arguments.specs.declared.Value.TheVariants.{Scalar}
-use Rattle.arguments.specs.declared.Argued.TheVariants.{Argument as ArgumentRead}
-use Rattle.arguments.specs.Argument.{header_scalar, holds_word, argument_body, argument_of, arguments_of, numbered_of, arguments_read}
+use Rattle.arguments.specs.Argument.{header_scalar, holds_word, argued, argument_body, argument_of, arguments_of, numbered_of, arguments_read}
 use Rattle.arguments.specs.Loss.{value_bytes, reserved_bits, value_padding_zero, argument_keeps, arguments_keep}
 use Rattle.records.specs.declared.Own.TheVariants.{Event as EventOwn, Log as LogOwn}
 use Rattle.records.specs.declared.Content.TheVariants.{Refused, String, Skipped}
@@ -232,7 +231,7 @@ pub record Table : Type 0 where
   -- twice registered
   pub k12_twice : (t : Thread) → registers (key_words (thread_key t)) 2 ≡ true
   -- K13: signed argument with high half FFFFFFFE reads as -2
-  pub k13 : argument_of small_format (word_bytes small_format.order 0xFFFFFFFE00000011) 0 ≡ ArgumentRead (record { name = Inline 8 0; value = Scalar (Signed32 (negsuc 1)) }) 8
+  pub k13 : argument_of small_format (word_bytes small_format.order 0xFFFFFFFE00000011) 0 ≡ argued (record { name = Inline 8 0; value = Scalar (Signed32 (negsuc 1)) }) 8
   -- the nine words: each record with its place, whether it loses nothing, and its item; 0 at 72
   pub nine_run : run_of small_format nine ≡ passed 0 true (some magic) (passed 8 true none (passed 24 true (some nine_event) (ended 0 72)))
   -- the items of the listing
@@ -254,7 +253,7 @@ unfolding little little_at word_at word_bytes bytes_of magic_bytes starts_with_m
     provider_info_of metadata_of initialization_of string_of thread_of content_of record_of words_keep stream_keeps report_keeps record_keeps
     belongs_to provider_of find_id entering highest_of position registration_of entry_at resolved is_bad shown_text shown_thread
     shown_referent shown_stream shown_report none_bad shown_value opening_number archive_number stopping report_answer plain_answer effect_decision
-    content_decision followed followed_entered change_of effect_of arguments_read
+    content_decision stopped followed change_of effect_of arguments_read
     place_decision decision_of changed shown_argument asked_report asked_place argument_reply part_of argument_items item_of registers rule run_from run_of
     refusal_of
 table =

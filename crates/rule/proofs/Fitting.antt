@@ -7,6 +7,8 @@ use mathlib.Core.Path.{◌≡◌, refl, sym, ap, ◌∙◌}
 use mathlib.Core.List.{[], List, ◌∷◌}
 use mathlib.Core.Bool.{true, false, ◌&&◌, ◌||◌, true≢false}
 use mathlib.Core.Option.{Option, none, some}
+use Rattle.std.specs.Prelude.{Some, None, is_some, Result, Ok, Err}
+use Rattle.std.specs.Prelude as code
 use native.Mathlib.Omega.{arith}
 use borrow.Author.Tests.{eqb-false, le-leb}
 use lib.Dec.{eqb, leb, ltb}
@@ -25,7 +27,7 @@ use Rattle.arguments.specs.declared.Value.{Value as ReadValue}
 use Rattle.arguments.specs.declared.Value.TheVariants.{Scalar as ScalarValue, Text as TextValue}
 use Rattle.arguments.specs.declared.Argument.{Argument as ReadArgument}
 use Rattle.arguments.specs.declared.Argued.{Argued}
-use Rattle.arguments.specs.declared.Argued.TheVariants.{Refused as ArgumentRefused, Argument as ArgumentRead}
+use Rattle.format.specs.declared.Reason.{Reason}
 use Rattle.arguments.specs.Argument.{on_argued, numbered_of}
 use Rattle.arguments.specs.Loss.{arguments_keep}
 use Rattle.records.specs.declared.Lookup.{Lookup}
@@ -43,7 +45,8 @@ use Rattle.tables.specs.declared.Resolved.{Resolved}
 use Rattle.tables.specs.declared.Resolved.TheVariants.{Bad, Known, Unresolved}
 use Rattle.tables.specs.Table.{highest_of, position, registration_of, on_registration, entry_at, resolved}
 use Rattle.views.specs.declared.ShownArgument.{ShownArgument}
-use Rattle.reader.specs.declared.Asked.TheVariants.{Refused, Argument as ArgumentShown}
+use Rattle.std.specs.Prelude.{Ok}
+use Rattle.format.specs.Limits.{refused_at}
 use Rattle.reader.specs.declared.Answer.{Answer}
 use Rattle.reader.specs.declared.Answer.TheVariants.{ProviderInfo as ProviderInfoShown, Section as SectionShown, Report as ReportShown}
 use Rattle.effects.specs.declared.Change.TheVariants.{Keep}
@@ -161,7 +164,7 @@ ArgumentsGood f count (some l) = (length l ≡ count) × (arguments_unresolved l
 module _ (f : Format) (archive tables : List ℕ) (s : State) (bytes : AllBytes archive) (place total first : ℕ) (part : List ℕ)
     (asks : (n : ℕ) → n < total
     → argument_reply f archive tables s place n
-    ≡ on_argued (numbered_of f n part first) (λ refused. Refused 4 s.place) (λ a size. shown_argument f archive tables s a))
+    ≡ on_argued (numbered_of f n part first) (λ refused. refused_at 4 s.place) (λ a size. shown_argument f archive tables s a))
     (bounds : (n : ℕ) → n < total → ArguedBound f (numbered_of f n part first)) where
   shown_good : (count : ℕ) (a : ReadArgument) → ArgumentBound f a → (l : Option (List Argument)) → ArgumentsGood f count l
       → ArgumentsGood f (suc count) (prepend archive (shown_argument f archive tables s a) l)
@@ -176,7 +179,7 @@ module _ (f : Format) (archive tables : List ℕ) (s : State) (bytes : AllBytes 
         value = shown_value f archive tables s.current s.place a.value;
       }
 
-      of_rest : (l : Option (List Argument)) → ArgumentsGood f count l → ArgumentsGood f (suc count) (prepend archive (ArgumentShown q) l)
+      of_rest : (l : Option (List Argument)) → ArgumentsGood f count l → ArgumentsGood f (suc count) (prepend archive (Ok q) l)
       of_rest none k = tt
       of_rest (some l) k = (
         ap suc k.0,
@@ -198,11 +201,11 @@ module _ (f : Format) (archive tables : List ℕ) (s : State) (bytes : AllBytes 
       (of_number (numbered_of f number part first) (bounds number (omega arith)) (argument_items f archive tables s place (suc number) count)
       (arguments_good count (suc number) (omega arith)))
     where
-      of_number : (x : Argued) → ArguedBound f x → (l : Option (List Argument)) → ArgumentsGood f count l
+      of_number : (x : Result Argued Reason) → ArguedBound f x → (l : Option (List Argument)) → ArgumentsGood f count l
           → ArgumentsGood f (suc count)
-          (prepend archive (on_argued x (λ refused. Refused 4 s.place) (λ a size. shown_argument f archive tables s a)) l)
-      of_number (ArgumentRefused number) h l k = tt
-      of_number (ArgumentRead a size) h l k = shown_good count a h l k
+          (prepend archive (on_argued x (λ refused. refused_at 4 s.place) (λ a size. shown_argument f archive tables s a)) l)
+      of_number (Err reason) h l k = tt
+      of_number (Ok read) h l k = shown_good count read.argument h l k
 
 -- ---- events
 
@@ -337,12 +340,14 @@ module _ (f : Format) (archive tables : List ℕ) (s : State) (opens : opening_n
 
   -- an id that is made current
   enter_good : (id : ℕ) (answer : Answer) (i : Item) → ((t : List ℕ) (z : State) → item_of f archive t z answer ≡ some i)
-      → ((entering (contexts_of s) id 0).ninth ≡ false → ItemSuits (contexts_of s) i × ItemPlain f i)
+      → (is_some (entering (contexts_of s) id 0) ≡ true → ItemSuits (contexts_of s) i × ItemPlain f i)
       → StepGood f archive tables s (entering_as s (entering s id next) answer)
   unfolding entering_as
-  enter_good id answer i shows good =
-      cases (entering s id next).ninth (λ e. rw e (stop_good 9 s.place))
-      (λ e. rw (e, shows (changed tables Keep) (entering s id next).state) (λ u. good (ninth_same s id next ∙ e)))
+  enter_good id answer i shows good = go (entering s id next) refl
+    where
+      go : (e : code.Option State) → entering s id next ≡ e → StepGood f archive tables s (entering_as s e answer)
+      go (Some t) e = rw (shows (changed tables Keep) t) (λ u. good (ninth_same s id next ∙ ap is_some e))
+      go None e = stop_good 9 s.place
 
   content_good : (c : Content) → record_at f archive s.place ≡ record { content = c; next = next } → ContentBound f c
       → record_keeps f source s.place c ≡ true → decision_of f archive tables s ≡ content_decision f archive tables s c next

@@ -3,7 +3,7 @@
 use Prim.Native.Nat.{ℕ, ◌+◌, ◌-◌, ◌≤◌}
 use mathlib.Core.Path.{◌≡◌, refl, sym, ap, ◌∙◌}
 use mathlib.Core.List.{List}
-use mathlib.Core.Bool.{Bool, true, false}
+use mathlib.Core.Bool.{Bool, true, false, true≢false}
 use mathlib.Core.Option.{none, some}
 use native.Mathlib.Omega.{arith}
 use native.Mathlib.Nat.{zero-add}
@@ -27,9 +27,7 @@ use Rattle.encoding.proofs.EncodedLayouts.{PiecesFit, ItemFits, behind_pieces, b
 use Rattle.encoding.proofs.EncodedReports.{report_record, report_at, report_content, report_read_lem}
 use Rattle.encoding.proofs.EncodedItems.{item_long, item_stands, magic_read, provider_info_read, section_read, provider_event_read, initialization_read}
 use Rattle.contexts.specs.declared.State.{State}
-use Rattle.contexts.specs.declared.Found.{Found}
-use Rattle.contexts.specs.declared.Found.TheVariants.{At as FoundAt, Nothing as NotFound}
-use Rattle.contexts.specs.declared.Entered.{Entered}
+use Rattle.std.specs.Prelude.{Option, Some, None, is_some}
 use Rattle.contexts.specs.Context.{provider_of, rate_of, find_id, moved, in_context, with_id, on_found, entering}
 use Rattle.contexts.proofs.Contexts.{entered_belongs}
 use Rattle.tables.specs.Table.{resolved}
@@ -57,8 +55,8 @@ use Rattle.rule.proofs.Events.{asked_is, arguments_shown}
 -- an item that can be shown with these contexts and rates: no ninth id, and an event of the current provider at the rate in force
 abbrev pub ItemSuits : State → Item → Type 0
 ItemSuits c magic = Unit {0}
-ItemSuits c (provider_info id name) = (entering c id 0).ninth ≡ false
-ItemSuits c (section id) = (entering c id 0).ninth ≡ false
+ItemSuits c (provider_info id name) = is_some (entering c id 0) ≡ true
+ItemSuits c (section id) = is_some (entering c id 0) ≡ true
 ItemSuits c (provider_event id e) = Unit {0}
 ItemSuits c (initialization rate) = Unit {0}
 ItemSuits c (report e) = (provider_item (provider_of c) ≡ e.provider) × (rate_of c ≡ e.rate)
@@ -99,35 +97,34 @@ pub record ShownAs (f : Format) (archive tables : List ℕ) (i : Item) (next : �
 -- ---- items but events
 
 -- whether an id is a ninth does not depend on the place
-pub ninth_same : (s : State) (id next : ℕ) → (entering (contexts_of s) id 0).ninth ≡ (entering s id next).ninth
+pub ninth_same : (s : State) (id next : ℕ) → is_some (entering (contexts_of s) id 0) ≡ is_some (entering s id next)
 unfolding entering
 ninth_same s id next = go (find_id s.ids s.count id) (eqb s.count 8)
   where
-    entered : State → ℕ → Found → Bool → Entered
+    entered : State → ℕ → Option ℕ → Bool → Option State
     entered t place x full =
-        on_found x (λ i. record { ninth = false; state = in_context t (i + 1) place })
-        (pick full (record { ninth = true; state = t }) (record { ninth = false; state = with_id t id place }))
+        on_found x (λ i. Some (in_context t (i + 1) place)) (pick full None (Some (with_id t id place)))
 
-    go : (x : Found) (full : Bool) → (entered (contexts_of s) 0 x full).ninth ≡ (entered s next x full).ninth
-    go (FoundAt i) full = refl
-    go NotFound true = refl
-    go NotFound false = refl
+    go : (x : Option ℕ) (full : Bool) → is_some (entered (contexts_of s) 0 x full) ≡ is_some (entered s next x full)
+    go (Some i) full = refl
+    go None true = refl
+    go None false = refl
 
 module _ (f : Format) (archive tables : List ℕ) (s : State) (sound : Sound f archive s tables) where
   -- an id that is no ninth is made current
-  entering_shown : (id next : ℕ) (answer : Answer) (i : Item) → (entering (contexts_of s) id 0).ninth ≡ false
+  entering_shown : (id next : ℕ) (answer : Answer) (i : Item) → is_some (entering (contexts_of s) id 0) ≡ true
       → ((t : State) → item_of f archive tables t answer ≡ some i)
       → ShownAs f archive tables i next (entering_as s (entering s id next) answer)
   unfolding entering_as changed
   entering_shown id next answer i no-ninth item =
-      let none : (entering s id next).ninth ≡ false = sym (ninth_same s id next) ∙ no-ninth in
-      rw none (record {
-        keeps = refl;
-        place = (entered_belongs s id next sound.count sound.eight none).place_is;
-        item = item (entering s id next).state;
-      })
+      go (entering s id next) refl (sym (ninth_same s id next) ∙ no-ninth)
+    where
+      go : (e : Option State) → entering s id next ≡ e → is_some e ≡ true → ShownAs f archive tables i next (entering_as s e answer)
+      go (Some t) e z =
+          record { keeps = refl; place = (entered_belongs s id next t sound.count sound.eight e).place_is; item = item t }
+      go None e z = absurd (true≢false (sym z))
 
-  provider_info_shown : (index : Key → ℕ) (id : ℕ) (name : List ℕ) → PiecesFit f index (layout_of_item (provider_info id name)).pieces → (entering (contexts_of s) id 0).ninth ≡ false
+  provider_info_shown : (index : Key → ℕ) (id : ℕ) (name : List ℕ) → PiecesFit f index (layout_of_item (provider_info id name)).pieces → is_some (entering (contexts_of s) id 0) ≡ true
       → At archive s.place (item_record f index (provider_info id name)) → (next : ℕ)
       → ShownAs f archive tables (provider_info id name) next (content_decision f archive tables s (ProviderInfo id (s.place + 8) (length name)) next)
   unfolding content_decision none_bad plain_answer effect_of item_of
@@ -137,7 +134,7 @@ module _ (f : Format) (archive tables : List ℕ) (s : State) (sound : Sound f a
       let shown = ProviderInfoShown id (s.place + 8) (length name) in
       rw (entering_decided f s id next shown) (entering_shown id next shown (provider_info id name) no-ninth (λ t. rw is))
 
-  section_shown : (id : ℕ) → (entering (contexts_of s) id 0).ninth ≡ false → (next : ℕ)
+  section_shown : (id : ℕ) → is_some (entering (contexts_of s) id 0) ≡ true → (next : ℕ)
       → ShownAs f archive tables (section id) next (content_decision f archive tables s (Section id) next)
   unfolding content_decision none_bad plain_answer effect_of item_of
   section_shown id no-ninth next =

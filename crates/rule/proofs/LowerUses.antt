@@ -18,6 +18,7 @@ use Rattle.words.proofs.Tests.{on-pick, cases}
 use Rattle.registering.specs.Counting.{sum_by}
 use Rattle.registering.proofs.Counting.{sum-append}
 use Rattle.format.specs.declared.Format.{Format}
+use Rattle.format.specs.declared.Reason.{Reason}
 use Rattle.format.specs.declared.Reference.{Reference}
 use Rattle.format.specs.declared.Reference.TheVariants.{Inline, Index}
 use Rattle.format.specs.Part.{inline_bytes}
@@ -25,8 +26,7 @@ use Rattle.arguments.specs.declared.Value.{Value}
 use Rattle.arguments.specs.declared.Value.TheVariants.{Scalar as ScalarRead, Text as TextRead}
 use Rattle.arguments.specs.declared.Argument.{Argument}
 use Rattle.arguments.specs.declared.Argued.{Argued}
-use Rattle.arguments.specs.declared.Argued.TheVariants.{Refused as ArgumentRefused, Argument as ArgumentRead}
-use Rattle.arguments.specs.Argument.{argument_of, Arguments, refused, arguments, prepend as prepend_argument, on_argued, arguments_of, numbered_of}
+use Rattle.arguments.specs.Argument.{argued, argument_of, Arguments, refused, arguments, prepend as prepend_argument, on_argued, arguments_of, numbered_of}
 use Rattle.arguments.specs.Loss.{value_bytes, argument_bytes}
 use Rattle.arguments.proofs.Arguments.{arguments_bytes}
 use Rattle.records.specs.declared.Lookup.{Lookup}
@@ -36,18 +36,18 @@ use Rattle.records.specs.Record.{record_at}
 use Rattle.records.specs.Item.{known, Thread, thread, Argument as ArgumentItem, Key, text_key, thread_key, key_words, Use, text_uses, thread_uses, referent_uses, value_uses, arguments_uses}
 use Rattle.records.specs.Models.Fixed.{value_words, arguments_words}
 use Rattle.contexts.specs.declared.State.{State}
-use Rattle.contexts.specs.declared.Provider.TheVariants.{None, Id}
+use Rattle.std.specs.Prelude.{None, Some, Result, Ok, Err}
 use Rattle.contexts.specs.Context.{belongs_to}
 use Rattle.tables.specs.Table.{Entry}
 use Rattle.tables.specs.declared.Resolved.{Resolved}
 use Rattle.tables.specs.declared.Resolved.TheVariants.{Bad, Known, Unresolved}
 use Rattle.tables.specs.Table.{highest_of, position, registration_of, resolved}
 use Rattle.tables.proofs.Tables.{position_lt, position-apart, resolved-known}
-use Rattle.reader.specs.declared.Asked.{Asked}
-use Rattle.reader.specs.declared.Asked.TheVariants.{Refused as AskRefused, Argument as ArgumentShown}
+use Rattle.std.specs.Prelude.{Ok, Err}
+use Rattle.format.specs.Limits.{refused_at}
 use Rattle.views.specs.Shown.{shown_text, shown_thread, shown_value, shown_referent, none_bad}
 use Rattle.reader.specs.Step.{opening_number}
-use Rattle.reader.specs.Ask.{shown_argument, asked_report, asked_place, argument_reply}
+use Rattle.reader.specs.Ask.{Asked, shown_argument, asked_report, asked_place, argument_reply}
 use Rattle.reader.specs.Reads.{text_item, thread_item, provider_item, value_item, argument_item, prepend as prepend_item, argument_items, referent_item}
 use Rattle.views.proofs.Lookups.{LookupFits}
 use Rattle.records.proofs.Passes.{ThreadReference}
@@ -96,18 +96,18 @@ part_length archive place long =
 -- ---- what is said of arguments
 
 -- an argument that is shown costs no more than the argument that was read
-AskedPays : List ℕ → (Use → ℕ) → Option ℕ → Argued → Asked → Type 0
-AskedPays b cost p x (AskRefused number place) = Unit {0}
-AskedPays b cost p (ArgumentRefused number) (ArgumentShown a) = ⊥
-AskedPays b cost p (ArgumentRead r size) (ArgumentShown a) =
+AskedPays : List ℕ → (Use → ℕ) → Option ℕ → Result Argued Reason → Asked → Type 0
+AskedPays b cost p x (Err r) = Unit {0}
+AskedPays b cost p (Err reason) (Ok a) = ⊥
+AskedPays b cost p (Ok read) (Ok a) =
     8 + 8 * value_words (value_item b a.value) + sum_by cost (text_uses p (text_item b a.name))
     + sum_by cost (value_uses p (value_item b a.value))
-    ≤ argument_bytes r
+    ≤ argument_bytes read.argument
 
 -- arguments that are shown cost no more than the arguments that were read
 unfoldable pub ItemsPay : (Use → ℕ) → Option ℕ → Arguments → Option (List ArgumentItem) → Type 0
 ItemsPay cost p q none = Unit {0}
-ItemsPay cost p (refused number) (some l) = Unit {0}
+ItemsPay cost p (refused reason) (some l) = Unit {0}
 ItemsPay cost p (arguments rs next) (some l) = 8 * arguments_words l + sum_by cost (arguments_uses p l) ≤ arguments_bytes rs
 
 -- the part of the archive that an event's arguments are asked for in
@@ -118,7 +118,7 @@ arguments_part b end e = take (end - e.arguments) (drop e.arguments b)
 
 -- the provider of a context: none, or the id of its slot
 abbrev pub provider_in : List ℕ → ℕ → Option ℕ
-provider_in ids context = provider_item (pick (eqb context 0) None (Id (get_or ids (context - 1) 0)))
+provider_in ids context = provider_item (pick (eqb context 0) None (Some (get_or ids (context - 1) 0)))
 
 -- with one id more, the providers of the contexts before are as they were
 provider-kept : (ids : List ℕ) (count id context : ℕ) → context ≤ count → provider_in (set ids count id) context ≡ provider_in ids context
@@ -274,21 +274,22 @@ module _ (f : Format) (b : List ℕ) where
           (λ q. tt))
           (λ q. tt)
         where
-          x : Argued
+          x : Result Argued Reason
           x = numbered_of f number (arguments_part b s.place e) e.arguments
 
           P : Asked → Type 0
           P = AskedPays b cost provider x
 
-          of_argument : (y : Argued)
-              → AskedPays b cost provider y (on_argued y (λ refused. AskRefused 4 s.place) (λ a size. shown_argument f b tables s a))
-          of_argument (ArgumentRefused n) = tt
-          of_argument (ArgumentRead a size) =
-              on-pick (AskedPays b cost provider (ArgumentRead a size))
+          of_argument : (y : Result Argued Reason)
+              → AskedPays b cost provider y (on_argued y (λ refused. refused_at 4 s.place) (λ a size. shown_argument f b tables s a))
+          of_argument (Err reason) = tt
+          of_argument (Ok read) =
+              let a = read.argument in
+              on-pick (AskedPays b cost provider (Ok read))
               (none_bad f b tables s.current s.place (argument_lookups (a ∷ []))) _ _
               (λ q. rw here (omega (arith, text_pays s.place a.name, value_pays s.place a.value))) (λ q. tt)
 
-          of_event : P (on_report (record_at f b place).content (AskRefused 4 s.place) (λ e. asked_report f b tables s e number))
+          of_event : P (on_report (record_at f b place).content (refused_at 4 s.place) (λ e. asked_report f b tables s e number))
           of_event = rw is (on-pick P (leb e.count number) _ _ (λ q. tt) (λ q. of_argument x))
 
       -- the arguments from a number on, as many as are asked for, cost no more than those that were read
@@ -302,26 +303,26 @@ module _ (f : Format) (b : List ℕ) where
           (rw (rw add-zero at (h 0)) at (asked_pays number)) (argument_items f b tables s place (suc number) n)
           (λ r size q. items_pay n (suc number) (drop size rest) (at + size) (next r size q))
         where
-          next : (r : Argument) (size : ℕ) → argument_of f rest at ≡ ArgumentRead r size
+          next : (r : Argument) (size : ℕ) → argument_of f rest at ≡ argued r size
               → (k : ℕ) → numbered_of f (suc number + k) (arguments_part b s.place e) e.arguments ≡ numbered_of f k (drop size rest) (at + size)
           next r size q k =
               let e₁ : suc number + k ≡ number + suc k = omega arith in
               ap (λ n. numbered_of f n (arguments_part b s.place e) e.arguments) e₁ ∙ (h (suc k) ∙ rw q)
 
-          of_argument : (x : Argued) → argument_of f rest at ≡ x → (a : Asked) → AskedPays b cost provider x a
+          of_argument : (x : Result Argued Reason) → argument_of f rest at ≡ x → (a : Asked) → AskedPays b cost provider x a
               → (o : Option (List ArgumentItem))
-              → ((r : Argument) (size : ℕ) → argument_of f rest at ≡ ArgumentRead r size
+              → ((r : Argument) (size : ℕ) → argument_of f rest at ≡ argued r size
               → ItemsPay cost provider (arguments_of f n (drop size rest) (at + size)) o)
               → ItemsPay cost provider (on_argued x refused (λ a size. prepend_argument a (arguments_of f n (drop size rest) (at + size))))
               (prepend_item b a o)
-          of_argument x q (AskRefused number place) c o k = tt
-          of_argument x q (ArgumentShown a) c none k = tt
-          of_argument (ArgumentRefused number) q (ArgumentShown a) c (some l) k = absurd c
-          of_argument (ArgumentRead r size) q (ArgumentShown a) c (some l) k =
-              of_rest (arguments_of f n (drop size rest) (at + size)) (k r size q)
+          of_argument x q (Err r) c o k = tt
+          of_argument x q (Ok a) c none k = tt
+          of_argument (Err reason) q (Ok a) c (some l) k = absurd c
+          of_argument (Ok read) q (Ok a) c (some l) k =
+              of_rest (arguments_of f n (drop read.size rest) (at + read.size)) (k read.argument read.size q)
             where
-              of_rest : (y : Arguments) → ItemsPay cost provider y (some l) → ItemsPay cost provider (prepend_argument r y) (some (argument_item b a ∷ l))
-              of_rest (refused number) z = tt
+              of_rest : (y : Arguments) → ItemsPay cost provider y (some l) → ItemsPay cost provider (prepend_argument read.argument y) (some (argument_item b a ∷ l))
+              of_rest (refused reason) z = tt
               of_rest (arguments rs last) z =
                   omega (
                     arith,

@@ -13,6 +13,7 @@ ghost use Rattle.rewriting.specs.Models.Write.{tables_in, slots_in};
 ghost use Rattle.rewriting.specs.Models.Fits.{Asks};
 ghost use Rattle.rewriting.specs.Models.Indexed.{SlotsIndexed};
 
+use encoding::Output;
 use format::Format;
 
 // Passes over the whole archive.
@@ -26,20 +27,24 @@ pub fn write_all(f: Format, archive: &[u8], room: &mut [u32], out: &mut [u8])
 {
     let stretch = tables::table_words(f);
     let mut s = contexts::opening_state();
-    let mut at = 0;
-    let mut waiting = indexing::waiting_slot(&room[stretch..], stretch, 0);
+    let mut output = Output {
+        format: f,
+        buffer: out,
+        place: 0,
+    };
+    let mut waiting = indexing::waiting_slot(&room[stretch..], stretch, Some(0));
+    // No `for`: a record says itself how far it reaches.
     while s.place < archive.len() {
         let record = losses::kept_record_at(f, archive, s.place);
         let content = record.content;
         let next = record.next;
-        let followed = passes::follow(f, &mut room[..stretch], s, content, next);
-        if followed.number != 0 {
+        let Ok(state) = passes::follow(f, &mut room[..stretch], s, content, next) else {
             return;
-        }
+        };
         passes::renew(f, archive, &mut room[stretch..], s, content);
-        let waits = waiting < stretch;
-        at = rewriting::put_record(f, archive, room, out, at, s, content, next, waits);
+        let waits = waiting.is_some();
+        rewriting::put_record(archive, room, &mut output, s, content, next, waits);
         waiting = indexing::waiting_slot(&room[stretch..], stretch, waiting);
-        s = followed.state;
+        s = state;
     }
 }

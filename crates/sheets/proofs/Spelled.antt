@@ -11,9 +11,8 @@ use borrow.Author.Tests.{le-leb, lt-ltb, eq-eqb, ne_eqb, ltb-true, ltb-false, eq
 use lib.ListN.{length, get_or, take, drop, length-append, length-drop, take-append-drop, drop_of_length-le}
 use lib.Seq.{length-take-le, get_or-drop, drop-drop, drop-append_seam, take-append_seam, drop-cons}
 use lib.Dec.{ltb}
-use Rattle.sheets.specs.declared.Breach.TheVariants.{None}
-use Rattle.sheets.specs.declared.Found.TheVariants.{At as FoundAt}
-use Rattle.sheets.specs.Sheet.{number_at, length_at, index_at, text_at, end_at, starts_from, is_whole, is_good, first_bad, has_version, breach_of, find_in, find_of}
+use Rattle.std.specs.Prelude.{None}
+use Rattle.sheets.specs.Sheet.{number_at, length_at, index_at, text_at, end_at, starts_from, is_whole, is_good, first_bad, has_version, breach_of, find_in, find_of, found_at}
 use Rattle.sheets.specs.Spelled.{Entry, spelled, sheet_of, Keeps}
 use Rattle.sheets.proofs.Turns.{cases, has_bytes, starts_more, Good, good_is, bad_later, bad_none, find_here, find_later}
 use Rattle.sheets.proofs.Laws.{none_first, has_version_lem, none_bad_lem}
@@ -78,7 +77,7 @@ module _ (sheet : List ℕ) (longest : ℕ) (fits : longest < 65536) where
 
   -- the text of an entry is found by its index
   find_from_lem : (before at : ℕ) (es : List Entry) → drop at sheet ≡ spelled es → Keeps longest before es → (e : Entry) → Memᴰ e es
-      → (place : ℕ) × (find_in sheet e.index (starts_from sheet at) ≡ FoundAt place (length e.text)) × (take (length e.text) (drop place sheet) ≡ e.text)
+      → (place : ℕ) × (find_in sheet e.index (starts_from sheet at) ≡ found_at place (length e.text)) × (take (length e.text) (drop place sheet) ≡ e.text)
   find_from_lem before at [] h k e m = absurd (Memᴰ.not-nil m)
   find_from_lem before at (x ∷ es) h k e m =
       let r = reads sheet at x es h (omega arith) in
@@ -106,7 +105,7 @@ spelled_good longest es fits k = good_from (sheet_of es) longest fits 0 1 es ref
 
 -- and the text of each is found by its index
 pub spelled-found : (longest : ℕ) (es : List Entry) → longest < 65536 → Keeps longest 0 es → (e : Entry) → Memᴰ e es
-    → (place : ℕ) × (find_of (sheet_of es) e.index ≡ FoundAt place (length e.text)) × (take (length e.text) (drop place (sheet_of es)) ≡ e.text)
+    → (place : ℕ) × (find_of (sheet_of es) e.index ≡ found_at place (length e.text)) × (take (length e.text) (drop place (sheet_of es)) ≡ e.text)
 unfolding find_of
 spelled-found longest es fits k e m = find_from_lem (sheet_of es) longest fits 0 1 es refl k e m
 

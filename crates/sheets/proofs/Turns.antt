@@ -1,16 +1,15 @@
 -- One turn of each walk over a sheet's entries, and that the turns are enough. Assumes nothing.
 use Prim.Native.Nat.{ℕ, zero, suc, ◌+◌, ◌<◌, ◌≤◌}
-use mathlib.Core.Path.{◌≡◌, refl, sym, ◌∙◌}
+use mathlib.Core.Path.{◌≡◌, refl, ◌∙◌}
 use mathlib.Core.List.{List, [], ◌∷◌}
 use mathlib.Core.Bool.{Bool, true, false, ◌&&◌}
 use native.Mathlib.Omega.{arith}
 use borrow.Author.Tests.{lt-ltb, le-ltb, leb-true, leb-false, ltb-true}
 use lib.ListN.{length}
 use lib.Dec.{eqb, leb, ltb}
-use Rattle.sheets.specs.declared.Breach.TheVariants.{None, At as BreachAt}
-use Rattle.sheets.specs.declared.Found.TheVariants.{Nothing, At as FoundAt}
+use Rattle.std.specs.Prelude.{Some, None}
 use Rattle.words.specs.Word.{pick}
-use Rattle.sheets.specs.Sheet.{length_at, index_at, text_at, end_at, starts_in, starts_from, is_whole, is_good, first_bad, has_version, find_in}
+use Rattle.sheets.specs.Sheet.{length_at, index_at, text_at, end_at, starts_in, starts_from, is_whole, is_good, first_bad, has_version, find_in, found_at}
 
 -- any two numbers of turns that reach the sheet's end give the same starts: the turns never run out
 pub turns_enough : (sheet : List ℕ) (m n at : ℕ) → length sheet ≤ at + m → length sheet ≤ at + n → starts_in m sheet at ≡ starts_in n sheet at
@@ -72,15 +71,8 @@ good_is sheet longest before at e =
       small = leb-true (index_at sheet at) 32767 p.1;
     }
 
--- the same from what a call of `is_good` or `is_whole` tells
-pub good_ends : (sheet : List ℕ) (longest before at : ℕ) {r : Bool} → r ≡ is_good sheet longest before at → r ≡ true → end_at sheet at ≤ length sheet
-good_ends sheet longest before at e t = (good_is sheet longest before at (sym e ∙ t)).whole
-
-pub whole_told : (sheet : List ℕ) (at : ℕ) {r : Bool} → r ≡ is_whole sheet at → r ≡ true → end_at sheet at ≤ length sheet
-whole_told sheet at e t = whole-ends sheet at (sym e ∙ t)
-
 module _ (sheet : List ℕ) (longest before at : ℕ) (h : at < length sheet) where
-  pub bad_here : is_good sheet longest before at ≡ false → first_bad sheet longest before (starts_from sheet at) ≡ BreachAt at
+  pub bad_here : is_good sheet longest before at ≡ false → first_bad sheet longest before (starts_from sheet at) ≡ Some at
   unfolding first_bad
   bad_here e = rw (starts_more sheet at h, e)
 
@@ -95,7 +87,7 @@ bad_none sheet longest before at h = rw (starts_none sheet at h)
 
 module _ (sheet : List ℕ) (index at : ℕ) (h : at < length sheet) where
   pub find_here : is_whole sheet at ≡ true → eqb (index_at sheet at) index ≡ true
-      → find_in sheet index (starts_from sheet at) ≡ FoundAt (text_at at) (length_at sheet at)
+      → find_in sheet index (starts_from sheet at) ≡ found_at (text_at at) (length_at sheet at)
   unfolding find_in
   find_here w e = rw (starts_more sheet at h, w, e)
 
@@ -104,21 +96,16 @@ module _ (sheet : List ℕ) (index at : ℕ) (h : at < length sheet) where
   unfolding find_in
   find_later w e = rw (starts_more sheet at h, w, e)
 
-pub find_none : (sheet : List ℕ) (index at : ℕ) → length sheet ≤ at → find_in sheet index (starts_from sheet at) ≡ Nothing
+pub find_none : (sheet : List ℕ) (index at : ℕ) → length sheet ≤ at → find_in sheet index (starts_from sheet at) ≡ None
 unfolding find_in
 find_none sheet index at h = rw (starts_none sheet at h)
 
 -- behind an entry that is not whole there is none
-pub find_cut : (sheet : List ℕ) (index at : ℕ) → at < length sheet → is_whole sheet at ≡ false → find_in sheet index (starts_from sheet at) ≡ Nothing
+pub find_cut : (sheet : List ℕ) (index at : ℕ) → at < length sheet → is_whole sheet at ≡ false → find_in sheet index (starts_from sheet at) ≡ None
 unfolding find_in is_whole
 find_cut sheet index at h e =
     let l = leb-false (end_at sheet at) (length sheet) e in
     rw (starts_more sheet at h, e, starts_none sheet (end_at sheet at) (omega arith))
-
-pub no_bytes : (sheet : List ℕ) → length sheet ≡ 0 → has_version sheet ≡ false
-unfolding has_version
-no_bytes [] e = refl
-no_bytes (b ∷ bs) e = absurd (omega arith)
 
 pub has_bytes : (sheet : List ℕ) → has_version sheet ≡ true → 1 ≤ length sheet
 unfolding has_version

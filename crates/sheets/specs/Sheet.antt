@@ -1,10 +1,7 @@
 -- The names sheet, after request W5. A list of numbers stands for the sheet's bytes.
-use Rattle.std.specs.Prelude.{ℕ, zero, suc, ◌+◌, ◌*◌, List, [], ◌∷◌, Bool, ◌&&◌, length, get_or, eqb, leb, ltb}
+use Rattle.std.specs.Prelude.{ℕ, zero, suc, ◌+◌, ◌*◌, List, [], ◌∷◌, Bool, ◌&&◌, length, get_or, eqb, leb, ltb, Option, Some, None}
 use Rattle.words.specs.Word.{pick}
-use Rattle.sheets.specs.declared.Breach.{Breach}
-use Rattle.sheets.specs.declared.Breach.TheVariants.{None, At as BreachAt}
-use Rattle.sheets.specs.declared.Found.{Found}
-use Rattle.sheets.specs.declared.Found.TheVariants.{Nothing, At as FoundAt}
+use Rattle.sheets.specs.declared.Text.{Text}
 
 -- "big-endian 16-bit": the number of the two bytes at a place
 unfoldable pub number_at : List ℕ → ℕ → ℕ
@@ -47,24 +44,28 @@ is_good sheet longest before at =
     is_whole sheet at && leb (length_at sheet at) longest && ltb before (index_at sheet at) && leb (index_at sheet at) 32767
 
 -- "at the start of the first bad entry"
-unfoldable pub first_bad : List ℕ → ℕ → ℕ → List ℕ → Breach
+unfoldable pub first_bad : List ℕ → ℕ → ℕ → List ℕ → Option ℕ
 first_bad sheet longest before [] = None
 first_bad sheet longest before (at ∷ more) =
-    pick (is_good sheet longest before at) (first_bad sheet longest (index_at sheet at) more) (BreachAt at)
+    pick (is_good sheet longest before at) (first_bad sheet longest (index_at sheet at) more) (Some at)
 
 -- "one version byte, 1"; a sheet of no bytes has none (`get_or` gives 0 for it)
 unfoldable pub has_version : List ℕ → Bool
 has_version sheet = eqb (get_or sheet 0 0) 1
 
 -- "at the start of the first bad entry (0 for the version)"; "an empty sheet is the version byte alone": no entry, none bad
-unfoldable pub breach_of : List ℕ → ℕ → Breach
-breach_of sheet longest = pick (has_version sheet) (first_bad sheet longest 0 (starts sheet)) (BreachAt 0)
+unfoldable pub breach_of : List ℕ → ℕ → Option ℕ
+breach_of sheet longest = pick (has_version sheet) (first_bad sheet longest 0 (starts sheet)) (Some 0)
+
+-- a text that is found, by its place and length
+abbrev pub found_at : ℕ → ℕ → Option Text
+found_at place long = Some (record { place = place; length = long })
 
 -- what an index stands for: the place and length of the text of the first whole entry that has it
-unfoldable pub find_in : List ℕ → ℕ → List ℕ → Found
-find_in sheet index [] = Nothing
+unfoldable pub find_in : List ℕ → ℕ → List ℕ → Option Text
+find_in sheet index [] = None
 find_in sheet index (at ∷ more) =
-    pick (is_whole sheet at && eqb (index_at sheet at) index) (FoundAt (text_at at) (length_at sheet at)) (find_in sheet index more)
+    pick (is_whole sheet at && eqb (index_at sheet at) index) (found_at (text_at at) (length_at sheet at)) (find_in sheet index more)
 
-unfoldable pub find_of : List ℕ → ℕ → Found
+unfoldable pub find_of : List ℕ → ℕ → Option Text
 find_of sheet index = find_in sheet index (starts sheet)

@@ -9,13 +9,13 @@ use borrow.Author.Tests.{eqb-true, eqb-false, eq-eqb, ne_eqb, le-ltb, lt-ltb, lt
 use lib.Dec.{eqb, leb, ltb}
 use lib.ListN.{length, take, drop, length-drop}
 use lib.Seq.{length-take-le}
+use Rattle.std.proofs.Common.{Result, Ok, Err}
 use Rattle.words.specs.Word.{pick, word_at, field}
 use Rattle.words.specs.Stream.{stream_words}
 use Rattle.words.proofs.Words.{word_at-drop, word_at-take}
 use Rattle.words.proofs.Tests.{on-pick, cases}
 use Rattle.format.specs.declared.Format.{Format}
-use Rattle.format.specs.declared.Extent.{Extent}
-use Rattle.format.specs.declared.Extent.TheVariants.{Refused as ExtentRefused, Bytes}
+use Rattle.format.specs.declared.Reason.{Reason}
 use Rattle.format.specs.Header.{record_words, extent_of}
 use Rattle.format.specs.Part.{take_words, take_stream, take_part, take_parts}
 use Rattle.format.proofs.Headers.{Whole, extent_read}
@@ -39,7 +39,7 @@ content_other : (f : Format) (source : List ℕ) (place table index : ℕ) → (
     → (table ≡ 3 → field 0 3 (word_at f.order source 0) ≡ 3 → ⊥)
     → (c : Content) → ContentIs f source place c → belonging table index (registration_of c) ≡ Bad
 unfolding registration_of effect_of
-content_other f source place table index a b _ (refused number n) = refl
+content_other f source place table index a b _ (refused reason n) = refl
 content_other f source place table index a b _ (magic e) = refl
 content_other f source place table index a b _ (provider_info t k short room) = refl
 content_other f source place table index a b _ (section t k) = refl
@@ -117,10 +117,10 @@ unfolding entry_at record_of registration_of effect_of
 on_entry P f archive table index entry until bad read =
     on-pick P (eqb (entry % 8) 0) _ _ (λ a. go (extent_of f (drop entry archive)) refl) (λ a. bad)
   where
-    go : (x : Extent) → extent_of f (drop entry archive) ≡ x
+    go : (x : Result ℕ Reason) → extent_of f (drop entry archive) ≡ x
         → P (pick (ltb until (record_at f archive entry).next) Bad (belonging table index (registration_of (record_at f archive entry).content)))
-    go (ExtentRefused number) e = rw e (on-pick P (ltb until entry) _ _ (λ a. bad) (λ a. bad))
-    go (Bytes size) e =
+    go (Err reason) e = rw e (on-pick P (ltb until entry) _ _ (λ a. bad) (λ a. bad))
+    go (Ok size) e =
         let w = extent_read f (drop entry archive) size e in
         rw e (on-pick P (ltb until (entry + size)) _ _ (λ a. bad)
         (λ a. read size w (length-take-le size (drop entry archive) w.inside) (ltb-false until (entry + size) a)))
@@ -143,7 +143,7 @@ small_words header (inr t) = rw t
 -- a content of a record stands for nothing where index 0 is wanted
 content_zero : (f : Format) (source : List ℕ) (place table : ℕ) (c : Content) → ContentIs f source place c → belonging table 0 (registration_of c) ≡ Bad
 unfolding registration_of effect_of
-content_zero f source place table _ (refused number n) = refl
+content_zero f source place table _ (refused reason n) = refl
 content_zero f source place table _ (magic e) = refl
 content_zero f source place table _ (provider_info t k short room) = refl
 content_zero f source place table _ (section t k) = refl

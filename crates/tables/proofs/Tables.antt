@@ -149,7 +149,7 @@ RegistrationInside from to (Entry table index place long) = Inside from to (Inli
 
 registration_inside : (from to : ℕ) (c : Content) → ContentInside from to c → RegistrationInside from to (registration_of c)
 unfolding registration_of effect_of
-registration_inside from to (Refused number) i = tt
+registration_inside from to (Refused reason) i = tt
 registration_inside from to Magic i = tt
 registration_inside from to (ProviderInfo id place long) i = tt
 registration_inside from to (Section id) i = tt
@@ -168,7 +168,7 @@ pub registered_inside : (f : Format) (archive : List ℕ) (entry table index pla
 unfolding registration_of effect_of
 registered_inside f archive entry table index place long e =
     subst (RegistrationInside entry (record_at f archive entry).next) e
-    (on_record (λ r. RegistrationInside entry r.next (registration_of r.content)) f archive entry (λ number. tt)
+    (on_record (λ r. RegistrationInside entry r.next (registration_of r.content)) f archive entry (λ reason. tt)
     (λ size s. rw s.next (registration_inside entry (entry + size) (record_at f archive entry).content s.shows)))
 
 -- ---- what a reference stands for

@@ -16,6 +16,20 @@ pub enum Resolved {
     Unresolved { index: usize },
 }
 
+// What is registered in a context before the place `until`: the reading tables, each set entry of which names a record of the archive.
+#[derive(Clone, Copy)]
+pub struct Registrations<'a> {
+    pub format: Format,
+    pub archive: &'a [u8],
+    pub words: &'a [u32],
+    pub context: usize,
+    pub until: usize,
+    ghost addressed: { FormatFits format },
+    ghost bounded: { length archive.now < 2 ^ 62 },
+    ghost lent: { table_words format ≤ length words.now },
+    ghost one_of_nine: { context ≤ 8 },
+}
+
 // How many words the tables take.
 pub fn table_words(f: Format) -> usize
     requires { FormatFits f }
@@ -52,15 +66,13 @@ pub fn clear(tables: &mut [u32], n: usize)
     requires { n ≤ length tables.old }
     ensures { tables.new ≡ cleared n tables.old }
 {
-    let mut i = 0;
-    while i < n {
-        tables[i] = 0;
-        i += 1;
-    }
+    tables[..n].fill(0);
 }
 
 // What the header of a record of this table at the place `entry` stands for where this index is wanted. Both tables are one
-// way through it, which keeps a lookup small enough to be put where it is made.
+// way through it, which keeps a lookup small enough to be put where it is made. The hint stays: where it is called, a step
+// takes 5 to 10 % longer.
+#[inline(always)]
 fn header_entry(f: Format, table: u64, header: u64, index: usize, entry: usize) -> Resolved
     requires { entry < 2 ^ 32 }
     ensures { result ≡ header_entry f table header index entry }
@@ -107,8 +119,7 @@ fn entry_at(
     if archive.len() < entry + 8 {
         return Resolved::Bad;
     }
-    let order = f.order;
-    let header = words::word(order, archive, entry);
+    let header = words::word(f.order, archive, entry);
     if words::field(header, 0, 3) != table {
         return Resolved::Bad;
     }
@@ -128,31 +139,25 @@ fn entry_at(
     header_entry(f, table, header, index, entry)
 }
 
-// What a reference into this table stands for in a context.
-pub fn resolve(
-    f: Format,
-    archive: &[u8],
-    tables: &[u32],
-    context: usize,
-    table: u64,
-    reference: Reference,
-    until: usize,
-) -> Resolved
-    requires { FormatFits f × (length archive.now < 2 ^ 62) × (table_words f ≤ length tables.now) × (context ≤ 8) }
-    ensures { result ≡ resolved f archive.now tables.now context table until reference }
-{
-    match reference {
-        Reference::Inline { place, length } => Resolved::Known { place, length },
-        Reference::Index(index) => {
-            if highest_of(f, table) < index {
-                return Resolved::Unresolved { index };
+impl<'a> Registrations<'a> {
+    // What a reference into the table of this number stands for. The number is a word, not an enum: this answers for any, and a table
+    // that is neither 2 nor 3 has no good entry.
+    pub fn resolve(&self, table: u64, reference: Reference) -> Resolved
+        ensures { result ≡ resolved self.now.format self.now.archive.now self.now.words.now self.now.context table self.now.until reference }
+    {
+        match reference {
+            Reference::Inline { place, length } => Resolved::Known { place, length },
+            Reference::Index(index) => {
+                if highest_of(self.format, table) < index {
+                    return Resolved::Unresolved { index };
+                }
+                let at = position_of(self.format, self.context, table, index);
+                let entry = self.words[at] as usize;
+                if entry == 0 {
+                    return Resolved::Unresolved { index };
+                }
+                entry_at(self.format, self.archive, table, index, entry, self.until)
             }
-            let at = position_of(f, context, table, index);
-            let entry = tables[at] as usize;
-            if entry == 0 {
-                return Resolved::Unresolved { index };
-            }
-            entry_at(f, archive, table, index, entry, until)
         }
     }
 }

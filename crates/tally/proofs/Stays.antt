@@ -1,4 +1,6 @@
--- Slots that are taken stay so, each with its key, where a use is counted or a word remembered: what a search found it finds again. Assumes nothing.
+-- Slots that are taken stay so, each with its key, where a use is counted or a slot remembered: what a search found it finds again. Assumes nothing.
+use Rattle.std.specs.Prelude.{Option, Some, None}
+use Rattle.std.proofs.lemmas.Option.{none-some, same_Some}
 use Prim.Native.Nat.{ℕ, ◌+◌, ◌-◌, ◌*◌, ◌/◌, ◌<◌}
 use mathlib.Core.Path.{◌≡◌, refl, sym, ap, ◌∙◌}
 use mathlib.Core.List.{List}
@@ -6,12 +8,12 @@ use mathlib.Core.Bool.{true, false, true≢false}
 use native.Mathlib.Omega.{arith}
 use lib.Dec.{eqb, ltb}
 use lib.ListN.{get_or}
-use lib.Seq.{get_or-set_same, get_or-set_other}
+use lib.Seq.{get_or-set_same, get_or-set_other, set-get_or}
 use borrow.Author.Tests.{eqb-true, eqb-false, ne_eqb}
 use Rattle.words.proofs.Tests.{cases}
 use Rattle.tally.specs.declared.Slot.{Slot}
 use Rattle.tally.specs.declared.Slot.TheVariants.{Here, Free, Full}
-use Rattle.tally.specs.Models.Slots.{key_of, place_in, with_uses, place_at, label_at, uses_at, is_free, key_at, find_of, raised, count_at, used_again, filled, remembering, added_slot, added}
+use Rattle.tally.specs.Models.Slots.{key_of, place_in, with_uses, place_at, label_at, uses_at, is_free, key_at, find_of, raised, count_at, used_again, filled, slot_word, slot_of_word, remembered_at, remembering, added_slot, added}
 use Rattle.tally.specs.Models.Tally.{Wide}
 use Rattle.tally.proofs.Probing.{found-low, free_slot, find_still, find_taken, find_alike, key-alike}
 use Rattle.tally.proofs.Frames.{same_label, filled_other, filled-place, filled-label}
@@ -109,7 +111,7 @@ module _ (archive : List ℕ) (stretch : ℕ) (slots : List ℕ) (wide : Wide st
       find_still archive stretch slots _ wide.some (added_stay (find_of archive stretch slots (key_of archive place label)) refl) key s e
 
   -- and the key that was used is found at the slot that is answered
-  pub added-found : (s : ℕ) → added_slot stretch slots label most (find_of archive stretch slots (key_of archive place label)) ≡ s + 1
+  pub added-found : (s : ℕ) → added_slot stretch slots label most (find_of archive stretch slots (key_of archive place label)) ≡ Some s
       → find_of archive stretch (added stretch slots place label most (find_of archive stretch slots (key_of archive place label))) (key_of archive place label)
       ≡ Here s
   added-found s = go (find_of archive stretch slots (key_of archive place label)) refl
@@ -117,34 +119,58 @@ module _ (archive : List ℕ) (stretch : ℕ) (slots : List ℕ) (wide : Wide st
       key : List ℕ
       key = key_of archive place label
 
-      go : (slot : Slot) → find_of archive stretch slots key ≡ slot → added_slot stretch slots label most slot ≡ s + 1
+      go : (slot : Slot) → find_of archive stretch slots key ≡ slot → added_slot stretch slots label most slot ≡ Some s
           → find_of archive stretch (added stretch slots place label most slot) key ≡ Here s
       go (Here x) e a =
-          let i : x ≡ s = omega arith in
+          let i = same_Some x s a in
           rw (← i) (find_still archive stretch slots _ wide.some (added_stay (Here x) e) key x e)
       go (Free x) e a =
           let l = found-low archive stretch slots key wide.some (Free x) e in
           let f = free_slot archive stretch slots key wide.some x e in
           cases (ltb (count_at stretch slots label) most)
-          (λ q. let i : x ≡ s = omega (arith, rw q at a) in
+          (λ q. let i = same_Some x s (rw q at a) in
           rw (q, ← i)
           (find_taken archive stretch slots _ wide.some (filled_stay archive stretch slots wide place label x some small mark l f) key x
           (filled_taken archive stretch slots wide place label x some small mark l f)
           (filled-key archive stretch slots wide place label x some small mark l f) e))
-          (λ q. let z : ◌≡◌ {A = ℕ} 0 (s + 1) = rw q at a in absurd (omega arith))
-      go Full e a = absurd (omega arith)
+          (λ q. absurd (none-some s (rw q at a)))
+      go Full e a = absurd (none-some s a)
 
--- ---- a remembered word
+-- ---- a remembered slot
 
-module _ (stretch : ℕ) (slots : List ℕ) (entry word : ℕ) where
+-- the word of a slot, or of none, stands for it
+word_slot : (slot : Option ℕ) → slot_of_word (slot_word slot) ≡ slot
+word_slot None = refl
+word_slot (Some s) = rw (ne_eqb (s + 1) 0 (λ z. omega arith)) (ap Some (omega arith))
+
+-- and every word is that of what it stands for
+slot-word : (word : ℕ) → slot_word (slot_of_word word) ≡ word
+slot-word word = cases (eqb word 0) (λ e. rw e (omega (arith, eqb-true word 0 e))) (λ e. rw e (omega (arith, eqb-false word 0 e)))
+
+-- where a slot is remembered that was, nothing changes
+pub remembering_same : (stretch : ℕ) (slots : List ℕ) (entry : ℕ) → remembering stretch slots entry (remembered_at stretch slots entry) ≡ slots
+remembering_same stretch slots entry =
+    rw (slot-word (get_or slots (2 * stretch + entry) 0)) (set-get_or slots (2 * stretch + entry) 0)
+
+module _ (stretch : ℕ) (slots : List ℕ) (entry : ℕ) (slot : Option ℕ) where
+  -- it is what is remembered there
+  pub remembering-at : Wide stretch slots → entry < stretch → remembered_at stretch (remembering stretch slots entry slot) entry ≡ slot
+  remembering-at wide low =
+      ap slot_of_word (get_or-set_same slots (2 * stretch + entry) (slot_word slot) 0 (omega (arith, wide.long))) ∙ word_slot slot
+
+  -- under any other number the same is remembered
+  pub remembering-else : (other : ℕ) → (other ≡ entry → ⊥) → remembered_at stretch (remembering stretch slots entry slot) other ≡ remembered_at stretch slots other
+  remembering-else other n =
+      ap slot_of_word (get_or-set_other slots (2 * stretch + entry) (2 * stretch + other) (slot_word slot) 0 (λ q. n (omega arith)))
+
   -- every word before the third stretch is as it was
-  pub remembering_other : (i : ℕ) → i < 2 * stretch → get_or (remembering stretch slots entry word) i 0 ≡ get_or slots i 0
-  remembering_other i l = get_or-set_other slots (2 * stretch + entry) i word 0 (λ q. omega arith)
+  pub remembering_other : (i : ℕ) → i < 2 * stretch → get_or (remembering stretch slots entry slot) i 0 ≡ get_or slots i 0
+  remembering_other i l = get_or-set_other slots (2 * stretch + entry) i (slot_word slot) 0 (λ q. omega arith)
 
   -- so a search finds what it found
   pub remembering_find : (archive : List ℕ) → 18 < stretch → (key : List ℕ)
-      → find_of archive stretch (remembering stretch slots entry word) key ≡ find_of archive stretch slots key
+      → find_of archive stretch (remembering stretch slots entry slot) key ≡ find_of archive stretch slots key
   remembering_find archive some =
-      find_alike archive stretch slots (remembering stretch slots entry word) some
+      find_alike archive stretch slots (remembering stretch slots entry slot) some
       (λ s l. let first = remembering_other s (omega arith) in
       (ap place_in first, λ f. rw (first, remembering_other (stretch + s) (omega arith))))

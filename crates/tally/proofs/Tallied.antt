@@ -1,5 +1,6 @@
 -- A table that tells of some uses: an empty one, one use more, what is found, the most keys of each mark, and the words that all keys take.
 -- Assumes nothing.
+use Rattle.std.specs.Prelude.{Option}
 use Prim.Native.Nat.{ℕ, ◌+◌, ◌-◌, ◌*◌, ◌/◌, ◌<◌, ◌≤◌, min}
 use mathlib.Core.Path.{◌≡◌, refl, sym, ap, ◌∙◌}
 use mathlib.Core.List.{[], List, ◌∷◌}
@@ -18,7 +19,7 @@ use Rattle.registering.specs.Registers.{registers}
 use Rattle.registering.proofs.Registers.{registers_empty, registers_often}
 use Rattle.tally.specs.declared.Slot.{Slot}
 use Rattle.tally.specs.declared.Slot.TheVariants.{Here, Free, Full}
-use Rattle.tally.specs.Models.Slots.{key_of, key_mark, key_words, place_in, uses_in, place_at, uses_at, counter_at, is_free, key_at, find_of, raised, count_at, used_again, filled, remembering, is_added, added, cost_of, sum_to, measure_of}
+use Rattle.tally.specs.Models.Slots.{key_of, key_mark, key_words, place_in, uses_in, place_at, uses_at, counter_at, is_free, key_at, find_of, raised, count_at, used_again, filled, slot_word, remembering, is_added, added, cost_of, sum_to, measure_of}
 use Rattle.tally.specs.Models.Tally.{distinct, Wide, Tallies}
 use Rattle.tally.proofs.Probing.{found-low, here_key, free_slot, full_slots, find_still, find_taken, find_alike}
 use Rattle.tally.proofs.Frames.{raised_more, raised-least, word_uses, filled_other, filled_uses, filled_counter}
@@ -371,10 +372,10 @@ module _ {archive : List ℕ} {stretch : ℕ} {slots : List ℕ} {us : List (Lis
           find_alike archive stretch slots after T.wide.some
           (λ s l. (ap place_in (first s (omega arith)), λ f. rw (first s (omega arith), second s l)))
 
-  -- so a word that is remembered keeps the tally
-  pub remembering-tally : (entry word : ℕ) → Tallies archive stretch (remembering stretch slots entry word) us
-  remembering-tally entry word =
-      words-tally (remembering stretch slots entry word) (length-set slots (2 * stretch + entry) word) (remembering_other stretch slots entry word)
+  -- so a slot that is remembered keeps the tally
+  pub remembering-tally : (entry : ℕ) (slot : Option ℕ) → Tallies archive stretch (remembering stretch slots entry slot) us
+  remembering-tally entry slot =
+      words-tally (remembering stretch slots entry slot) (length-set slots (2 * stretch + entry) (slot_word slot)) (remembering_other stretch slots entry slot)
 
   -- ---- the most keys of each mark
 

@@ -2,12 +2,13 @@
 // word s of the first has the byte place of slot s's key and, above 24 bits, the key's mark; word s of the second has the length of the
 // key's bytes and, above 16 bits, its uses. A place of 0 is a free slot. The last 18 words of these two are no slots; those of the second
 // count the distinct keys of each mark. The third stretch remembers slots: its word at a number that the caller chooses has one more than
-// a slot, or 0.
+// a slot, or 0. `slots` and `stretch` stay two parameters. Tried as a struct: for slices that are only read it proves, but with `&mut` each
+// function needs two clauses more, and a caller that lends a part of its room does not prove.
 #![tactic(auto)]
 
 ghost use Rattle.std.specs.Prelude.{◌≡◌, ◌+◌, ◌-◌, ◌*◌, ◌/◌, ◌%◌, ◌^◌, ◌<◌, ◌≤◌};
 ghost use Rattle.words.specs.Stream.{same_bytes};
-ghost use Rattle.tally.specs.Models.Slots.{label_of, key_of, place_in, label_in, uses_in, with_uses, start_of, next_of, find_of, raised, used_again, filled, slot_word, remembered_at, remembering, added_slot, added, cost_of, measure_of};
+ghost use Rattle.tally.specs.Models.Slots.{label_of, key_of, place_in, label_in, uses_in, with_uses, start_of, next_of, find_of, raised, used_again, filled, here_slot, slot_word, remembered_at, remembering, added_slot, added, cost_of, measure_of};
 ghost use Rattle.tally.specs.Models.Tally.{Wide};
 
 // Where a key stands, where it would go, or that no slot is left.
@@ -19,6 +20,8 @@ pub enum Slot {
 }
 
 // The label of a key: the length of its bytes and, above 16 bits, its mark, which is of its context and its table, 2 for a text and 3 for a thread.
+// The table stays a number, of which this asks that it is 2 or 3: callers hold it as one.
+#[tactic(auto, unfolding(crate::specs::Models::Slots::label_of))]
 pub fn label_of(context: usize, table: u64, long: usize) -> usize
     requires { (context ≤ 8) × (2 ≤ table) × (table ≤ 3) × (long < 65536) }
     ensures { result ≡ label_of context table long }
@@ -65,6 +68,7 @@ fn first_slot(archive: &[u8], capacity: usize, place: usize, label: usize) -> us
 }
 
 // The slot after s, around the end.
+#[tactic(auto, unfolding(crate::specs::Models::Slots::next_of))]
 fn next_slot(capacity: usize, s: usize) -> usize
     requires { s < capacity }
     ensures { result ≡ next_of capacity s }
@@ -76,6 +80,7 @@ fn next_slot(capacity: usize, s: usize) -> usize
 }
 
 // Whether the keys at p and q, with these labels, are the same.
+#[tactic(auto, using(crate::proofs::Laws::label_differs, crate::proofs::Laws::place_same))]
 fn same_key(archive: &[u8], p: usize, a: usize, q: usize, b: usize) -> bool
     ensures { result ≡ same_bytes (key_of archive.now p a) (key_of archive.now q b) }
 {
@@ -98,8 +103,7 @@ pub fn find(archive: &[u8], slots: &[u32], stretch: usize, place: usize, label: 
 {
     let capacity = stretch - 18;
     let mut s = first_slot(archive, capacity, place, label);
-    let mut left = capacity;
-    while 0 < left {
+    for _ in 0..capacity {
         let p = place_in(slots[s]);
         if p == 0 {
             return Slot::Free(s);
@@ -109,41 +113,51 @@ pub fn find(archive: &[u8], slots: &[u32], stretch: usize, place: usize, label: 
             return Slot::Here(s);
         }
         s = next_slot(capacity, s);
-        left -= 1;
     }
     Slot::Full
 }
 
-// One more than the slot of a key, or 0 where it has none.
-pub fn slot_of(archive: &[u8], slots: &[u32], stretch: usize, place: usize, label: usize) -> usize
+// The slot of a key, where it has one.
+pub fn slot_of(
+    archive: &[u8],
+    slots: &[u32],
+    stretch: usize,
+    place: usize,
+    label: usize,
+) -> Option<usize>
     requires { Wide stretch slots.now × (label < 2 ^ 32) }
-    ensures { (result ≡ slot_word (find_of archive.now stretch slots.now (key_of archive.now place label))) × (result < 2 ^ 32) }
+    ensures { (result ≡ here_slot (find_of archive.now stretch slots.now (key_of archive.now place label))) × (slot_word result < 2 ^ 32) }
 {
     let slot = find(archive, slots, stretch, place, label);
     match slot {
-        Slot::Here(s) => s + 1,
-        Slot::Free(_) => 0,
-        Slot::Full => 0,
+        Slot::Here(s) => Some(s),
+        Slot::Free(_) => None,
+        Slot::Full => None,
     }
 }
 
-// What is remembered under a number: one more than a slot, or 0.
-pub fn remembered(slots: &[u32], stretch: usize, entry: usize) -> usize
+// The slot that is remembered under a number.
+pub fn remembered(slots: &[u32], stretch: usize, entry: usize) -> Option<usize>
     requires { Wide stretch slots.now × (entry < stretch) }
     ensures { result ≡ remembered_at stretch slots.now entry }
 {
-    slots[2 * stretch + entry] as usize
+    (slots[2 * stretch + entry] as usize).checked_sub(1)
 }
 
-// Remembers one more than a slot, or 0, under a number.
-pub fn remember(slots: &mut [u32], stretch: usize, entry: usize, word: usize)
-    requires { Wide stretch slots.old × (entry < stretch) × (word < 2 ^ 32) }
-    ensures { slots.new ≡ remembering stretch slots.old entry word }
+// Remembers a slot, or none, under a number.
+pub fn remember(slots: &mut [u32], stretch: usize, entry: usize, slot: Option<usize>)
+    requires { Wide stretch slots.old × (entry < stretch) × (slot_word slot < 2 ^ 32) }
+    ensures { slots.new ≡ remembering stretch slots.old entry slot }
 {
-    slots[2 * stretch + entry] = word as u32;
+    let word = match slot {
+        Some(s) => s as u32 + 1,
+        None => 0,
+    };
+    slots[2 * stretch + entry] = word;
 }
 
 // One more, up to the highest number of half a word.
+#[tactic(auto, unfolding(crate::specs::Models::Slots::raised))]
 pub fn raise(n: u32) -> u32
     ensures { (result ≡ raised n) × (result < 65536) }
 {
@@ -174,8 +188,7 @@ fn fill(slots: &mut [u32], stretch: usize, s: usize, place: usize, label: usize)
     slots[counter] = keys;
 }
 
-// One use more of a key: one more than its slot, or 0 where it is not counted. A key that is new is taken only where fewer than `most` of
-// its mark were.
+// One use more of a key: its slot, where it is counted. A key that is new is taken only where fewer than `most` of its mark were.
 pub fn add_use(
     archive: &[u8],
     slots: &mut [u32],
@@ -183,9 +196,9 @@ pub fn add_use(
     place: usize,
     label: usize,
     most: usize,
-) -> usize
+) -> Option<usize>
     requires { Wide stretch slots.old × (place < 16777216) × (label < 18 * 65536) }
-    ensures value { (result ≡ added_slot stretch slots.old label most (find_of archive.now stretch slots.old (key_of archive.now place label))) × (result < 2 ^ 32) }
+    ensures value { (result ≡ added_slot stretch slots.old label most (find_of archive.now stretch slots.old (key_of archive.now place label))) × (slot_word result < 2 ^ 32) }
     ensures slots_after { slots.new ≡ added stretch slots.old place label most (find_of archive.now stretch slots.old (key_of archive.now place label)) }
 {
     let counter = 2 * stretch - 18 + label / 65536;
@@ -193,21 +206,22 @@ pub fn add_use(
     match slot {
         Slot::Here(s) => {
             use_again(slots, stretch, s);
-            s + 1
+            Some(s)
         }
         Slot::Free(s) => {
             let keys = slots[counter];
             if (keys as usize) < most {
                 fill(slots, stretch, s, place, label);
-                return s + 1;
+                return Some(s);
             }
-            0
+            None
         }
-        Slot::Full => 0,
+        Slot::Full => None,
     }
 }
 
 // The words that a slot's key takes in all its uses, registered or not; none where the slot is free.
+#[tactic(auto, unfolding(crate::specs::Models::Slots::cost_of))]
 fn cost(first: u32, second: u32) -> usize
     ensures { (result ≡ cost_of (place_in first) (label_in first second) (uses_in second)) × (result < 2 ^ 14) }
 {
@@ -228,10 +242,8 @@ pub fn measure(slots: &[u32], stretch: usize) -> usize
     ensures { (result ≡ measure_of stretch slots.now) × (result < 2 ^ 45) }
 {
     let mut sum = 0;
-    let mut s = 0;
-    while s < stretch - 18 {
+    for s in 0..stretch - 18 {
         sum += cost(slots[s], slots[stretch + s]);
-        s += 1;
     }
     sum
 }

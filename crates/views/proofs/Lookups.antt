@@ -10,13 +10,14 @@ use borrow.Author.Tests.{ltb-false}
 use lib.Dec.{eqb, ltb}
 use lib.ListN.{length, take, drop, get_or}
 use lib.Seq.{length-take-le, drop-drop, take-nil}
+use Rattle.std.proofs.Common.{Result, Ok, Err}
 use Rattle.words.specs.Word.{pick, word_at}
 use Rattle.words.proofs.Tests.{on-pick}
 use Rattle.format.specs.declared.Format.{Format}
+use Rattle.format.specs.declared.Reason.{Reason}
+use Rattle.format.specs.Limits.{number_of}
 use Rattle.format.specs.declared.Reference.{Reference}
 use Rattle.format.specs.declared.Reference.TheVariants.{Inline, Index}
-use Rattle.format.specs.declared.Extent.{Extent}
-use Rattle.format.specs.declared.Extent.TheVariants.{Refused as ExtentRefused, Bytes}
 use Rattle.format.specs.Header.{record_words, extent_of}
 use Rattle.format.specs.Models.Bounds.{Inside}
 use Rattle.format.proofs.Headers.{extent_read}
@@ -29,7 +30,7 @@ use Rattle.records.specs.declared.Record.{Record}
 use Rattle.records.specs.Layout.{layout_of, report_of}
 use Rattle.records.specs.Record.{content_of, record_of, record_at}
 use Rattle.records.specs.Models.Bounds.{ContentInside}
-use Rattle.records.proofs.Passes.{RecordNumber, number_cut, number_malformed, ThreadReference, is_table}
+use Rattle.records.proofs.Passes.{RecordNumber, RecordReason, reason_cut, reason_malformed, ThreadReference, is_table}
 use Rattle.records.proofs.Contents.{ContentIs, refused as is_refused, magic as is_magic, provider_info as is_provider_info, section as is_section, provider_event as is_provider_event, initialization as is_initialization}
 use Rattle.records.proofs.Contents.{string as is_string, thread as is_thread, report as is_report, ignored as is_ignored, skipped as is_skipped, content_is, RecordStands, record_stands}
 use Rattle.tables.specs.declared.Resolved.{Resolved}
@@ -94,16 +95,16 @@ content_fits f source place h = is-fits f source place (content_of f source plac
 
 -- ---- the record at a place
 
-abbrev ExtentPasses : Extent → Type 0
-ExtentPasses (ExtentRefused number) = RecordNumber number
-ExtentPasses (Bytes size) = Unit {0}
+abbrev ExtentPasses : Result ℕ Reason → Type 0
+ExtentPasses (Err reason) = RecordReason reason
+ExtentPasses (Ok size) = Unit {0}
 
 extent_passes : (f : Format) (rest : List ℕ) → ExtentPasses (extent_of f rest)
 unfolding extent_of
 extent_passes f rest =
-    on-pick ExtentPasses (ltb (length rest) 8) _ _ (λ e. number_cut)
-    (λ e. on-pick ExtentPasses (eqb n 0) _ _ (λ e. number_malformed)
-    (λ e. on-pick ExtentPasses (ltb (length rest) (8 * n)) _ _ (λ e. number_cut) (λ e. tt)))
+    on-pick ExtentPasses (ltb (length rest) 8) _ _ (λ e. reason_cut)
+    (λ e. on-pick ExtentPasses (eqb n 0) _ _ (λ e. reason_malformed)
+    (λ e. on-pick ExtentPasses (ltb (length rest) (8 * n)) _ _ (λ e. reason_cut) (λ e. tt)))
   where
     n : ℕ
     n = record_words (word_at f.order rest 0)
@@ -136,16 +137,16 @@ pub record_whole : (f : Format) (archive : List ℕ) (place : ℕ) → RecordFit
 unfolding record_of
 record_whole f archive place = go (extent_of f (drop place archive)) refl (extent_passes f (drop place archive))
   where
-    go : (x : Extent) → extent_of f (drop place archive) ≡ x → ExtentPasses x → RecordFits f archive place (record_at f archive place)
-    go (ExtentRefused number) e h = rw e (record {
+    go : (x : Result ℕ Reason) → extent_of f (drop place archive) ≡ x → ExtentPasses x → RecordFits f archive place (record_at f archive place)
+    go (Err reason) e h = rw e (record {
       behind = omega arith;
       whole = omega arith;
       before = λ k. k;
-      some = inl (number, refl);
+      some = inl (number_of reason, refl);
       inside = tt;
       holds = h;
     })
-    go (Bytes size) e h = stands_fit f archive place size (record_at f archive place) (record_stands f archive place size e)
+    go (Ok size) e h = stands_fit f archive place size (record_at f archive place) (record_stands f archive place size e)
 
 -- a record that is laid out so is read so
 pub report_content : (f : Format) (source : List ℕ) (place : ℕ) → (layout_of (word_at f.order source 0)).read ≡ true

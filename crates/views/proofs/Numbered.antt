@@ -7,19 +7,17 @@ use borrow.Author.Tests.{le-leb, lt-leb}
 use lib.Dec.{leb}
 use lib.ListN.{length, drop, length-drop}
 use lib.Seq.{drop-drop}
+use Rattle.std.proofs.Common.{Ok, Err}
 use Rattle.words.specs.Word.{pick, word_at}
 use Rattle.format.specs.declared.Format.{Format}
+use Rattle.format.specs.declared.Reason.TheVariants.{ForeignState}
 use Rattle.format.specs.declared.Reference.{Reference}
-use Rattle.arguments.specs.declared.Argued.TheVariants.{Refused as NoArgument}
-use Rattle.arguments.specs.declared.Sought.TheVariants.{End as SoughtEnd}
 use Rattle.arguments.specs.Argument.{argument_of, numbered_of}
-use Rattle.arguments.specs.Models.Reading.{sought_of}
+use Rattle.arguments.specs.Models.Reading.{sought, sought_of}
 use Rattle.arguments.proofs.Arguments.{start_inside, numbered_start, sought_ended}
 use Rattle.records.specs.declared.Layout.{Layout}
-use Rattle.records.specs.declared.Fields.TheVariants.{Fields as FieldsRead}
-use Rattle.records.specs.declared.Last.TheVariants.{Word}
 use Rattle.records.specs.declared.Content.{Content}
-use Rattle.records.specs.Layout.{layout_of, take_fields, last_word, report_of}
+use Rattle.records.specs.Layout.{layout_of, fields, take_fields, last_word, report_of}
 use Rattle.records.specs.Record.{content_of}
 use Rattle.records.specs.Lookups.{on_report}
 use Rattle.records.proofs.Layouts.{fields_read, walk_ends, report-is}
@@ -37,28 +35,28 @@ pub record Stands (place end first last start : ℕ) : Type 0 where
 
 -- arguments that are walked over stand so
 pub sought_stands : (f : Format) (l : Layout) (source : List ℕ) (place number : ℕ) {a b c s : Reference} {first last start : ℕ} → 8 ≤ length source
-    → take_fields f l source place ≡ FieldsRead a b c s first
-    → sought_of f l.count number (drop (first - place) source) first ≡ SoughtEnd last start
+    → take_fields f l source place ≡ fields a b c s first
+    → sought_of f l.count number (drop (first - place) source) first ≡ sought last start
     → Stands place (place + length source) first last start
 sought_stands f l source place number {a} {b} {c} {s} {first} {last} {start} h e₁ e₂ =
     let rest = drop (first - place) source in
-    let fields = fields_read f l source place a b c s first h e₁ in
+    let read = fields_read f l source place a b c s first h e₁ in
     let w = sought_ended f l.count number rest first last start e₂ in
     let all = walk_ends f l.count rest first last w.0 in
     let one = rw w.1 at (start_inside f number rest first) in
     let long = length-drop (first - place) source in
     record {
-      begins = omega (arith, fields.starts);
+      begins = omega (arith, read.starts);
       behind = all.0;
-      ends = omega (arith, long, all.1, fields.starts, fields.ends);
+      ends = omega (arith, long, all.1, read.starts, read.ends);
       starts = one.0;
-      inside = omega (arith, long, one.1, fields.starts, fields.ends);
+      inside = omega (arith, long, one.1, read.starts, read.ends);
     }
 
 -- the argument of a number is the one that starts where the walk remembers
 pub argument_sought : (f : Format) (l : Layout) (source : List ℕ) (place number : ℕ) {a b c s : Reference} {first last start word : ℕ} → 8 ≤ length source
-    → layout_of (word_at f.order source 0) ≡ l → number < l.count → take_fields f l source place ≡ FieldsRead a b c s first
-    → sought_of f l.count number (drop (first - place) source) first ≡ SoughtEnd last start → last_word f source place last l.behind ≡ Word word
+    → layout_of (word_at f.order source 0) ≡ l → number < l.count → take_fields f l source place ≡ fields a b c s first
+    → sought_of f l.count number (drop (first - place) source) first ≡ sought last start → last_word f source place last l.behind ≡ Ok word
     → argument_in f source place (report_of f source place) number ≡ argument_of f (drop (start - place) source) start
 unfolding argument_in
 argument_sought f l source place number {a} {b} {c} {s} {first} {last} {start} {word} h e₀ few e₁ e₂ e₃ =
@@ -76,13 +74,13 @@ argument_sought f l source place number {a} {b} {c} {s} {first} {last} {start} {
 
 -- a record has no argument of a number that is not below their count
 pub no_argument : (f : Format) (source : List ℕ) (place number : ℕ) → 8 ≤ length source → (layout_of (word_at f.order source 0)).count ≤ number
-    → argument_in f source place (content_of f source place) number ≡ NoArgument 4
+    → argument_in f source place (content_of f source place) number ≡ Err ForeignState
 unfolding argument_in
 no_argument f source place number h k = go (content_of f source place) (content_is f source place h)
   where
     go : (c : Content) → ContentIs f source place c
-        → on_report c (NoArgument 4) (λ e. pick (leb e.count number) (NoArgument 4) (numbered_of f number (drop (e.arguments - place) source) e.arguments))
-        ≡ NoArgument 4
+        → on_report c (Err ForeignState) (λ e. pick (leb e.count number) (Err ForeignState) (numbered_of f number (drop (e.arguments - place) source) e.arguments))
+        ≡ Err ForeignState
     go _ (is_refused number n) = refl
     go _ (is_magic e) = refl
     go _ (is_provider_info t k short room) = refl

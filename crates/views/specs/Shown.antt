@@ -1,5 +1,5 @@
 -- What references are shown as in an event and in an argument, after "The list of items" and number 4 of document 01.
-use Rattle.std.specs.Prelude.{ℕ, ◌+◌, [], List, ◌∷◌, Bool, true, false, eqb}
+use Rattle.std.specs.Prelude.{ℕ, ◌+◌, [], List, ◌∷◌, Bool, true, false, Option, eqb}
 use Rattle.words.specs.Word.{pick, word_at}
 use Rattle.format.specs.declared.Format.{Format}
 use Rattle.format.specs.declared.Reference.{Reference}
@@ -8,7 +8,6 @@ use Rattle.arguments.specs.declared.Value.{Value}
 use Rattle.arguments.specs.declared.Value.TheVariants.{Scalar, Text as ValueText}
 use Rattle.records.specs.declared.Lookup.{Lookup}
 use Rattle.records.specs.declared.Report.{Report}
-use Rattle.contexts.specs.declared.Provider.{Provider}
 use Rattle.contexts.specs.declared.State.{State}
 use Rattle.contexts.specs.Context.{provider_of, rate_of}
 use Rattle.tables.specs.declared.Resolved.{Resolved}
@@ -54,7 +53,7 @@ shown_stream (Index index) = record { place = 0; length = 0 }
 
 -- "An event item holds its provider id or none, type, timestamp, the rate in force, process and thread (or unresolved), category, name,
 -- arguments, and extra word."
-abbrev pub shown_at : Format → List ℕ → (place : ℕ) → Provider → (rate : ℕ) → Report → Resolved → Resolved → Resolved → ShownReport
+abbrev pub shown_at : Format → List ℕ → (place : ℕ) → Option ℕ → (rate : ℕ) → Report → Resolved → Resolved → Resolved → ShownReport
 shown_at f archive place provider rate r a b c =
     record {
       place = place;

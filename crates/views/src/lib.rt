@@ -4,8 +4,6 @@
 
 ghost use Rattle.std.specs.Prelude.{◌≡◌, ◌+◌, ◌-◌, ◌^◌, ◌<◌, ◌≤◌, true, length};
 ghost use Rattle.words.specs.Word.{word_at};
-ghost use Rattle.tables.specs.Table.{table_words};
-ghost use Rattle.tables.specs.Models.Entries.{FormatFits};
 ghost use Rattle.arguments.specs.Argument.{arguments_of};
 ghost use Rattle.records.specs.Layout.{layout_of, report_of};
 ghost use Rattle.records.specs.Record.{content_of, record_at};
@@ -14,11 +12,10 @@ ghost use Rattle.views.specs.Models.Bounds.{Whole, ThreadInside, ReferentInside}
 ghost use Rattle.views.specs.Models.Seen.{searched_of, seen_found, seen_of};
 ghost use Rattle.views.specs.Models.Numbered.{argument_in};
 
-use arguments::{Argued, Scalar, Sought, Texts};
-use contexts::Provider;
-use format::{Format, Reference};
-use records::{Content, Fields, Last, Layout, Own, Report};
-use tables::Resolved;
+use arguments::{Argued, Scalar};
+use format::{Format, Reason, Reference};
+use records::{Content, Layout, Own, Report};
+use tables::{Registrations, Resolved};
 
 // A text by its place and length in the archive, or its index where nothing is set for it.
 #[derive(Clone, Copy)]
@@ -53,7 +50,7 @@ pub enum ShownReferent {
 #[derive(Clone, Copy)]
 pub struct ShownReport {
     pub place: usize,
-    pub provider: Provider,
+    pub provider: Option<u32>,
     pub rate: u64,
     pub own: Own,
     pub first: ShownReferent,
@@ -76,18 +73,12 @@ pub struct ShownArgument {
     pub value: ShownValue,
 }
 
-// What a step sees at a record that refers to texts and threads: the number that it is refused by, or the record as it is shown.
+// Where so many arguments end, and whether every entry that they are looked up in belongs. One that does not is a flag and no refusal:
+// what an argument behind it is refused by comes before it.
 #[derive(Clone, Copy)]
-pub enum Seen {
-    Refused(u8),
-    Report(ShownReport),
-}
-
-// Where so many arguments end, and whether every entry that they are looked up in belongs.
-#[derive(Clone, Copy)]
-pub enum Searched {
-    Refused(u8),
-    End { at: usize, found: bool },
+pub struct Searched {
+    pub at: usize,
+    pub found: bool,
 }
 
 pub fn is_bad(r: Resolved) -> bool
@@ -117,56 +108,42 @@ fn shown_thread(f: Format, archive: &[u8], r: Resolved) -> ShownThread
     requires { ThreadInside (length archive.now) r }
     ensures { result ≡ shown_thread f archive.now r }
 {
-    let order = f.order;
     match r {
         Resolved::Bad => ShownThread::Unresolved { index: 0 },
         Resolved::Known { place, length: _ } => ShownThread::Words {
-            process: words::word(order, archive, place),
-            thread: words::word(order, archive, place + 8),
+            process: words::word(f.order, archive, place),
+            thread: words::word(f.order, archive, place + 8),
         },
         Resolved::Unresolved { index } => ShownThread::Unresolved { index },
     }
 }
 
-// Where so many arguments end, and whether every entry that they are looked up in belongs. One that does not is no reason
-// to stop: what an argument behind it is refused by comes before it.
+// So many arguments are walked over, and what they refer to is looked up.
 fn search_arguments(
-    f: Format,
-    archive: &[u8],
-    tables: &[u32],
-    context: usize,
-    until: usize,
+    registrations: &Registrations,
     part: &[u8],
     place: usize,
     count: usize,
-) -> Searched
-    requires { FormatFits f × (length archive.now < 2 ^ 62) × (table_words f ≤ length tables.now) × (context ≤ 8) × (place + length part.now < 2 ^ 63) }
-    ensures { result ≡ searched_of f archive.now tables.now context until (arguments_of f count part.now place) }
+) -> Result<Searched, Reason>
+    requires { place + length part.now < 2 ^ 63 }
+    ensures { result ≡ searched_of registrations.now.format registrations.now.archive.now registrations.now.words.now registrations.now.context registrations.now.until (arguments_of registrations.now.format count part.now place) }
 {
+    let f = registrations.format;
     let mut rest = part;
     let mut at = place;
-    let mut left = count;
     let mut found = true;
-    while 0 < left {
-        let texts = arguments::texts_of(f, rest, at);
-        match texts {
-            Texts::Refused(number) => {
-                return Searched::Refused(number);
-            }
-            Texts::Texts { name, value, size } => {
-                if is_bad(tables::resolve(f, archive, tables, context, 2, name, until)) {
-                    found = false;
-                }
-                if is_bad(tables::resolve(f, archive, tables, context, 2, value, until)) {
-                    found = false;
-                }
-                rest = &rest[size..];
-                at += size;
-                left -= 1;
-            }
+    for _ in 0..count {
+        let texts = arguments::texts_of(f, rest, at)?;
+        if is_bad(registrations.resolve(2, texts.name)) {
+            found = false;
         }
+        if is_bad(registrations.resolve(2, texts.value)) {
+            found = false;
+        }
+        rest = &rest[texts.size..];
+        at += texts.size;
     }
-    Searched::End { at, found }
+    Ok(Searched { at, found })
 }
 
 // What a record refers to, as it is shown, by its table.
@@ -195,26 +172,26 @@ fn shown_stream(stream: Reference) -> ShownStream
 
 // A record that refers to texts and threads, as it is shown.
 fn shown_report(
-    f: Format,
-    archive: &[u8],
-    place: usize,
-    provider: Provider,
+    registrations: &Registrations,
+    provider: Option<u32>,
     rate: u64,
     report: Report,
     a: Resolved,
     b: Resolved,
     c: Resolved,
 ) -> ShownReport
-    requires { ReferentInside (length archive.now) report.first.table a × ReferentInside (length archive.now) report.second.table b × ReferentInside (length archive.now) report.third.table c }
-    ensures { result ≡ shown_at f archive.now place provider rate report a b c }
+    requires { ReferentInside (length registrations.now.archive.now) report.first.table a × ReferentInside (length registrations.now.archive.now) report.second.table b × ReferentInside (length registrations.now.archive.now) report.third.table c }
+    ensures { result ≡ shown_at registrations.now.format registrations.now.archive.now registrations.now.until provider rate report a b c }
 {
+    let f = registrations.format;
+    let archive = registrations.archive;
     let own = report.own;
     let first = report.first;
     let second = report.second;
     let third = report.third;
     let stream = report.stream;
     ShownReport {
-        place,
+        place: registrations.until,
         provider,
         rate,
         own,
@@ -227,20 +204,17 @@ fn shown_report(
     }
 }
 
-// What a step sees at a record in which this was read, whose arguments' entries all belong if `found`.
+// What a step sees at the record that all is registered before, in which this was read, and whose arguments' entries all
+// belong if `found`: a flag, since one walk over them has told it for the whole record.
 fn see_referents(
-    f: Format,
-    archive: &[u8],
-    tables: &[u32],
-    context: usize,
-    place: usize,
-    provider: Provider,
+    registrations: &Registrations,
+    provider: Option<u32>,
     rate: u64,
     report: Report,
     found: bool,
-) -> Seen
-    requires { FormatFits f × (length archive.now < 2 ^ 62) × (table_words f ≤ length tables.now) × (context ≤ 8) × (place ≤ length archive.now) × ((record_at f archive.now place).content ≡ Content.Report report) }
-    ensures { result ≡ seen_found f archive.now tables.now context place provider rate report found }
+) -> Result<ShownReport, u8>
+    requires { (registrations.now.until ≤ length registrations.now.archive.now) × ((record_at registrations.now.format registrations.now.archive.now registrations.now.until).content ≡ Content.Report report) }
+    ensures { result ≡ seen_found registrations.now.format registrations.now.archive.now registrations.now.words.now registrations.now.context registrations.now.until provider rate report found }
 {
     let first = report.first;
     let second = report.second;
@@ -248,130 +222,97 @@ fn see_referents(
     let one = first.reference;
     let two = second.reference;
     let three = third.reference;
-    let a = tables::resolve(f, archive, tables, context, first.table, one, place);
-    let b = tables::resolve(f, archive, tables, context, second.table, two, place);
-    let c = tables::resolve(f, archive, tables, context, third.table, three, place);
+    let a = registrations.resolve(first.table, one);
+    let b = registrations.resolve(second.table, two);
+    let c = registrations.resolve(third.table, three);
     if is_bad(a) {
-        return Seen::Refused(4);
+        return Err(Reason::ForeignState.number());
     }
     if is_bad(b) {
-        return Seen::Refused(4);
+        return Err(Reason::ForeignState.number());
     }
     if is_bad(c) {
-        return Seen::Refused(4);
+        return Err(Reason::ForeignState.number());
     }
     if found {
-        return Seen::Report(shown_report(f, archive, place, provider, rate, report, a, b, c));
+        return Ok(shown_report(registrations, provider, rate, report, a, b, c));
     }
-    Seen::Refused(4)
+    Err(Reason::ForeignState.number())
 }
 
-// What a step sees at the record that is `source`, whole, at a place, and refers to texts and threads. Its arguments are
-// walked over once.
+// What a step sees at the record that is `source`, whole, at the place that all is registered before, and refers to texts and
+// threads. Its arguments are walked over once. What it is refused by is a number and no Reason, since the definition, `seen_of`,
+// is one of any content.
 pub fn see_report(
-    f: Format,
-    archive: &[u8],
-    tables: &[u32],
-    context: usize,
-    place: usize,
-    provider: Provider,
+    registrations: &Registrations,
+    provider: Option<u32>,
     rate: u64,
     source: &[u8],
-) -> Seen
-    requires { FormatFits f × (length archive.now < 2 ^ 62) × (table_words f ≤ length tables.now) × (context ≤ 8) × (place ≤ length archive.now) × (8 ≤ length source.now) × (place + length source.now < 2 ^ 62) × Whole f archive.now place source.now (report_of f source.now place) }
-    ensures { result ≡ seen_of f archive.now tables.now context place provider rate (report_of f source.now place) (place + length source.now) }
+) -> Result<ShownReport, u8>
+    requires { (registrations.now.until ≤ length registrations.now.archive.now) × (8 ≤ length source.now) × (registrations.now.until + length source.now < 2 ^ 62) × Whole registrations.now.format registrations.now.archive.now registrations.now.until source.now (report_of registrations.now.format source.now registrations.now.until) }
+    ensures { result ≡ seen_of registrations.now.format registrations.now.archive.now registrations.now.words.now registrations.now.context registrations.now.until provider rate (report_of registrations.now.format source.now registrations.now.until) (registrations.now.until + length source.now) }
 {
-    let order = f.order;
-    let layout = records::layout_of(words::word(order, source, 0));
-    let fields = records::take_fields(f, layout, source, place);
-    match fields {
-        Fields::Refused(number) => Seen::Refused(number),
-        Fields::Fields {
-            first,
-            second,
-            third,
-            stream,
-            next,
-        } => {
-            let from = next - place;
-            let searched = search_arguments(
-                f,
-                archive,
-                tables,
-                context,
-                place,
-                &source[from..],
-                next,
-                layout.count,
-            );
-            match searched {
-                Searched::Refused(number) => Seen::Refused(number),
-                Searched::End { at, found } => {
-                    let more = records::last_word(f, source, place, at, layout.behind);
-                    match more {
-                        Last::Refused(number) => Seen::Refused(number),
-                        Last::Word(last) => {
-                            let report = records::report_read(
-                                f, layout, source, first, second, third, stream, next, last,
-                            );
-                            see_referents(
-                                f, archive, tables, context, place, provider, rate, report, found,
-                            )
-                        }
-                    }
-                }
-            }
-        }
-    }
+    let f = registrations.format;
+    let place = registrations.until;
+    let layout = records::layout_of(words::word(f.order, source, 0));
+    let fields = records::take_fields(f, layout, source, place)?;
+    let next = fields.next;
+    let from = next - place;
+    let rest = &source[from..];
+    let searched = search_arguments(registrations, rest, next, layout.count)?;
+    let last = records::last_word(f, source, place, searched.at, layout.behind)?;
+    let report = records::report_read(
+        f,
+        layout,
+        source,
+        fields.first,
+        fields.second,
+        fields.third,
+        fields.stream,
+        next,
+        last,
+    );
+    let found = searched.found;
+    see_referents(registrations, provider, rate, report, found)
 }
 
 // The argument of this number of the record that is `source`, whole, at a place, and laid out so. Its arguments are walked
 // over once.
-fn take_argument(f: Format, layout: Layout, source: &[u8], at: usize, number: usize) -> Argued
+fn take_argument(
+    f: Format,
+    layout: Layout,
+    source: &[u8],
+    at: usize,
+    number: usize,
+) -> Result<Argued, Reason>
     requires { (layout ≡ layout_of (word_at f.order source.now 0)) × (number < layout.count) × (8 ≤ length source.now) × (at + length source.now < 2 ^ 62) }
     ensures { result ≡ argument_in f source.now at (report_of f source.now at) number }
 {
-    let fields = records::take_fields(f, layout, source, at);
-    match fields {
-        Fields::Refused(_) => Argued::Refused(4),
-        Fields::Fields {
-            first: _,
-            second: _,
-            third: _,
-            stream: _,
-            next,
-        } => {
-            let from = next - at;
-            let sought = arguments::seek(f, &source[from..], next, layout.count, number);
-            match sought {
-                Sought::Refused(_) => Argued::Refused(4),
-                Sought::End { at: end, start } => {
-                    let more = records::last_word(f, source, at, end, layout.behind);
-                    match more {
-                        Last::Refused(_) => Argued::Refused(4),
-                        Last::Word(_) => {
-                            let before = start - at;
-                            arguments::argument_of(f, &source[before..], start)
-                        }
-                    }
-                }
-            }
-        }
-    }
+    let Ok(fields) = records::take_fields(f, layout, source, at) else {
+        return Err(Reason::ForeignState);
+    };
+    let from = fields.next - at;
+    let Ok(sought) = arguments::seek(f, &source[from..], fields.next, layout.count, number) else {
+        return Err(Reason::ForeignState);
+    };
+    let Ok(_) = records::last_word(f, source, at, sought.at, layout.behind) else {
+        return Err(Reason::ForeignState);
+    };
+    let before = sought.start - at;
+    arguments::argument_of(f, &source[before..], sought.start)
 }
 
-// The argument of this number of the record that is `source`, whole, at a place, or number 4 where there is none.
-pub fn find_argument(f: Format, source: &[u8], at: usize, number: usize) -> Argued
+// The argument of this number of the record that is `source`, whole, at a place, if there is one.
+pub fn find_argument(f: Format, source: &[u8], at: usize, number: usize) -> Result<Argued, Reason>
     requires { (8 ≤ length source.now) × (at + length source.now < 2 ^ 62) }
     ensures { result ≡ argument_in f source.now at (content_of f source.now at) number }
 {
-    let order = f.order;
-    let layout = records::layout_of(words::word(order, source, 0));
+    let layout = records::layout_of(words::word(f.order, source, 0));
     if layout.read {
         if layout.count <= number {
-            return Argued::Refused(4);
+            return Err(Reason::ForeignState);
         }
         return take_argument(f, layout, source, at, number);
     }
-    Argued::Refused(4)
+    Err(Reason::ForeignState)
 }

@@ -116,3 +116,7 @@ zero_zeros (suc n) = zero_zeros n
 pub zero_turn : (bytes : List ℕ) (i : ℕ) → i < length bytes
     → all_zero (drop i bytes) ≡ (eqb (get_or bytes i 0) 0 && all_zero (drop (i + 1) bytes))
 zero_turn bytes i h = rw (drop-cons bytes i 0 h, add-one)
+
+-- behind the last byte all is zero
+pub zero_end : (bytes : List ℕ) (i : ℕ) → length bytes ≤ i → all_zero (drop i bytes) ≡ true
+zero_end bytes i h = rw (drop_of_length-le bytes {i = i} h)

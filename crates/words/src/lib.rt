@@ -23,14 +23,9 @@ fn first_word(bytes: &[u8]) -> u64
     requires { 8 ≤ length bytes.now }
     ensures { result ≡ little_at bytes.now 0 }
 {
-    byte(bytes, 0)
-        | (byte(bytes, 1) << 8)
-        | (byte(bytes, 2) << 16)
-        | (byte(bytes, 3) << 24)
-        | (byte(bytes, 4) << 32)
-        | (byte(bytes, 5) << 40)
-        | (byte(bytes, 6) << 48)
-        | (byte(bytes, 7) << 56)
+    u64::from_le_bytes([
+        bytes[0], bytes[1], bytes[2], bytes[3], bytes[4], bytes[5], bytes[6], bytes[7],
+    ])
 }
 
 // The number of the eight bytes at a byte place, the lowest first.
@@ -51,35 +46,13 @@ pub fn word(order: Order, bytes: &[u8], place: usize) -> u64
     }
 }
 
-fn byte_of(word: u64, low: u32) -> u8
-    requires { low < 64 }
-    ensures { result ≡ field low (low + 7) word }
-{
-    ((word >> low) & 0xff) as u8
-}
-
-// The eight bytes of a number at a byte place, the lowest first.
-fn put_little(out: &mut [u8], place: usize, word: u64)
-    requires { place + 8 ≤ length out.old }
-    ensures { out.new ≡ overwritten out.old place (bytes_of 8 word) }
-{
-    out[place] = byte_of(word, 0);
-    out[place + 1] = byte_of(word, 8);
-    out[place + 2] = byte_of(word, 16);
-    out[place + 3] = byte_of(word, 24);
-    out[place + 4] = byte_of(word, 32);
-    out[place + 5] = byte_of(word, 40);
-    out[place + 6] = byte_of(word, 48);
-    out[place + 7] = byte_of(word, 56);
-}
-
 // The word, written at a byte place. Every word of an output is written here.
 pub fn put_word(order: Order, out: &mut [u8], place: usize, word: u64)
     requires { place + 8 ≤ length out.old }
     ensures { out.new ≡ overwritten out.old place (word_bytes order word) }
 {
     match order {
-        Order::Little => put_little(out, place, word),
+        Order::Little => out[place..place + 8].copy_from_slice(&word.to_le_bytes()),
     }
 }
 
@@ -103,23 +76,14 @@ pub fn with_field(word: u64, low: u32, high: u32, value: u64) -> u64
 pub fn signed_half(word: u64) -> i32
     ensures { result ≡ signed 32 (field 32 63 word) }
 {
-    let half = word >> 32;
-    if half < 0x8000_0000 {
-        half as i32
-    } else {
-        -1 - ((0xffff_ffff - half) as i32)
-    }
+    ((word >> 32) as u32).cast_signed()
 }
 
 // A word as a signed number.
 pub fn signed_word(word: u64) -> i64
     ensures { result ≡ signed 64 word }
 {
-    if word < 0x8000_0000_0000_0000 {
-        word as i64
-    } else {
-        -1 - ((0xffff_ffff_ffff_ffff - word) as i64)
-    }
+    word.cast_signed()
 }
 
 // How many words a stream of n bytes takes.
@@ -129,67 +93,29 @@ pub fn stream_words(n: usize) -> usize
     n / 8 + (n % 8 + 7) / 8
 }
 
-fn copy(out: &mut [u8], place: usize, bytes: &[u8])
-    requires { place + length bytes.now ≤ length out.old }
-    ensures { out.new ≡ overwritten out.old place bytes.now }
-{
-    let mut i = 0;
-    while i < bytes.len() {
-        out[place + i] = bytes[i];
-        i += 1;
-    }
-}
-
-fn fill_zero(out: &mut [u8], place: usize, n: usize)
-    requires { place + n ≤ length out.old }
-    ensures { out.new ≡ overwritten out.old place (replicate n 0) }
-{
-    let mut i = 0;
-    while i < n {
-        out[place + i] = 0;
-        i += 1;
-    }
-}
-
 // The stream of these bytes, written at a byte place with its padding.
 pub fn put_stream(out: &mut [u8], place: usize, bytes: &[u8])
     requires { place + 8 * stream_words (length bytes.now) ≤ length out.old }
     ensures { out.new ≡ overwritten out.old place (padded bytes.now) }
 {
-    let n = bytes.len();
-    copy(out, place, bytes);
-    fill_zero(out, place + n, stream_words(n) * 8 - n);
+    let end = place + bytes.len();
+    out[place..end].copy_from_slice(bytes);
+    out[end..place + 8 * stream_words(bytes.len())].fill(0);
 }
 
 // The part of some bytes that has this place and length, or the empty part where that is not inside them.
+#[tactic(auto, using(std::proofs::lemmas::Bool::Decides::nat_tests), unfolding(crate::specs::Stream::part_of))]
 pub fn part(bytes: &[u8], place: usize, length: usize) -> &[u8]
     ensures { result.now ≡ part_of bytes.now place length }
 {
-    if place <= bytes.len() {
-        if length <= bytes.len() - place {
-            return &bytes[place..place + length];
-        }
-        return &bytes[0..0];
+    if place <= bytes.len() && length <= bytes.len() - place {
+        return &bytes[place..place + length];
     }
     &bytes[0..0]
 }
 
-// Whether two byte slices of one length are the same, byte by byte.
-fn same_each(a: &[u8], b: &[u8]) -> bool
-    requires { length a.now ≡ length b.now }
-    ensures { result ≡ same_bytes a.now b.now }
-{
-    let mut i = 0;
-    while i < a.len() {
-        if a[i] != b[i] {
-            return false;
-        }
-        i += 1;
-    }
-    true
-}
-
-// Whether two byte slices are the same: word by word, where the last word may overlap the one before it.
+// Whether two byte slices are the same: word by word, where the last word may overlap the one before it. `==` alone takes more instructions
+// where they have 8 to 32 bytes, as most texts have.
 pub fn same_bytes(a: &[u8], b: &[u8]) -> bool
     ensures { result ≡ same_bytes a.now b.now }
 {
@@ -197,39 +123,33 @@ pub fn same_bytes(a: &[u8], b: &[u8]) -> bool
         return false;
     }
     if a.len() < 8 {
-        return same_each(a, b);
+        return a == b;
     }
-    let last = a.len() - 8;
-    let mut i = 0;
-    while i < last {
-        if little_word(a, i) != little_word(b, i) {
+    for i in 0..(a.len() - 1) / 8 {
+        if little_word(a, 8 * i) != little_word(b, 8 * i) {
             return false;
         }
-        i += 8;
     }
+    let last = a.len() - 8;
     little_word(a, last) == little_word(b, last)
 }
 
-// Whether both of two tests hold.
+// Whether both of two tests hold. Both are made before, so that neither is left out.
 pub fn both(a: bool, b: bool) -> bool
     ensures { result ≡ (a && b) }
 {
-    if a {
-        return b;
-    }
-    false
+    a && b
 }
 
-// Whether all bytes are zero.
+// Whether all bytes are zero. A loop, as the law of `all` over a test of one's own takes more text than the loop.
+#[tactic(auto, using(crate::proofs::Same::zero_turn, crate::proofs::Same::zero_end))]
 pub fn all_zero(bytes: &[u8]) -> bool
     ensures { result ≡ all_zero bytes.now }
 {
-    let mut i = 0;
-    while i < bytes.len() {
-        if bytes[i] != 0 {
+    for byte in bytes {
+        if *byte != 0 {
             return false;
         }
-        i += 1;
     }
     true
 }

@@ -4,9 +4,10 @@ use mathlib.Core.Path.{sym, ◌∙◌}
 use Prim.Native.Nat.{◌+◌, ◌*◌}
 use lib.ListN.{length, take}
 use lib.Seq.{length-take-le}
+use borrow.Author.Tests.{eq-eqb, ne_eqb, lt-ltb, le-ltb}
+use Rattle.std.proofs.lemmas.Result.{err_from_is_err_and}
 use Rattle.format.proofs.Parts.{text_taken}
 use Rattle.arguments.proofs.Arguments.{name_then_value}
-use borrow.Author.Tests.{eq-eqb, ne_eqb, lt-ltb, le-ltb}
 use Rattle.arguments.specs.Argument.{argument_of}
 use Rattle.arguments.proofs.argument_of.Goals as goal
 
@@ -28,28 +29,20 @@ returns-then-rest-size c = simp (
   le-ltb _ _ c.if-rest-lt8.false,
 )
 
-pub slice_bounds-argument-end : goal.slice_bounds-argument-end
-slice_bounds-argument-end c =
-    sym (length-take-le (8 * c.field.result) c.args.rest.now (omega (arith, c.if-rest-size.false)))
-
-pub take_text-named-requires : goal.take_text-named-requires
-take_text-named-requires c =
-    let long = length-take-le (8 * c.field.result) c.args.rest.now (omega (arith, c.if-rest-size.false)) in
-    omega (arith, long, c.field-2.ensures)
-
-pub take_value-valued-requires : goal.take_value-valued-requires
-take_value-valued-requires c =
+pub take_value-requires : goal.take_value-requires
+take_value-requires c =
     let own = take (8 * c.field.result) c.args.rest.now in
     let long = length-take-le (8 * c.field.result) c.args.rest.now (omega (arith, c.if-rest-size.false)) in
-    let m = text_taken c.args.f c.field-2.result (c.args.place + 8) own c.args.place c.in-Part.name c.in-Part.next
-    (omega (arith, long)) (sym c.take_text-named.ensures ∙ c.in-Part.is) in omega (arith, long, m.0, m.1)
+    let m = text_taken c.args.f c.field-2.result (c.args.place + 8) own c.args.place c.in_ok-name.name.reference c.in_ok-name.name.next
+    (omega (arith, long)) (sym c.take_text.ensures ∙ c.in_ok-name.was) in omega (arith, long, m.0, m.1)
 
-pub returns-in-Refused : goal.returns-in-Refused
+pub returns-in_err-name : goal.returns-in_err-name
 unfolding argument_of
-returns-in-Refused c =
-    simp (
-      c.in-Refused.is,
-      ← c.take_text-named.ensures,
+returns-in_err-name c =
+    let by = err_from_is_err_and c.from_residual.result c.from_residual.ensures.1 in
+    rw (by.1, by.2) simp (
+      c.in_err-name.was,
+      ← c.take_text.ensures,
       ← c.field-2.ensures,
       le-ltb (length c.args.rest.now) (8 * c.field.result) (omega (arith, c.if-rest-size.false)),
       ne_eqb _ _ c.if-size-eq0.false,
@@ -59,14 +52,15 @@ returns-in-Refused c =
       name_then_value,
     )
 
-pub returns-in-Refused-valued : goal.returns-in-Refused-valued
+pub returns-in_err-value : goal.returns-in_err-value
 unfolding argument_of
-returns-in-Refused-valued c =
-    simp (
-      c.in-Refused-valued.is,
-      ← c.take_value-valued.ensures,
-      c.in-Part.is,
-      ← c.take_text-named.ensures,
+returns-in_err-value c =
+    let by = err_from_is_err_and c.from_residual-in_err-value.result c.from_residual-in_err-value.ensures.1 in
+    rw (by.1, by.2) simp (
+      c.in_err-value.was,
+      ← c.take_value.ensures,
+      c.in_ok-name.was,
+      ← c.take_text.ensures,
       ← c.field-2.ensures,
       le-ltb (length c.args.rest.now) (8 * c.field.result) (omega (arith, c.if-rest-size.false)),
       ne_eqb _ _ c.if-size-eq0.false,
@@ -76,14 +70,14 @@ returns-in-Refused-valued c =
       name_then_value,
     )
 
-pub returns-in-Value : goal.returns-in-Value
+pub returns : goal.returns
 unfolding argument_of
-returns-in-Value c =
+returns c =
     simp (
-      c.in-Value.is,
-      ← c.take_value-valued.ensures,
-      c.in-Part.is,
-      ← c.take_text-named.ensures,
+      c.in_ok-value.was,
+      ← c.take_value.ensures,
+      c.in_ok-name.was,
+      ← c.take_text.ensures,
       ← c.field-2.ensures,
       le-ltb (length c.args.rest.now) (8 * c.field.result) (omega (arith, c.if-rest-size.false)),
       ne_eqb _ _ c.if-size-eq0.false,

@@ -1,12 +1,12 @@
 -- `arguments::holds_word` meets its contract: each answer is what the definition gives under the tests that led there. Assumes nothing.
-use borrow.Author.Tests.{lt-ltb, le-ltb}
+use borrow.Author.Tests.{lt-ltb, le-ltb, lt-leb}
 use Rattle.arguments.specs.Argument.{holds_word}
 use Rattle.arguments.proofs.holds_word.Goals as goal
 
-pub returns-then-variant-lt3 : goal.returns-then-variant-lt3
+pub returns-then-variant-ge3 : goal.returns-then-variant-ge3
 unfolding holds_word
-returns-then-variant-lt3 c = simp (lt-ltb _ _ c.if-variant-lt3.true)
+returns-then-variant-ge3 c = simp (le-ltb _ _ c.if-variant-ge3.true)
 
-pub returns : goal.returns
+pub returns-else-variant-ge3 : goal.returns-else-variant-ge3
 unfolding holds_word
-returns c = simp (le-ltb _ _ c.if-variant-lt3.false)
+returns-else-variant-ge3 c = simp (lt-ltb _ _ c.if-variant-ge3.false, lt-leb _ _ c.if-variant-ge3.false)

@@ -1,18 +1,20 @@
 -- `arguments::take_value` meets its contract: each answer is what the definition gives under the tests that led there. Assumes nothing.
 use borrow.Author.Tests.{eq-eqb, ne_eqb, lt-ltb, le-ltb}
-use Rattle.arguments.specs.Models.Reading.{take_value}
+use Rattle.std.proofs.lemmas.Result.{err_from_is_err_and}
 use Rattle.format.specs.Part.{take_parts, take_part, take_words}
+use Rattle.arguments.specs.Models.Reading.{take_value}
 use Rattle.arguments.proofs.take_value.Goals as goal
 
-pub returns-in-Refused : goal.returns-in-Refused
-unfolding take_value take_parts take_part take_words
-returns-in-Refused c =
-    simp (c.in-Refused.is, ← c.take_text-text.ensures, ← c.field.ensures, eq-eqb _ _ c.if-variant-eq6.true, ← c.field-variant.ensures)
+pub returns-in_err-text : goal.returns-in_err-text
+unfolding take_value take_parts take_part
+returns-in_err-text c =
+    let by = err_from_is_err_and c.from_residual.result c.from_residual.ensures.1 in
+    rw (by.1, by.2) simp (c.in_err-text.was, ← c.take_text.ensures, ← c.field.ensures, eq-eqb _ _ c.if-variant-eq6.true, ← c.field-variant.ensures)
 
-pub returns-in-Part : goal.returns-in-Part
-unfolding take_value take_parts take_part take_words
-returns-in-Part c =
-    simp (c.in-Part.is, ← c.take_text-text.ensures, ← c.field.ensures, eq-eqb _ _ c.if-variant-eq6.true, ← c.field-variant.ensures)
+pub returns-then-variant-eq6 : goal.returns-then-variant-eq6
+unfolding take_value take_parts take_part
+returns-then-variant-eq6 c =
+    simp (c.in_ok-text.was, ← c.take_text.ensures, ← c.field.ensures, eq-eqb _ _ c.if-variant-eq6.true, ← c.field-variant.ensures)
 
 pub returns-then-place-argument : goal.returns-then-place-argument
 unfolding take_value take_parts take_part take_words
@@ -39,6 +41,6 @@ returns-then-holds_word c =
     )
 
 pub returns : goal.returns
-unfolding take_value take_parts take_part take_words
+unfolding take_value take_parts
 returns c =
     simp (← c.header_scalar.ensures, c.if-holds_word.false, ← c.holds_word.ensures, ne_eqb _ _ c.if-variant-eq6.false, ← c.field-variant.ensures)

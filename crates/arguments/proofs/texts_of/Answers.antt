@@ -4,9 +4,10 @@ use mathlib.Core.Path.{sym, ◌∙◌}
 use Prim.Native.Nat.{◌+◌, ◌*◌}
 use lib.ListN.{take}
 use lib.Seq.{length-take-le}
+use borrow.Author.Tests.{eq-eqb, ne_eqb, lt-ltb, le-ltb}
+use Rattle.std.proofs.lemmas.Result.{err_from_is_err_and}
 use Rattle.format.proofs.Parts.{text_taken}
 use Rattle.arguments.proofs.Arguments.{name_then_text}
-use borrow.Author.Tests.{eq-eqb, ne_eqb, lt-ltb, le-ltb}
 use Rattle.arguments.proofs.texts_of.Goals as goal
 
 pub returns-then-room-lt8 : goal.returns-then-room-lt8
@@ -31,27 +32,19 @@ returns-then-room-size c = simp (
   name_then_text,
 )
 
-pub slice_bounds-argument-end : goal.slice_bounds-argument-end
-slice_bounds-argument-end c =
-    sym (length-take-le (8 * c.field.result) c.args.rest.now c.if-room-size.false)
-
-pub take_text-named-requires : goal.take_text-named-requires
-take_text-named-requires c =
-    let long = length-take-le (8 * c.field.result) c.args.rest.now c.if-room-size.false in
-    omega (arith, long, c.field-2.ensures)
-
-pub value_text-valued-requires : goal.value_text-valued-requires
-value_text-valued-requires c =
+pub value_text-requires : goal.value_text-requires
+value_text-requires c =
     let own = take (8 * c.field.result) c.args.rest.now in
     let long = length-take-le (8 * c.field.result) c.args.rest.now c.if-room-size.false in
-    let m = text_taken c.args.f c.field-2.result (c.args.place + 8) own c.args.place c.in-Part.name c.in-Part.next
-    (omega (arith, long)) (sym c.take_text-named.ensures ∙ c.in-Part.is) in omega (arith, long, m.0, m.1)
+    let m = text_taken c.args.f c.field-2.result (c.args.place + 8) own c.args.place c.in_ok-name.name.reference c.in_ok-name.name.next
+    (omega (arith, long)) (sym c.take_text.ensures ∙ c.in_ok-name.was) in omega (arith, long, m.0, m.1)
 
-pub returns-in-Refused : goal.returns-in-Refused
-returns-in-Refused c =
-    simp (
-      c.in-Refused.is,
-      ← c.take_text-named.ensures,
+pub returns-in_err-name : goal.returns-in_err-name
+returns-in_err-name c =
+    let by = err_from_is_err_and c.from_residual.result c.from_residual.ensures.1 in
+    rw (by.1, by.2) simp (
+      c.in_err-name.was,
+      ← c.take_text.ensures,
       ← c.field-2.ensures,
       le-ltb _ _ c.if-room-size.false,
       ne_eqb _ _ c.if-size-eq0.false,
@@ -61,16 +54,16 @@ returns-in-Refused c =
       name_then_text,
     )
 
-pub returns-in-Refused-valued : goal.returns-in-Refused-valued
-returns-in-Refused-valued c =
-    simp (
-      c.in-Refused-valued.is,
-      ← c.value_text-valued.ensures,
-      c.in-Part.is,
-      ← c.take_text-named.ensures,
+pub returns-in_err-value : goal.returns-in_err-value
+returns-in_err-value c =
+    let by = err_from_is_err_and c.from_residual-in_err-value.result c.from_residual-in_err-value.ensures.1 in
+    rw (by.1, by.2) simp (
+      c.in_err-value.was,
+      ← c.value_text.ensures,
+      c.in_ok-name.was,
+      ← c.take_text.ensures,
       ← c.field-2.ensures,
-      le-ltb _ _
-          c.if-room-size.false,
+      le-ltb _ _ c.if-room-size.false,
       ne_eqb _ _ c.if-size-eq0.false,
       ← c.field.ensures,
       ← c.word-header.ensures,
@@ -78,16 +71,15 @@ returns-in-Refused-valued c =
       name_then_text,
     )
 
-pub returns-in-Text : goal.returns-in-Text
-returns-in-Text c =
+pub returns : goal.returns
+returns c =
     simp (
-      c.in-Text.is,
-      ← c.value_text-valued.ensures,
-      c.in-Part.is,
-      ← c.take_text-named.ensures,
+      c.in_ok-value.was,
+      ← c.value_text.ensures,
+      c.in_ok-name.was,
+      ← c.take_text.ensures,
       ← c.field-2.ensures,
-      le-ltb _ _
-          c.if-room-size.false,
+      le-ltb _ _ c.if-room-size.false,
       ne_eqb _ _ c.if-size-eq0.false,
       ← c.field.ensures,
       ← c.word-header.ensures,

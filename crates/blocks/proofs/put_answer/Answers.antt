@@ -4,7 +4,7 @@ use Rattle.blocks.proofs.put_answer.Goals as goal
 
 pub returns-in-End : goal.returns-in-End
 unfolding answer_numbers
-returns-in-End c = rw c.in-End.is c.put_short.ensures
+returns-in-End c = rw (c.in-End.is, ← c.from.ensures) c.put_short.ensures
 
 pub returns-in-Nothing : goal.returns-in-Nothing
 unfolding answer_numbers
@@ -16,15 +16,15 @@ returns-in-Magic c = rw c.in-Magic.is c.put_short-in-Magic.ensures
 
 pub returns-in-ProviderInfo : goal.returns-in-ProviderInfo
 unfolding answer_numbers
-returns-in-ProviderInfo c = rw c.in-ProviderInfo.is c.put_short-in-ProviderInfo.ensures
+returns-in-ProviderInfo c = rw (c.in-ProviderInfo.is, ← c.from-in-ProviderInfo.ensures) c.put_short-in-ProviderInfo.ensures
 
 pub returns-in-Section : goal.returns-in-Section
 unfolding answer_numbers
-returns-in-Section c = rw c.in-Section.is c.put_short-in-Section.ensures
+returns-in-Section c = rw (c.in-Section.is, ← c.from-in-Section.ensures) c.put_short-in-Section.ensures
 
 pub returns-in-ProviderEvent : goal.returns-in-ProviderEvent
 unfolding answer_numbers
-returns-in-ProviderEvent c = rw c.in-ProviderEvent.is c.put_short-in-ProviderEvent.ensures
+returns-in-ProviderEvent c = rw (c.in-ProviderEvent.is, ← c.from-in-ProviderEvent.ensures, ← c.from-in-ProviderEvent-2.ensures) c.put_short-in-ProviderEvent.ensures
 
 pub returns-in-Initialization : goal.returns-in-Initialization
 unfolding answer_numbers
@@ -35,4 +35,4 @@ returns-in-Report c = rw c.in-Report.is c.put_report.ensures
 
 pub returns-in-Skipped : goal.returns-in-Skipped
 unfolding answer_numbers
-returns-in-Skipped c = rw c.in-Skipped.is c.put_short-in-Skipped.ensures
+returns-in-Skipped c = rw (c.in-Skipped.is, ← c.from-in-Skipped.ensures) c.put_short-in-Skipped.ensures

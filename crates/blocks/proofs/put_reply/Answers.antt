@@ -9,21 +9,23 @@ use Rattle.blocks.specs.Block.{answer_numbers, state_numbers}
 use Rattle.blocks.proofs.Blocks.{length-answer, length_reply, onward, put-none, put_all}
 use Rattle.blocks.proofs.put_reply.Goals as goal
 
--- the clauses, of their product
-by_clause : {A B : Type 0} → A × B → record { value : A; out_after : B }
-by_clause w = record { value = w.0; out_after = w.1 }
-
 pub returns-then-out-lt40 : goal.returns-then-out-lt40
-returns-then-out-lt40 c = by_clause (let few : length c.args.out.now < 40 = omega (arith, c.if-out-lt40.true) in
+returns-then-out-lt40 c =
+    let few : length c.args.out.now < 40 = omega (arith, c.if-out-lt40.true) in
     let numbers = answer_numbers c.args.reply.answer ++ state_numbers c.args.reply.state in
-    (rw (lt-ltb _ _ few), put-none c.args.out.now numbers 40 (length_reply c.args.reply.answer c.args.reply.state) few))
+    record {
+      value = rw (lt-ltb _ _ few);
+      out_after = put-none c.args.out.now numbers 40 (length_reply c.args.reply.answer c.args.reply.state) few;
+    }
 
 pub returns : goal.returns
-returns c = by_clause (let enough : 40 ≤ length c.args.out.now = omega (arith, c.if-out-lt40.false) in
+returns c =
+    let enough : 40 ≤ length c.args.out.now = omega (arith, c.if-out-lt40.false) in
     let answer = answer_numbers c.args.reply.answer in
     let state = state_numbers c.args.reply.state in
     let long = length-answer c.args.reply.answer in
-    let whole =
-    onward c.args.out.now 0 20 answer state (omega arith) (omega (arith, long))
-    c.put_answer.ensures c.put_state.ensures in
-    (rw (le-ltb _ _ enough), whole ∙ put_all c.args.out.now (answer ++ state) 40 (length_reply c.args.reply.answer c.args.reply.state) enough))
+    let whole = onward c.args.out.now 0 20 answer state (omega arith) (omega (arith, long)) c.put_answer.ensures c.put_state.ensures in
+    record {
+      value = rw (le-ltb _ _ enough);
+      out_after = whole ∙ put_all c.args.out.now (answer ++ state) 40 (length_reply c.args.reply.answer c.args.reply.state) enough;
+    }

@@ -1,15 +1,18 @@
--- `put_short` meets its contract: five times four numbers are one writing (twenty).
-use Prim.Native.Nat.{ℕ}
+-- `put_short` meets its contract: zeros right behind four numbers are one writing with them (onward).
+use Prim.Native.Nat.{ℕ, ◌-◌}
 use native.Mathlib.Omega.{arith}
-use mathlib.Core.Path.{refl}
-use mathlib.Core.List.{List, [], ◌∷◌}
-use Rattle.blocks.proofs.Blocks.{twenty}
+use mathlib.Core.Path.{◌≡◌, sym, ap, ◌∙◌}
+use mathlib.Core.List.{◌++◌}
+use lib.ListN.{length, replicate}
+use Rattle.words.specs.Stream.{overwritten}
+use Rattle.blocks.proofs.Blocks.{zeros_written, onward}
+use borrow.Author.Rules.{rules}
 use Rattle.blocks.proofs.put_short.Goals as goal
 
 pub returns : goal.returns
 returns c =
-    let four : List ℕ = c.args.a ∷ c.args.b ∷ c.args.c ∷ c.args.d ∷ [] in
-    let zeros : List ℕ = 0 ∷ 0 ∷ 0 ∷ 0 ∷ [] in
-    twenty c.args.out.now 0 four zeros zeros zeros zeros (omega arith) refl refl refl refl
-    c.put_four.ensures c.put_four-2.ensures c.put_four-3.ensures
-    c.put_four-4.ensures c.put_four-5.ensures
+    let out = c.args.out.now in
+    let long : length c.args.values ≡ 4 = search rules in
+    let rest = zeros_written c.put_four.new.out 4 16 c.fill.new.self (omega arith) (c.fill.ensures.after (λ y h. h)) in
+    onward out 0 4 c.args.values (replicate 16 0) (omega arith) (omega (arith, long)) c.put_four.ensures rest
+    ∙ ap (λ (n : ℕ). overwritten out 0 (c.args.values ++ replicate (20 - n) 0)) (sym long)

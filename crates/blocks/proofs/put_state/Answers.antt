@@ -23,11 +23,11 @@ pub returns : goal.returns
 returns c =
     let one : List ℕ = c.args.s.place ∷ get_or c.args.s.rates 0 0 ∷ get_or c.args.s.rates 1 0 ∷ get_or c.args.s.rates 2 0 ∷ [] in
     let two : List ℕ = get_or c.args.s.rates 3 0 ∷ get_or c.args.s.rates 4 0 ∷ get_or c.args.s.rates 5 0 ∷ get_or c.args.s.rates 6 0 ∷ [] in
-    let three : List ℕ = get_or c.args.s.rates 7 0 ∷ get_or c.args.s.rates 8 0 ∷ c.wide.result ∷ c.wide-2.result ∷ [] in
-    let four : List ℕ = c.wide-3.result ∷ c.wide-4.result ∷ c.wide-5.result ∷ c.wide-6.result ∷ [] in
-    let five : List ℕ = c.wide-7.result ∷ c.wide-8.result ∷ c.args.s.count ∷ c.args.s.current ∷ [] in
+    let three : List ℕ = get_or c.args.s.rates 7 0 ∷ get_or c.args.s.rates 8 0 ∷ c.into.result ∷ c.into-2.result ∷ [] in
+    let four : List ℕ = c.into-3.result ∷ c.into-4.result ∷ c.into-5.result ∷ c.into-6.result ∷ [] in
+    let five : List ℕ = c.into-7.result ∷ c.into-8.result ∷ c.args.s.count ∷ c.args.s.current ∷ [] in
     twenty c.args.out.now 20 one two three four five (omega (arith, c.requires)) refl refl refl refl c.put_four.ensures
     c.put_four-2.ensures c.put_four-3.ensures c.put_four-4.ensures c.put_four-5.ensures
     ∙ ap (overwritten c.args.out.now 20)
     (state-numbers c.args.s _ _ _ _ _ _ _ _
-    c.wide.ensures c.wide-2.ensures c.wide-3.ensures c.wide-4.ensures c.wide-5.ensures c.wide-6.ensures c.wide-7.ensures c.wide-8.ensures)
+    c.into.ensures c.into-2.ensures c.into-3.ensures c.into-4.ensures c.into-5.ensures c.into-6.ensures c.into-7.ensures c.into-8.ensures)

@@ -1,29 +1,19 @@
 -- `same_by_bytes` meets its contract: each turn compares one byte and leaves the bytes behind it (same_turn). Assumes nothing.
-use mathlib.Core.Path.{refl, sym, ◌∙◌}
+use Prim.Native.Nat.{ℕ}
+use mathlib.Core.Path.{sym}
 use lib.ListN.{drop_of_length-le}
-use native.Mathlib.Omega.{arith}
-use borrow.Author.Tests.{eq-eqb, ne_eqb}
+use Rattle.std.proofs.Common.{rules}
 use Rattle.words.proofs.Same.{same_length, same_turn}
-use borrow.Author.Rules.{rules}
 use Rattle.comparisons.proofs.same_by_bytes.Goals as goal
 
 pub returns-then-a-b : goal.returns-then-a-b
 returns-then-a-b c = sym (same_length c.args.a.now c.args.b.now c.if-a-b.true)
 
-pub loop-i-init : goal.loop-i-init
-loop-i-init c = (search rules, refl)
-
 pub returns-then-a-i : goal.returns-then-a-i
-returns-then-a-i c =
-    sym (c.loop-i.invariant.1 ∙ same_turn c.args.a.now c.args.b.now c.loop-i.i (omega arith) (omega arith) ∙ rw (ne_eqb _ _ c.if-a-i.true))
+returns-then-a-i c = search (rules, same_turn)
 
 pub loop-i-preserved : goal.loop-i-preserved
-loop-i-preserved c =
-    (omega arith, c.loop-i.invariant.1 ∙ same_turn c.args.a.now c.args.b.now c.loop-i.i (omega arith) (omega arith) ∙ rw (eq-eqb _ _ c.if-a-i.false))
+loop-i-preserved c = search (rules, same_turn)
 
 pub returns : goal.returns
-returns c =
-    sym (c.loop-i.invariant.1 ∙ rw (
-      drop_of_length-le c.args.a.now {i = c.loop-i.i} (omega arith),
-      drop_of_length-le c.args.b.now {i = c.loop-i.i} (omega arith),
-    ))
+returns c = search (rules, drop_of_length-le {A = ℕ})

@@ -2,7 +2,7 @@
 use mathlib.Core.Path.{ap, ◌∙◌}
 use Rattle.format.specs.Limits.{small_format}
 use Rattle.contexts.specs.declared.State.{State}
-use Rattle.reader.specs.declared.Asked.{Asked}
+use Rattle.reader.specs.Ask.{Asked}
 use Rattle.reader.specs.Ask.{argument_reply}
 use Rattle.blocks.specs.Block.{asked_numbers, put_numbers}
 use Rattle.exports.proofs.inthuchot_argument.Goals as goal

@@ -1,6 +1,6 @@
 -- `inthuchot_repack` meets its contract: what `packer::repack` answers is put.
 use mathlib.Core.Path.{ap, ◌∙◌}
-use Rattle.packer.specs.declared.Packed.{Packed}
+use Rattle.packer.specs.Pack.{Packed}
 use Rattle.blocks.specs.Block.{put_numbers}
 use Rattle.exports.specs.Block.{packed_numbers}
 use Rattle.exports.proofs.inthuchot_repack.Goals as goal

@@ -1,4 +1,5 @@
 -- `first_pass::arguments_unresolved` meets its contract: the loop keeps the definition of the whole equal to that of what is left. Assumes nothing.
+use Prim.Native.Nat.{◌+◌, ◌-◌}
 use mathlib.Core.Path.{◌≡◌, refl, sym, ◌∙◌}
 use lib.ListN.{length-drop}
 use native.Mathlib.Omega.{arith}
@@ -9,72 +10,76 @@ use Rattle.first_pass.specs.Models.Count.{any_unresolved}
 use Rattle.first_pass.proofs.Laws.{unresolved_turn}
 use Rattle.first_pass.proofs.arguments_unresolved.Goals as goal
 
-pub loop-left-init : goal.loop-left-init
-loop-left-init c = (refl, refl)
+pub loop-init : goal.loop-init
+loop-init c =
+    let all : c.args.count - 0 ≡ c.args.count = omega arith in
+    (rw all refl, refl)
 
-pub returns-in-Refused : goal.returns-in-Refused
-returns-in-Refused c =
-    let turn = unresolved_turn c.args.f c.args.archive.now c.args.tables.now c.args.context c.args.until c.loop-left.left
-    c.loop-left.rest.now c.loop-left.at c.loop-left-test.true in
-    sym (c.loop-left.invariant.0 ∙ turn ∙ simp (← c.texts_of-texts.ensures, c.in-Refused.is))
+pub returns-in_default : goal.returns-in_default
+returns-in_default c =
+    let turn = unresolved_turn c.args.registrations.now.format c.args.registrations.now.archive.now c.args.registrations.now.words.now c.args.registrations.now.context c.args.registrations.now.until (c.args.count - c.loop.counter)
+    c.loop.rest.now c.loop.at (omega arith) in
+    sym (c.loop.invariant.0 ∙ turn ∙ simp (← c.texts_of.ensures, c.in_default.is))
 
 pub returns-then-is_unresolved : goal.returns-then-is_unresolved
 returns-then-is_unresolved c =
-    let turn = unresolved_turn c.args.f c.args.archive.now c.args.tables.now c.args.context c.args.until c.loop-left.left
-    c.loop-left.rest.now c.loop-left.at c.loop-left-test.true in
-    sym (c.loop-left.invariant.0 ∙ turn ∙ simp (← c.texts_of-texts.ensures, c.in-Texts.is, ← c.is_unresolved.ensures, c.if-is_unresolved.true))
+    let turn = unresolved_turn c.args.registrations.now.format c.args.registrations.now.archive.now c.args.registrations.now.words.now c.args.registrations.now.context c.args.registrations.now.until (c.args.count - c.loop.counter)
+    c.loop.rest.now c.loop.at (omega arith) in
+    sym (c.loop.invariant.0 ∙ turn ∙ simp (← c.texts_of.ensures, c.in-Ok.is, ← c.is_unresolved.ensures, c.if-is_unresolved.true))
 
 pub returns-then-is_unresolved-2 : goal.returns-then-is_unresolved-2
 returns-then-is_unresolved-2 c =
-    let turn = unresolved_turn c.args.f c.args.archive.now c.args.tables.now c.args.context c.args.until c.loop-left.left
-    c.loop-left.rest.now c.loop-left.at c.loop-left-test.true in
-    sym (c.loop-left.invariant.0 ∙ turn
+    let turn = unresolved_turn c.args.registrations.now.format c.args.registrations.now.archive.now c.args.registrations.now.words.now c.args.registrations.now.context c.args.registrations.now.until (c.args.count - c.loop.counter)
+    c.loop.rest.now c.loop.at (omega arith) in
+    sym (c.loop.invariant.0 ∙ turn
     ∙ simp (
-      ← c.texts_of-texts.ensures,
-      c.in-Texts.is,
+      ← c.texts_of.ensures,
+      c.in-Ok.is,
       ← c.is_unresolved.ensures,
       c.if-is_unresolved.false,
-      ← c.is_unresolved-in-Texts.ensures,
+      ← c.is_unresolved-in-loop.ensures,
       c.if-is_unresolved-2.true,
     ))
 
 pub slice_bounds-rest-count : goal.slice_bounds-rest-count
 slice_bounds-rest-count c =
-    texts_inside c.args.f c.loop-left.rest.now c.loop-left.at c.in-Texts.name c.in-Texts.value c.in-Texts.size (sym
-    c.texts_of-texts.ensures ∙ c.in-Texts.is)
+    texts_inside c.args.registrations.now.format c.loop.rest.now c.loop.at c.in-Ok.texts.name c.in-Ok.texts.value c.in-Ok.texts.size (sym
+    c.texts_of.ensures ∙ c.in-Ok.is)
 
 pub slice_bounds-rest-start : goal.slice_bounds-rest-start
 slice_bounds-rest-start c =
-    texts_inside c.args.f c.loop-left.rest.now c.loop-left.at c.in-Texts.name c.in-Texts.value c.in-Texts.size (sym
-    c.texts_of-texts.ensures ∙ c.in-Texts.is)
+    texts_inside c.args.registrations.now.format c.loop.rest.now c.loop.at c.in-Ok.texts.name c.in-Ok.texts.value c.in-Ok.texts.size (sym
+    c.texts_of.ensures ∙ c.in-Ok.is)
 
 pub overflow_add-at : goal.overflow_add-at
 overflow_add-at c =
-    let s = texts_inside c.args.f c.loop-left.rest.now c.loop-left.at c.in-Texts.name c.in-Texts.value c.in-Texts.size (sym
-    c.texts_of-texts.ensures ∙ c.in-Texts.is) in
-    omega (arith, s, c.loop-left.invariant.1)
+    let s = texts_inside c.args.registrations.now.format c.loop.rest.now c.loop.at c.in-Ok.texts.name c.in-Ok.texts.value c.in-Ok.texts.size (sym
+    c.texts_of.ensures ∙ c.in-Ok.is) in
+    omega (arith, s, c.loop.invariant.1)
 
-pub loop-left-preserved : goal.loop-left-preserved
-loop-left-preserved c =
-    let turn = unresolved_turn c.args.f c.args.archive.now c.args.tables.now c.args.context c.args.until c.loop-left.left
-    c.loop-left.rest.now c.loop-left.at c.loop-left-test.true in
-    let s = texts_inside c.args.f c.loop-left.rest.now c.loop-left.at c.in-Texts.name c.in-Texts.value c.in-Texts.size (sym
-    c.texts_of-texts.ensures ∙ c.in-Texts.is) in (
-      c.loop-left.invariant.0 ∙ turn
+pub loop-preserved : goal.loop-preserved
+loop-preserved c =
+    let turn = unresolved_turn c.args.registrations.now.format c.args.registrations.now.archive.now c.args.registrations.now.words.now c.args.registrations.now.context c.args.registrations.now.until (c.args.count - c.loop.counter)
+    c.loop.rest.now c.loop.at (omega arith) in
+    let s = texts_inside c.args.registrations.now.format c.loop.rest.now c.loop.at c.in-Ok.texts.name c.in-Ok.texts.value c.in-Ok.texts.size (sym
+    c.texts_of.ensures ∙ c.in-Ok.is) in
+    let less : c.args.count - c.loop.counter - 1 ≡ c.args.count - (c.loop.counter + 1) = omega arith in (
+      c.loop.invariant.0 ∙ turn
           ∙ simp (
-            ← c.texts_of-texts.ensures,
-            c.in-Texts.is,
+            ← c.texts_of.ensures,
+            c.in-Ok.is,
             ← c.is_unresolved.ensures,
             c.if-is_unresolved.false,
-            ← c.is_unresolved-in-Texts.ensures,
+            ← c.is_unresolved-in-loop.ensures,
             c.if-is_unresolved-2.false,
+            less,
             part_from,
           ),
-      simp part_from (omega (arith, s, c.loop-left.invariant.1, length-drop c.in-Texts.size c.loop-left.rest.now)),
+      simp part_from (omega (arith, s, c.loop.invariant.1, length-drop c.in-Ok.texts.size c.loop.rest.now)),
     )
 
 pub returns : goal.returns
 unfolding arguments_read any_unresolved
 returns c =
-    let z : c.loop-left.left ≡ 0 = omega arith in
-    sym (c.loop-left.invariant.0 ∙ rw z)
+    let none : c.args.count - c.loop.counter ≡ 0 = omega (arith, c.loop-test.false) in
+    sym (c.loop.invariant.0 ∙ rw none)

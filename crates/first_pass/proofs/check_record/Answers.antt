@@ -6,7 +6,8 @@ use Rattle.records.specs.declared.Content.{Content}
 use Rattle.records.specs.Record.{record_at}
 use Rattle.records.proofs.Lookups.{other_arm}
 use Rattle.tables.specs.Table.{table_words}
-use Rattle.first_pass.specs.Models.Count.{tables_in, slots_in, counts, plain_words, report_checked, report_slots, keeps_to, record_checked, checked_slots}
+use Rattle.first_pass.specs.Models.Count.{tables_in, slots_in, plain_words, report_checked, report_slots, keeps_to, record_checked, checked_slots}
+use Rattle.std.specs.Prelude.{Ok}
 use Rattle.words.specs.Word.{pick}
 use borrow.Enum.Refused.{opened}
 use Rattle.first_pass.proofs.check_record.Goals as goal
@@ -41,7 +42,7 @@ pub returns-in_default : goal.returns-in_default
 unfolding record_checked checked_slots
 returns-in_default c = by_clause (let tables = tables_in c.args.f c.args.room.now in
     let slots = slots_in c.args.f c.args.room.now in
-    let found = other_arm c.args.content (counts 0 (plain_words c.args.content))
+    let found = other_arm c.args.content (Ok (plain_words c.args.content))
     (λ r. report_checked c.args.f c.args.archive.now tables slots c.args.s r c.args.next c.args.clean) (opened c.in_default.in_default-own.keys2) in
     let stay = other_arm c.args.content slots
     (λ r. pick c.args.clean (report_slots c.args.f c.args.archive.now tables slots c.args.s r c.args.next) slots) (opened

@@ -1,12 +1,11 @@
--- `first_pass::conclude` meets its contract: each answer is what the definition gives under the test that led there. Assumes nothing.
-use borrow.Author.Tests.{eq-eqb, ne_eqb}
+-- `first_pass::conclude` meets its contract: each answer is what the definition gives for what was found. Assumes nothing.
 use Rattle.first_pass.specs.Models.Found.{concluded}
 use Rattle.first_pass.proofs.conclude.Goals as goal
 
-pub returns-then-found-eq0 : goal.returns-then-found-eq0
+pub returns-in-Some : goal.returns-in-Some
 unfolding concluded
-returns-then-found-eq0 c = simp (eq-eqb _ _ c.if-found-eq0.true)
+returns-in-Some c = simp c.in-Some.is
 
-pub returns : goal.returns
+pub returns-in-None : goal.returns-in-None
 unfolding concluded
-returns c = simp (ne_eqb _ _ c.if-found-eq0.false)
+returns-in-None c = simp c.in-None.is

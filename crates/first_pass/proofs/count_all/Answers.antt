@@ -38,35 +38,35 @@ slice_bounds-follow-end-in-loop-s c =
     let wide = room_wide c.args.f c.args.archive.now c.args.room.now c.loop-s.room c.loop-s.s c.loop-s.found c.loop-s.words c.loop-s.invariant in
     sym (length-take-le c.table_words-stretch.result c.loop-s.room (omega (arith, c.table_words-stretch.ensures, wide)))
 
-pub follow-followed-requires : goal.follow-followed-requires
-follow-followed-requires c =
+pub follow-requires : goal.follow-requires
+follow-requires c =
     let q = room_state c.args.f c.args.archive.now c.args.room.now c.loop-s.room c.loop-s.s c.loop-s.found c.loop-s.words c.loop-s.invariant in
     (c.requires.0, q.1, q.2, q.4, rw c.checked_record_at-checked.ensures.record_value (record_index c.args.f c.args.archive.now c.loop-s.s.place))
 
-pub shape_of-room-then-followed-ne0 : goal.shape_of-room-then-followed-ne0
-shape_of-room-then-followed-ne0 c =
+pub shape_of-room-in-Err : goal.shape_of-room-in-Err
+shape_of-room-in-Err c =
     followed-long c.args.f c.args.archive.now c.args.room.now c.loop-s.room c.loop-s.s c.loop-s.found c.loop-s.words c.loop-s.invariant
     c.loop-s-test.true c.checked_record_at-checked.result.record
-    c.checked_record_at-checked.ensures.record_value c.follow-followed.result c.follow-followed.ensures.value c.table_words-stretch.result
-    c.table_words-stretch.ensures c.follow-followed.new.tables
-    c.follow-followed.ensures.tables_after
+    c.checked_record_at-checked.ensures.record_value c.follow.result c.follow.ensures.value c.table_words-stretch.result
+    c.table_words-stretch.ensures c.follow.new.tables
+    c.follow.ensures.tables_after
 
-pub returns-then-followed-ne0 : goal.returns-then-followed-ne0
-returns-then-followed-ne0 c = by_clause (room_stops c.args.f c.args.archive.now c.args.room.now c.loop-s.room c.loop-s.s c.loop-s.found
+pub returns-in-Err : goal.returns-in-Err
+returns-in-Err c = by_clause (room_stops c.args.f c.args.archive.now c.args.room.now c.loop-s.room c.loop-s.s c.loop-s.found
     c.loop-s.words c.loop-s.invariant c.loop-s-test.true c.checked_record_at-checked.result.record
-    c.checked_record_at-checked.ensures.record_value c.follow-followed.result c.follow-followed.ensures.value c.table_words-stretch.result
-    c.table_words-stretch.ensures c.follow-followed.new.tables
-    c.follow-followed.ensures.tables_after
-    c.if-followed-ne0.true)
+    c.checked_record_at-checked.ensures.record_value c.follow.result c.follow.ensures.value c.table_words-stretch.result
+    c.table_words-stretch.ensures c.follow.new.tables
+    c.follow.ensures.tables_after
+    c.in-Err.number c.in-Err.is)
 
 pub slice_bounds-renew-count : goal.slice_bounds-renew-count
 slice_bounds-renew-count c =
     let long = followed-long c.args.f c.args.archive.now c.args.room.now c.loop-s.room c.loop-s.s c.loop-s.found c.loop-s.words
     c.loop-s.invariant c.loop-s-test.true
     c.checked_record_at-checked.result.record
-    c.checked_record_at-checked.ensures.record_value c.follow-followed.result c.follow-followed.ensures.value c.table_words-stretch.result
-    c.table_words-stretch.ensures c.follow-followed.new.tables
-    c.follow-followed.ensures.tables_after in
+    c.checked_record_at-checked.ensures.record_value c.follow.result c.follow.ensures.value c.table_words-stretch.result
+    c.table_words-stretch.ensures c.follow.new.tables
+    c.follow.ensures.tables_after in
     omega (arith, long, c.table_words-stretch.ensures, c.loop-s.invariant.wide)
 
 pub slice_bounds-renew-start : goal.slice_bounds-renew-start
@@ -74,9 +74,9 @@ slice_bounds-renew-start c =
     let long = followed-long c.args.f c.args.archive.now c.args.room.now c.loop-s.room c.loop-s.s c.loop-s.found c.loop-s.words
     c.loop-s.invariant c.loop-s-test.true
     c.checked_record_at-checked.result.record
-    c.checked_record_at-checked.ensures.record_value c.follow-followed.result c.follow-followed.ensures.value c.table_words-stretch.result
-    c.table_words-stretch.ensures c.follow-followed.new.tables
-    c.follow-followed.ensures.tables_after in
+    c.checked_record_at-checked.ensures.record_value c.follow.result c.follow.ensures.value c.table_words-stretch.result
+    c.table_words-stretch.ensures c.follow.new.tables
+    c.follow.ensures.tables_after in
     omega (arith, long, c.table_words-stretch.ensures, c.loop-s.invariant.wide)
 
 pub renew-requires : goal.renew-requires
@@ -85,9 +85,9 @@ renew-requires c =
     let long = followed-long c.args.f c.args.archive.now c.args.room.now c.loop-s.room c.loop-s.s c.loop-s.found c.loop-s.words
     c.loop-s.invariant c.loop-s-test.true
     c.checked_record_at-checked.result.record
-    c.checked_record_at-checked.ensures.record_value c.follow-followed.result c.follow-followed.ensures.value c.table_words-stretch.result
-    c.table_words-stretch.ensures c.follow-followed.new.tables
-    c.follow-followed.ensures.tables_after in (
+    c.checked_record_at-checked.ensures.record_value c.follow.result c.follow.ensures.value c.table_words-stretch.result
+    c.table_words-stretch.ensures c.follow.new.tables
+    c.follow.ensures.tables_after in (
       c.requires.0,
       record {
         some = omega arith;
@@ -104,23 +104,23 @@ check_record-counted-requires c =
     let long = followed-long c.args.f c.args.archive.now c.args.room.now c.loop-s.room c.loop-s.s c.loop-s.found c.loop-s.words
     c.loop-s.invariant c.loop-s-test.true
     c.checked_record_at-checked.result.record
-    c.checked_record_at-checked.ensures.record_value c.follow-followed.result c.follow-followed.ensures.value c.table_words-stretch.result
-    c.table_words-stretch.ensures c.follow-followed.new.tables
-    c.follow-followed.ensures.tables_after in
+    c.checked_record_at-checked.ensures.record_value c.follow.result c.follow.ensures.value c.table_words-stretch.result
+    c.table_words-stretch.ensures c.follow.new.tables
+    c.follow.ensures.tables_after in
     let e = record_ends c.args.f c.args.archive.now c.args.room.now c.loop-s.room c.loop-s.s c.loop-s.found c.loop-s.words
     c.loop-s.invariant c.loop-s-test.true
     c.checked_record_at-checked.result.record
-    c.checked_record_at-checked.ensures.record_value c.follow-followed.result c.follow-followed.ensures.value c.table_words-stretch.result
-    c.table_words-stretch.ensures c.follow-followed.new.tables
-    c.follow-followed.ensures.tables_after
-    c.if-followed-ne0.false in
+    c.checked_record_at-checked.ensures.record_value c.follow.result c.follow.ensures.value c.table_words-stretch.result
+    c.table_words-stretch.ensures c.follow.new.tables
+    c.follow.ensures.tables_after
+    c.in-Ok.state c.in-Ok.is in
     let recalls = room_recalls c.args.f c.args.archive.now c.args.room.now c.loop-s.room c.loop-s.s c.loop-s.found c.loop-s.words
     c.loop-s.invariant c.loop-s-test.true
     c.checked_record_at-checked.result.record
-    c.checked_record_at-checked.ensures.record_value c.follow-followed.result c.follow-followed.ensures.value c.table_words-stretch.result
-    c.table_words-stretch.ensures c.follow-followed.new.tables
-    c.follow-followed.ensures.tables_after
-    c.if-followed-ne0.false c.renew.new.slots (rw part_from at c.renew.ensures) in (
+    c.checked_record_at-checked.ensures.record_value c.follow.result c.follow.ensures.value c.table_words-stretch.result
+    c.table_words-stretch.ensures c.follow.new.tables
+    c.follow.ensures.tables_after
+    c.in-Ok.state c.in-Ok.is c.renew.new.slots (rw part_from at c.renew.ensures) in (
       record { fits = c.requires.0; short = q.0; wide = omega (arith, c.room-in-loop-s-1.given, long, c.loop-s.invariant.wide); low = q.2 },
       (
         q.3,
@@ -138,11 +138,11 @@ overflow_add-words c =
       (room_state c.args.f c.args.archive.now c.args.room.now c.loop-s.room c.loop-s.s c.loop-s.found c.loop-s.words c.loop-s.invariant).0,
       room_words_lem c.args.f c.args.archive.now c.args.room.now c.loop-s.room c.loop-s.s c.loop-s.found c.loop-s.words c.loop-s.invariant
           c.loop-s-test.true c.checked_record_at-checked.result.record
-          c.checked_record_at-checked.ensures.record_value c.follow-followed.result c.follow-followed.ensures.value
-          c.table_words-stretch.result c.table_words-stretch.ensures c.follow-followed.new.tables
-          c.follow-followed.ensures.tables_after
-          c.if-followed-ne0.false c.renew.new.slots (rw part_from at c.renew.ensures) c.check_record-counted.result
-          c.check_record-counted.ensures.value,
+          c.checked_record_at-checked.ensures.record_value c.follow.result c.follow.ensures.value
+          c.table_words-stretch.result c.table_words-stretch.ensures c.follow.new.tables
+          c.follow.ensures.tables_after
+          c.in-Ok.state c.in-Ok.is c.renew.new.slots (rw part_from at c.renew.ensures) c.check_record-counted.result
+          c.is_none-clean.result c.is_none-clean.ensures c.check_record-counted.ensures.value,
     )
 
 pub loop-s-smaller : goal.loop-s-smaller
@@ -152,23 +152,23 @@ loop-s-smaller c =
       c.loop-s-test.true,
       record_ends c.args.f c.args.archive.now c.args.room.now c.loop-s.room c.loop-s.s c.loop-s.found c.loop-s.words c.loop-s.invariant
           c.loop-s-test.true c.checked_record_at-checked.result.record
-          c.checked_record_at-checked.ensures.record_value c.follow-followed.result c.follow-followed.ensures.value
-          c.table_words-stretch.result c.table_words-stretch.ensures c.follow-followed.new.tables
-          c.follow-followed.ensures.tables_after
-          c.if-followed-ne0.false,
+          c.checked_record_at-checked.ensures.record_value c.follow.result c.follow.ensures.value
+          c.table_words-stretch.result c.table_words-stretch.ensures c.follow.new.tables
+          c.follow.ensures.tables_after
+          c.in-Ok.state c.in-Ok.is,
     )
 
 pub loop-s-preserved : goal.loop-s-preserved
 loop-s-preserved c =
-    room_turns c.args.f c.args.archive.now c.args.room.now c.loop-s.room c.loop-s.s c.loop-s.found c.loop-s.words c.loop-s.invariant
+    rw c.unwrap_or-words.ensures (room_turns c.args.f c.args.archive.now c.args.room.now c.loop-s.room c.loop-s.s c.loop-s.found c.loop-s.words c.loop-s.invariant
     c.loop-s-test.true c.checked_record_at-checked.result.record
-    c.checked_record_at-checked.ensures.record_value c.follow-followed.result c.follow-followed.ensures.value c.table_words-stretch.result
-    c.table_words-stretch.ensures c.follow-followed.new.tables
-    c.follow-followed.ensures.tables_after
-    c.if-followed-ne0.false c.renew.new.slots (rw part_from at c.renew.ensures) c.check_record-counted.result
-    c.check_record-counted.ensures.value c.check_record-counted.new.room
+    c.checked_record_at-checked.ensures.record_value c.follow.result c.follow.ensures.value c.table_words-stretch.result
+    c.table_words-stretch.ensures c.follow.new.tables
+    c.follow.ensures.tables_after
+    c.in-Ok.state c.in-Ok.is c.renew.new.slots (rw part_from at c.renew.ensures) c.check_record-counted.result
+    c.is_none-clean.result c.is_none-clean.ensures c.check_record-counted.ensures.value c.check_record-counted.new.room
     c.lowest-found.result
-    c.room-in-loop-s-2-1.given c.check_record-counted.ensures.room_after c.lowest-found.ensures
+    c.room-in-loop-s-2-1.given c.check_record-counted.ensures.room_after c.lowest-found.ensures)
 
 pub shape_of-room : goal.shape_of-room
 shape_of-room c =

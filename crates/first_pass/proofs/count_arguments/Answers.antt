@@ -1,5 +1,5 @@
 -- `first_pass::count_arguments` meets its contract: the loop keeps a walk, in which what was counted and what is left are the whole. Assumes nothing.
-use Prim.Native.Nat.{◌+◌}
+use Prim.Native.Nat.{◌+◌, ◌-◌}
 use mathlib.Core.Path.{◌≡◌, refl, sym, ◌∙◌}
 use mathlib.Core.List.{[], ◌∷◌}
 use native.Mathlib.Omega.{arith}
@@ -17,9 +17,10 @@ use Rattle.first_pass.proofs.count_arguments.Goals as goal
 by_clause : {A B C : Type 0} → A × (B × C) → record { good_value : A; words_value : B; room_after : C }
 by_clause w = record { good_value = w.0; words_value = w.1.0; room_after = w.1.1 }
 
-pub loop-left-init : goal.loop-left-init
-loop-left-init c =
-    record {
+pub loop-init : goal.loop-init
+loop-init c =
+    let all : c.args.count - 0 ≡ c.args.count = omega arith in
+    rw all (record {
       tables = refl;
       long = refl;
       goods = refl;
@@ -27,160 +28,160 @@ loop-left-init c =
       sum = omega arith;
       inside = refl;
       behind = c.requires.3;
-      recalls =
-          c.requires.4;
+      recalls = c.requires.4;
       few = omega arith;
       kept = c.requires.5;
-    }
+    })
 
-pub texts_of-texts-requires : goal.texts_of-texts-requires
-texts_of-texts-requires c =
-    omega (arith, c.loop-left.invariant.inside, c.requires.1, c.requires.0.short)
+pub texts_of-requires : goal.texts_of-requires
+texts_of-requires c =
+    omega (arith, c.loop.invariant.inside, c.requires.1, c.requires.0.short)
 
-pub shape_of-room-in-Refused : goal.shape_of-room-in-Refused
-shape_of-room-in-Refused c =
-    c.loop-left.invariant.long
+pub shape_of-room-in_default : goal.shape_of-room-in_default
+shape_of-room-in_default c =
+    c.loop.invariant.long
 
-pub returns-in-Refused : goal.returns-in-Refused
-returns-in-Refused c = by_clause (let all = arguments_read c.args.f c.args.count c.args.part.now c.args.place in
+pub returns-in_default : goal.returns-in_default
+returns-in_default c = by_clause (let all = arguments_read c.args.f c.args.count c.args.part.now c.args.place in
     let end = c.args.place + length c.args.part.now in
-    let none = none_read c.args.f c.args.archive.now c.args.room.now c.args.context c.args.until all end c.loop-left.room c.loop-left.left
-    c.loop-left.rest.now c.loop-left.at
-    c.loop-left.good c.loop-left.words c.args.count c.loop-left.invariant _ c.loop-left-test.true (texts_refused c.args.f
-    c.loop-left.rest.now c.loop-left.at _ (sym
-    c.texts_of-texts.ensures ∙ c.in-Refused.is)) in
-    walk_ends c.args.f c.args.archive.now c.args.room.now c.args.context c.args.until all end c.loop-left.room c.loop-left.left
-    c.loop-left.rest.now c.loop-left.at c.loop-left.good
-    c.loop-left.words c.args.count c.loop-left.invariant none)
+    let none = none_read c.args.f c.args.archive.now c.args.room.now c.args.context c.args.until all end c.loop.room (c.args.count - c.loop.counter)
+    c.loop.rest.now c.loop.at
+    c.loop.good c.loop.words c.args.count c.loop.invariant _ (omega arith) (texts_refused c.args.f
+    c.loop.rest.now c.loop.at _ (sym
+    c.texts_of.ensures ∙ c.in_default.is)) in
+    walk_ends c.args.f c.args.archive.now c.args.room.now c.args.context c.args.until all end c.loop.room (c.args.count - c.loop.counter)
+    c.loop.rest.now c.loop.at c.loop.good
+    c.loop.words c.args.count c.loop.invariant none)
 
 pub count_texts-requires : goal.count_texts-requires
 count_texts-requires c =
-    let k = texts_countable c.args.f c.args.archive.now c.loop-left.rest.now c.loop-left.at c.in-Texts.name c.in-Texts.value
-    c.in-Texts.size c.loop-left.invariant.behind (omega
-    (arith, c.loop-left.invariant.inside, c.requires.1)) (sym c.texts_of-texts.ensures ∙ c.in-Texts.is) in (
-      can_after c.args.f c.args.archive.now c.args.room.now c.args.context c.args.until c.requires.0 c.loop-left.room c.loop-left.invariant.long,
+    let k = texts_countable c.args.f c.args.archive.now c.loop.rest.now c.loop.at c.in-Ok.texts.name c.in-Ok.texts.value
+    c.in-Ok.texts.size c.loop.invariant.behind (omega
+    (arith, c.loop.invariant.inside, c.requires.1)) (sym c.texts_of.ensures ∙ c.in-Ok.is) in (
+      can_after c.args.f c.args.archive.now c.args.room.now c.args.context c.args.until c.requires.0 c.loop.room c.loop.invariant.long,
       stands_can c.args.archive.now
-          c.in-Texts.name k.0.stands,
-      stands_can c.args.archive.now c.in-Texts.value k.1.0.stands,
-      c.loop-left.invariant.recalls,
+          c.in-Ok.texts.name k.0.stands,
+      stands_can c.args.archive.now c.in-Ok.texts.value k.1.0.stands,
+      c.loop.invariant.recalls,
     )
 
 pub inline_bytes-requires : goal.inline_bytes-requires
 inline_bytes-requires c =
     let all = arguments_read c.args.f c.args.count c.args.part.now c.args.place in
     let end = c.args.place + length c.args.part.now in
-    let read = sym c.texts_of-texts.ensures ∙ c.in-Texts.is in
-    let few = turn_few c.args.f c.args.archive.now c.args.room.now c.args.context c.args.until all end c.loop-left.room c.loop-left.left
-    c.loop-left.rest.now c.loop-left.at c.loop-left.good
-    c.loop-left.words c.args.count c.loop-left.invariant c.in-Texts.name c.in-Texts.value c.in-Texts.size c.loop-left-test.true read in
-    omega (arith, few.0, few.1, c.loop-left.invariant.inside, c.requires.1, c.requires.0.short)
+    let read = sym c.texts_of.ensures ∙ c.in-Ok.is in
+    let few = turn_few c.args.f c.args.archive.now c.args.room.now c.args.context c.args.until all end c.loop.room (c.args.count - c.loop.counter)
+    c.loop.rest.now c.loop.at c.loop.good
+    c.loop.words c.args.count c.loop.invariant c.in-Ok.texts.name c.in-Ok.texts.value c.in-Ok.texts.size (omega arith) read in
+    omega (arith, few.0, few.1, c.loop.invariant.inside, c.requires.1, c.requires.0.short)
 
-pub inline_bytes-requires-in-Texts : goal.inline_bytes-requires-in-Texts
-inline_bytes-requires-in-Texts c =
+pub inline_bytes-requires-in-loop : goal.inline_bytes-requires-in-loop
+inline_bytes-requires-in-loop c =
     let all = arguments_read c.args.f c.args.count c.args.part.now c.args.place in
     let end = c.args.place + length c.args.part.now in
-    let read = sym c.texts_of-texts.ensures ∙ c.in-Texts.is in
-    let few = turn_few c.args.f c.args.archive.now c.args.room.now c.args.context c.args.until all end c.loop-left.room c.loop-left.left
-    c.loop-left.rest.now c.loop-left.at c.loop-left.good
-    c.loop-left.words c.args.count c.loop-left.invariant c.in-Texts.name c.in-Texts.value c.in-Texts.size c.loop-left-test.true read in
-    omega (arith, few.0, few.1, c.loop-left.invariant.inside, c.requires.1, c.requires.0.short)
+    let read = sym c.texts_of.ensures ∙ c.in-Ok.is in
+    let few = turn_few c.args.f c.args.archive.now c.args.room.now c.args.context c.args.until all end c.loop.room (c.args.count - c.loop.counter)
+    c.loop.rest.now c.loop.at c.loop.good
+    c.loop.words c.args.count c.loop.invariant c.in-Ok.texts.name c.in-Ok.texts.value c.in-Ok.texts.size (omega arith) read in
+    omega (arith, few.0, few.1, c.loop.invariant.inside, c.requires.1, c.requires.0.short)
 
 pub overflow_add-spelled : goal.overflow_add-spelled
 overflow_add-spelled c =
     let all = arguments_read c.args.f c.args.count c.args.part.now c.args.place in
     let end = c.args.place + length c.args.part.now in
-    let read = sym c.texts_of-texts.ensures ∙ c.in-Texts.is in
-    let few = turn_few c.args.f c.args.archive.now c.args.room.now c.args.context c.args.until all end c.loop-left.room c.loop-left.left
-    c.loop-left.rest.now c.loop-left.at c.loop-left.good
-    c.loop-left.words c.args.count c.loop-left.invariant c.in-Texts.name c.in-Texts.value c.in-Texts.size c.loop-left-test.true read in
+    let read = sym c.texts_of.ensures ∙ c.in-Ok.is in
+    let few = turn_few c.args.f c.args.archive.now c.args.room.now c.args.context c.args.until all end c.loop.room (c.args.count - c.loop.counter)
+    c.loop.rest.now c.loop.at c.loop.good
+    c.loop.words c.args.count c.loop.invariant c.in-Ok.texts.name c.in-Ok.texts.value c.in-Ok.texts.size (omega arith) read in
     omega (
       arith,
       few.0,
       few.1,
-      c.loop-left.invariant.inside,
+      c.loop.invariant.inside,
       c.requires.1,
       c.requires.0.short,
       c.inline_bytes.ensures,
-      c.inline_bytes-in-Texts.ensures,
+      c.inline_bytes-in-loop.ensures,
     )
 
 pub overflow_sub-words : goal.overflow_sub-words
 overflow_sub-words c =
     let all = arguments_read c.args.f c.args.count c.args.part.now c.args.place in
     let end = c.args.place + length c.args.part.now in
-    let read = sym c.texts_of-texts.ensures ∙ c.in-Texts.is in
-    let few = turn_few c.args.f c.args.archive.now c.args.room.now c.args.context c.args.until all end c.loop-left.room c.loop-left.left
-    c.loop-left.rest.now c.loop-left.at c.loop-left.good
-    c.loop-left.words c.args.count c.loop-left.invariant c.in-Texts.name c.in-Texts.value c.in-Texts.size c.loop-left-test.true read in
+    let read = sym c.texts_of.ensures ∙ c.in-Ok.is in
+    let few = turn_few c.args.f c.args.archive.now c.args.room.now c.args.context c.args.until all end c.loop.room (c.args.count - c.loop.counter)
+    c.loop.rest.now c.loop.at c.loop.good
+    c.loop.words c.args.count c.loop.invariant c.in-Ok.texts.name c.in-Ok.texts.value c.in-Ok.texts.size (omega arith) read in
     omega (
       arith,
       few.0,
       few.1,
-      c.loop-left.invariant.inside,
+      c.loop.invariant.inside,
       c.requires.1,
       c.requires.0.short,
       c.inline_bytes.ensures,
-      c.inline_bytes-in-Texts.ensures,
+      c.inline_bytes-in-loop.ensures,
     )
 
 pub overflow_add-words : goal.overflow_add-words
 overflow_add-words c =
     let all = arguments_read c.args.f c.args.count c.args.part.now c.args.place in
     let end = c.args.place + length c.args.part.now in
-    let read = sym c.texts_of-texts.ensures ∙ c.in-Texts.is in
-    let few = turn_few c.args.f c.args.archive.now c.args.room.now c.args.context c.args.until all end c.loop-left.room c.loop-left.left
-    c.loop-left.rest.now c.loop-left.at c.loop-left.good
-    c.loop-left.words c.args.count c.loop-left.invariant c.in-Texts.name c.in-Texts.value c.in-Texts.size c.loop-left-test.true read in
-    omega (arith, few.2, c.loop-left.invariant.few, c.requires.2, c.inline_bytes.ensures, c.inline_bytes-in-Texts.ensures)
+    let read = sym c.texts_of.ensures ∙ c.in-Ok.is in
+    let few = turn_few c.args.f c.args.archive.now c.args.room.now c.args.context c.args.until all end c.loop.room (c.args.count - c.loop.counter)
+    c.loop.rest.now c.loop.at c.loop.good
+    c.loop.words c.args.count c.loop.invariant c.in-Ok.texts.name c.in-Ok.texts.value c.in-Ok.texts.size (omega arith) read in
+    omega (arith, few.2, c.loop.invariant.few, c.requires.2, c.inline_bytes.ensures, c.inline_bytes-in-loop.ensures)
 
 pub slice_bounds-rest-count : goal.slice_bounds-rest-count
 slice_bounds-rest-count c =
-    texts_inside c.args.f c.loop-left.rest.now c.loop-left.at c.in-Texts.name c.in-Texts.value c.in-Texts.size (sym
-    c.texts_of-texts.ensures ∙ c.in-Texts.is)
+    texts_inside c.args.f c.loop.rest.now c.loop.at c.in-Ok.texts.name c.in-Ok.texts.value c.in-Ok.texts.size (sym
+    c.texts_of.ensures ∙ c.in-Ok.is)
 
 pub slice_bounds-rest-start : goal.slice_bounds-rest-start
 slice_bounds-rest-start c =
-    texts_inside c.args.f c.loop-left.rest.now c.loop-left.at c.in-Texts.name c.in-Texts.value c.in-Texts.size (sym
-    c.texts_of-texts.ensures ∙ c.in-Texts.is)
+    texts_inside c.args.f c.loop.rest.now c.loop.at c.in-Ok.texts.name c.in-Ok.texts.value c.in-Ok.texts.size (sym
+    c.texts_of.ensures ∙ c.in-Ok.is)
 
 pub overflow_add-at : goal.overflow_add-at
 overflow_add-at c =
-    let s = texts_inside c.args.f c.loop-left.rest.now c.loop-left.at c.in-Texts.name c.in-Texts.value c.in-Texts.size (sym
-    c.texts_of-texts.ensures ∙ c.in-Texts.is) in
-    omega (arith, s, c.loop-left.invariant.inside, c.requires.1, c.requires.0.short)
+    let s = texts_inside c.args.f c.loop.rest.now c.loop.at c.in-Ok.texts.name c.in-Ok.texts.value c.in-Ok.texts.size (sym
+    c.texts_of.ensures ∙ c.in-Ok.is) in
+    omega (arith, s, c.loop.invariant.inside, c.requires.1, c.requires.0.short)
 
-pub loop-left-preserved : goal.loop-left-preserved
-loop-left-preserved c =
+pub loop-preserved : goal.loop-preserved
+loop-preserved c =
     let all = arguments_read c.args.f c.args.count c.args.part.now c.args.place in
     let end = c.args.place + length c.args.part.now in
-    let long : length c.count_texts.new.room ≡ length c.loop-left.room = search rules in
-    let read = sym c.texts_of-texts.ensures ∙ c.in-Texts.is in
-    let k = texts_countable c.args.f c.args.archive.now c.loop-left.rest.now c.loop-left.at c.in-Texts.name c.in-Texts.value
-    c.in-Texts.size c.loop-left.invariant.behind (omega
-    (arith, c.loop-left.invariant.inside, c.requires.1)) read in
-    let can = can_after c.args.f c.args.archive.now c.args.room.now c.args.context c.args.until c.requires.0 c.loop-left.room
-    c.loop-left.invariant.long in
-    rw (part_from, c.both-good.ensures, c.inline_bytes.ensures, c.inline_bytes-in-Texts.ensures)
-    (walk_turns_texts c.args.f c.args.archive.now c.args.room.now c.args.context c.args.until all end c.loop-left.room c.loop-left.left
-    c.loop-left.rest.now c.loop-left.at c.loop-left.good
-    c.loop-left.words c.args.count c.loop-left.invariant c.in-Texts.name c.in-Texts.value c.in-Texts.size c.count_texts.result
-    c.count_texts.new.room c.loop-left-test.true read (omega
-    (arith, c.loop-left.invariant.long, c.requires.0.wide)) long (
+    let long : length c.count_texts.new.room ≡ length c.loop.room = search rules in
+    let read = sym c.texts_of.ensures ∙ c.in-Ok.is in
+    let k = texts_countable c.args.f c.args.archive.now c.loop.rest.now c.loop.at c.in-Ok.texts.name c.in-Ok.texts.value
+    c.in-Ok.texts.size c.loop.invariant.behind (omega
+    (arith, c.loop.invariant.inside, c.requires.1)) read in
+    let can = can_after c.args.f c.args.archive.now c.args.room.now c.args.context c.args.until c.requires.0 c.loop.room
+    c.loop.invariant.long in
+    let less : c.args.count - c.loop.counter - 1 ≡ c.args.count - (c.loop.counter + 1) = omega arith in
+    rw (part_from, ← less, c.both-good.ensures, c.inline_bytes.ensures, c.inline_bytes-in-loop.ensures)
+    (walk_turns_texts c.args.f c.args.archive.now c.args.room.now c.args.context c.args.until all end c.loop.room (c.args.count - c.loop.counter)
+    c.loop.rest.now c.loop.at c.loop.good
+    c.loop.words c.args.count c.loop.invariant c.in-Ok.texts.name c.in-Ok.texts.value c.in-Ok.texts.size c.count_texts.result
+    c.count_texts.new.room (omega arith) read (omega
+    (arith, c.loop.invariant.long, c.requires.0.wide)) long (
       c.count_texts.ensures.value,
       c.count_texts.ensures.room_after,
-    ) (recalls_after c.args.f c.args.archive.now c.loop-left.room c.args.context c.args.until can
+    ) (recalls_after c.args.f c.args.archive.now c.loop.room c.args.context c.args.until can
     c.count_texts.new.room long
-    (text_lookup c.in-Texts.name ∷ text_lookup c.in-Texts.value ∷ []) k c.loop-left.invariant.recalls c.count_texts.ensures.room_after))
+    (text_lookup c.in-Ok.texts.name ∷ text_lookup c.in-Ok.texts.value ∷ []) k c.loop.invariant.recalls c.count_texts.ensures.room_after))
 
 pub shape_of-room : goal.shape_of-room
-shape_of-room c = c.loop-left.invariant.long
+shape_of-room c = c.loop.invariant.long
 
 pub returns : goal.returns
 returns c = by_clause (let all = arguments_read c.args.f c.args.count c.args.part.now c.args.place in
     let end = c.args.place + length c.args.part.now in
-    let none = none_left c.args.f c.args.archive.now c.args.room.now c.args.context c.args.until all end c.loop-left.room c.loop-left.left
-    c.loop-left.rest.now c.loop-left.at
-    c.loop-left.good c.loop-left.words c.args.count c.loop-left.invariant (omega (arith, c.loop-left-test.false)) in
-    walk_ends c.args.f c.args.archive.now c.args.room.now c.args.context c.args.until all end c.loop-left.room c.loop-left.left
-    c.loop-left.rest.now c.loop-left.at c.loop-left.good
-    c.loop-left.words c.args.count c.loop-left.invariant none)
+    let none = none_left c.args.f c.args.archive.now c.args.room.now c.args.context c.args.until all end c.loop.room (c.args.count - c.loop.counter)
+    c.loop.rest.now c.loop.at
+    c.loop.good c.loop.words c.args.count c.loop.invariant (omega (arith, c.loop-test.false)) in
+    walk_ends c.args.f c.args.archive.now c.args.room.now c.args.context c.args.until all end c.loop.room (c.args.count - c.loop.counter)
+    c.loop.rest.now c.loop.at c.loop.good
+    c.loop.words c.args.count c.loop.invariant none)

@@ -2,20 +2,19 @@
 -- nothing.
 use native.Mathlib.Omega.{arith}
 use Rattle.records.specs.Lookups.{text_lookup}
+use mathlib.Core.Path.{sym, ◌∙◌}
 use Rattle.first_pass.proofs.Laws.{again_fits, again_counts}
 use Rattle.first_pass.proofs.count_text.Goals as goal
-
--- the clauses, of their product
-by_clause : {A B : Type 0} → A × B → record { value : A; room_after : B }
-by_clause w = record { value = w.0; room_after = w.1 }
 
 pub use_again-requires : goal.use_again-requires
 use_again-requires c =
     again_fits c.args.f c.args.archive.now c.args.room.now c.args.context c.args.until
-    (text_lookup c.args.reference) c.table_words-words.result c.recall-known.result c.requires.0 c.requires.2 (omega arith) (omega arith)
-    c.table_words-words.ensures c.recall-known.ensures c.if-known-ne0.true
+    (text_lookup c.args.reference) c.table_words-words.result c.in-Some.slot c.requires.0 c.requires.2 (omega arith) (omega arith)
+    c.table_words-words.ensures (sym c.in-Some.is ∙ c.recall.ensures)
 
-pub returns-then-known-ne0 : goal.returns-then-known-ne0
-returns-then-known-ne0 c = by_clause (again_counts c.args.f c.args.archive.now c.args.room.now c.args.context c.args.until
-    (text_lookup c.args.reference) c.table_words-words.result c.recall-known.result c.requires.0 c.requires.2 (omega arith) (omega arith)
-    c.table_words-words.ensures c.recall-known.ensures c.if-known-ne0.true c.use_again.new.slots c.use_again.ensures)
+pub returns-in-Some : goal.returns-in-Some
+returns-in-Some c =
+    let counts = again_counts c.args.f c.args.archive.now c.args.room.now c.args.context c.args.until
+    (text_lookup c.args.reference) c.table_words-words.result c.in-Some.slot c.requires.0 c.requires.2 (omega arith) (omega arith)
+    c.table_words-words.ensures (sym c.in-Some.is ∙ c.recall.ensures) c.use_again.new.slots c.use_again.ensures in
+    record { value = counts.0; room_after = counts.1 }

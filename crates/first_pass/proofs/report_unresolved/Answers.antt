@@ -43,7 +43,7 @@ slice_bounds-arguments_unresolved-end c =
 pub arguments_unresolved-requires : goal.arguments_unresolved-requires
 arguments_unresolved-requires c =
     let b = report_bounds c.args.f c.args.archive.now c.args.s.place c.args.report c.args.next c.requires.4.0 c.requires.4.1 in
-    (c.requires.1, c.requires.2, c.requires.0, c.requires.3, omega (arith, b.part, b.last, c.requires.2))
+    omega (arith, b.part, b.last, c.requires.2)
 
 pub returns : goal.returns
 unfolding any_unresolved

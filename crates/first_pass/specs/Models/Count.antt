@@ -1,5 +1,5 @@
 -- The uses of a record as the first pass counts them, reference after reference. `tables` are the reading tables, `slots` the words of the tally.
-use Rattle.std.specs.Prelude.{ℕ, ◌+◌, ◌-◌, ◌*◌, ◌≤◌, ◌<◌, ◌≡◌, List, [], ◌∷◌, Bool, true, false, ◌&&◌, ◌||◌, length, take, drop, eqb}
+use Rattle.std.specs.Prelude.{ℕ, ◌+◌, ◌-◌, ◌*◌, ◌≤◌, ◌<◌, ◌≡◌, List, [], ◌∷◌, Bool, true, false, ◌&&◌, ◌||◌, length, take, drop, eqb, Result, Ok, Err}
 use Rattle.passes.specs.Models.Item.{report_at}
 use Rattle.passes.specs.Models.Memory.{noted, Remembers}
 use Rattle.tally.specs.Models.Slots.{label_of, key_of, find_of, is_added, added_slot, added}
@@ -8,6 +8,8 @@ use Rattle.records.specs.Models.Fixed.{fixed_words}
 use Rattle.words.specs.Word.{pick}
 use Rattle.words.specs.Stream.{stream_words}
 use Rattle.format.specs.declared.Format.{Format}
+use Rattle.format.specs.declared.Reason.{Reason}
+use Rattle.format.specs.declared.Reason.TheVariants.{Loss, Unregistered, ManyKeys}
 use Rattle.format.specs.declared.Reference.{Reference}
 use Rattle.format.specs.declared.Reference.TheVariants.{Inline, Index}
 use Rattle.format.specs.Limits.{longest_archive}
@@ -28,7 +30,6 @@ use Rattle.contexts.specs.declared.State.{State}
 use Rattle.tables.specs.declared.Resolved.{Resolved}
 use Rattle.tables.specs.declared.Resolved.TheVariants.{Bad, Known, Unresolved}
 use Rattle.tables.specs.Table.{table_words, highest_of, looked_up}
-use Rattle.first_pass.specs.declared.Counted.{Counted}
 
 -- ---- the room
 
@@ -157,21 +158,22 @@ report_unresolved f archive tables s r next = any_unresolved f archive tables s.
 abbrev pub report_words : Format → List ℕ → List ℕ → State → Report → ℕ → ℕ
 report_words f archive tables s r next = fixed_words (report (report_at f archive tables s r next))
 
-abbrev pub counts : ℕ → ℕ → Counted
-counts number words = record { number = number; words = words }
+-- what is found at a record: the words that its item takes without texts and threads, or what it is refused by
+abbrev pub Counted : Type 0
+Counted = Result ℕ Reason
 
 -- what is found at one that loses nothing. Once something is found the uses are counted no more.
 unfoldable pub report_checked : Format → List ℕ → List ℕ → List ℕ → State → Report → ℕ → Bool → Counted
 report_checked f archive tables slots s r next clean =
     pick clean
-    (pick (report_good f archive tables slots s r next) (counts 0 (report_words f archive tables s r next))
-    (pick (report_unresolved f archive tables s r next) (counts 11 0) (counts 12 0)))
-    (pick (report_unresolved f archive tables s r next) (counts 11 0) (counts 0 0))
+    (pick (report_good f archive tables slots s r next) (Ok (report_words f archive tables s r next))
+    (pick (report_unresolved f archive tables s r next) (Err Unregistered) (Err ManyKeys)))
+    (pick (report_unresolved f archive tables s r next) (Err Unregistered) (Ok 0))
 
 -- what is found at any record that loses nothing, and the slots after it
 abbrev pub content_checked : Format → List ℕ → List ℕ → List ℕ → State → Content → ℕ → Bool → Counted
 content_checked f archive tables slots s content next clean =
-    on_report content (counts 0 (plain_words content)) (λ r. report_checked f archive tables slots s r next clean)
+    on_report content (Ok (plain_words content)) (λ r. report_checked f archive tables slots s r next clean)
 
 abbrev pub content_slots : Format → List ℕ → List ℕ → List ℕ → State → Content → ℕ → Bool → List ℕ
 content_slots f archive tables slots s content next clean =
@@ -184,7 +186,7 @@ keeps_to f archive s content next = record_keeps f (take (next - s.place) (drop 
 -- what is found at a record that ends at `next`, and the slots after it
 unfoldable pub record_checked : Format → List ℕ → List ℕ → List ℕ → State → Content → ℕ → Bool → Counted
 record_checked f archive tables slots s content next clean =
-    pick (keeps_to f archive s content next) (content_checked f archive tables slots s content next clean) (counts 10 0)
+    pick (keeps_to f archive s content next) (content_checked f archive tables slots s content next clean) (Err Loss)
 
 unfoldable pub checked_slots : Format → List ℕ → List ℕ → List ℕ → State → Content → ℕ → Bool → List ℕ
 checked_slots f archive tables slots s content next clean =

@@ -1,20 +1,6 @@
 -- `format::take_part` meets its contract: each answer is what the definition gives under the tests that led there. Assumes nothing.
-use mathlib.Core.Path.{subst}
 use Rattle.format.specs.Part.{take_part}
-use Rattle.format.specs.Models.Bounds.{PartFits}
 use Rattle.format.proofs.take_part.Goals as goal
-
-pub take_words-requires : goal.take_words-requires
-take_words-requires c = (subst PartFits c.in-Words.is c.requires.0, c.requires.1, c.requires.2)
-
-pub take_stream-requires : goal.take_stream-requires
-take_stream-requires c = (subst PartFits c.in-Stream.is c.requires.0, c.requires.1, c.requires.2)
-
-pub take_text-requires : goal.take_text-requires
-take_text-requires c = (subst PartFits c.in-Text.is c.requires.0, c.requires.1, c.requires.2)
-
-pub take_thread-requires : goal.take_thread-requires
-take_thread-requires c = (subst PartFits c.in-Thread.is c.requires.0, c.requires.1, c.requires.2)
 
 pub returns-in-Words : goal.returns-in-Words
 unfolding take_part

@@ -6,7 +6,7 @@ pub returns : goal.returns
 unfolding block_of
 returns c =
     rw (
-      ← c.least-step.ensures.0,
+      ← c.min-step.ensures,
       ← c.little_word.ensures,
       ← c.little_word-2.ensures,
       ← c.little_word-3.ensures,

@@ -1,9 +1,6 @@
-use Rattle.std.proofs.Common.{◌≡◌, ◌-◌, ◌≤◌}
+use Rattle.std.proofs.Common.{◌≡◌}
 use Rattle.hashing.specs.Models.Hash.{blocks_of}
 use Rattle.hashing.proofs.hash.Given as goal
 
 abbrev pub invariant-loop-i : goal.invariant-loop-i
-invariant-loop-i l = (l.i ≤ l.blocks) × (l.hash ≡ blocks_of l.bytes l.seed l.i)
-
-abbrev pub decreases-loop-i : goal.decreases-loop-i
-decreases-loop-i l = l.blocks - l.i
+invariant-loop-i l = l.hash ≡ blocks_of l.bytes l.seed l.i

@@ -6,12 +6,8 @@ pub returns : goal.returns
 unfolding join_of
 returns c =
     simp (
-      ← c.wrapping_add_u64-4.ensures.value,
-      ← c.wrapping_add_u64-3.ensures.value,
       ← c.spread-4.ensures,
       ← c.spread-3.ensures,
-      ← c.wrapping_add_u64-2.ensures.value,
       ← c.spread-2.ensures,
       ← c.spread.ensures,
-      ← c.wrapping_add_u64.ensures.value,
     )

@@ -1,5 +1,5 @@
 -- A number of some bytes by which keys fall into slots: any would do, and none of what is said of a table depends on it.
-use Rattle.std.specs.Prelude.{ℕ, zero, suc, ◌+◌, ◌-◌, ◌*◌, ◌/◌, ◌%◌, ◌^◌, List, length, drop, ◌==◌, nat_lt, slice_index}
+use Rattle.std.specs.Prelude.{ℕ, zero, suc, ◌+◌, ◌-◌, ◌*◌, ◌/◌, ◌%◌, ◌^◌, List, length, drop, ◌==◌, nat_lt, min, slice_index}
 use Rattle.words.specs.Word.{pick, little, little_at, field}
 
 -- the sum of two words, without what is above 64 bits
@@ -20,14 +20,11 @@ join_of hash a b c d =
     sum_of (sum_of (spread_of 0x11cb92d9 0x150665e9 (sum_of hash a)) (spread_of 0x190f16e3 0x79204595 b))
     (sum_of (spread_of 0x1f740b41 0x545c46f3 c) (spread_of 0x732eb6d7 0x7e0cc889 d))
 
-unfoldable pub least_of : ℕ → ℕ → ℕ
-least_of a b = pick (nat_lt a b) a b
-
 -- a hash and the bytes from `first` to the end of the word at `last`, at most 32: the words at both ends and the two next to them
 -- towards the middle, which overlap where the bytes are fewer
 unfoldable pub block_of : List ℕ → ℕ → ℕ → ℕ → ℕ
 block_of bytes hash first last =
-    let step = least_of 8 (last - first) in
+    let step = min 8 (last - first) in
     join_of hash (little_at bytes first) (little_at bytes (first + step)) (little_at bytes (last - step)) (little_at bytes last)
 
 -- a hash and so many blocks of 32 bytes
@@ -53,7 +50,7 @@ hash_of seed bytes =
     let n = length bytes in
     let blocks = (n - 1) / 32 in
     pick (nat_lt n 8) (sum_of seed (few_of bytes))
-    (block_of bytes (blocks_of bytes seed blocks) (least_of (32 * blocks) (n - 8)) (n - 8))
+    (block_of bytes (blocks_of bytes seed blocks) (min (32 * blocks) (n - 8)) (n - 8))
 
 -- 32 bits of a hash, in which each of its bits has a part; short numbered names fall apart best by these multipliers
 unfoldable pub folded_of : ℕ → ℕ

@@ -1,5 +1,5 @@
 -- The table of a tally once the uses are counted: choices and indexes stand in it for uses. The indexes that are given are counted for each mark.
-use Rattle.std.specs.Prelude.{ℕ, zero, suc, ◌+◌, ◌-◌, ◌/◌, ◌%◌, ◌<◌, ◌≤◌, ◌≡◌, List, Bool, cond, get_or, set, eqb}
+use Rattle.std.specs.Prelude.{ℕ, zero, suc, ◌+◌, ◌-◌, ◌/◌, ◌%◌, ◌<◌, ◌≡◌, List, Bool, cond, get_or, set, eqb, Option, Some, None}
 use Rattle.words.specs.Word.{pick}
 use Rattle.words.specs.Stream.{stream_words, same_bytes}
 use Rattle.registering.specs.Counting.{count}
@@ -67,7 +67,7 @@ chosen_key us key = registers (key_words key) (count same_bytes key us)
 abbrev pub Settled : ℕ → List ℕ → Type 0
 Settled stretch slots = (s : ℕ) → s < stretch - 18 → uses_at stretch slots s ≡ 1 → ⊥
 
--- a slot whose key waits, or no slot, where none does
-pub record Waiting (stretch : ℕ) (slots : List ℕ) (slot : ℕ) : Type 0 where
-  pub waits : slot < stretch → (slot < stretch - 18) × (uses_at stretch slots slot ≡ 1)
-  pub settled : stretch ≤ slot → Settled stretch slots
+-- a slot whose key waits, or none, where none does
+abbrev pub Waiting : ℕ → List ℕ → Option ℕ → Type 0
+Waiting stretch slots None = Settled stretch slots
+Waiting stretch slots (Some s) = (s < stretch - 18) × (uses_at stretch slots s ≡ 1)

@@ -1,6 +1,6 @@
 -- `put_answer` meets its contract: what is put is the definition's for each case of an answer.
 use Rattle.item_lines.specs.Line.{magic_line, answer_line}
-use Rattle.lines.proofs.Puts.{puts_none}
+use Rattle.lines.proofs.Puts.{adds_none}
 use Rattle.item_lines.proofs.put_answer.Goals as goal
 
 pub returns-in-End : goal.returns-in-End
@@ -10,7 +10,7 @@ returns-in-End c = rw c.in-End.is c.put_end.ensures
 pub returns-in-Nothing : goal.returns-in-Nothing
 unfolding answer_line
 returns-in-Nothing c =
-    rw c.in-Nothing.is (puts_none c.args.out.now c.args.at)
+    rw c.in-Nothing.is (adds_none c.args.out.now)
 
 pub returns-in-Magic : goal.returns-in-Magic
 unfolding answer_line magic_line

@@ -6,6 +6,5 @@ use Rattle.item_lines.proofs.put_argument.Goals as goal
 pub returns : goal.returns
 unfolding argument_line
 returns c =
-    let start = c.put_bytes-first.ensures then c.put_number-second.ensures in
     rw (← c.value_type.ensures)
-    (start then c.put_text-third.ensures then c.put_value-last.ensures then c.put_bytes.ensures)
+    (c.put_bytes.ensures then c.put_number.ensures then c.put_text.ensures then c.put_value.ensures then c.put_bytes-2.ensures)

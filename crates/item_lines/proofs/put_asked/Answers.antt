@@ -2,11 +2,11 @@
 use Rattle.item_lines.specs.Line.{asked_line}
 use Rattle.item_lines.proofs.put_asked.Goals as goal
 
-pub returns-in-Refused : goal.returns-in-Refused
+pub returns-in-Err : goal.returns-in-Err
 unfolding asked_line
-returns-in-Refused c = rw c.in-Refused.is c.put_end.ensures
+returns-in-Err c = rw c.in-Err.is c.put_end.ensures
 
-pub returns-in-Argument : goal.returns-in-Argument
+pub returns-in-Ok : goal.returns-in-Ok
 unfolding asked_line
-returns-in-Argument c =
-    rw c.in-Argument.is c.put_argument.ensures
+returns-in-Ok c =
+    rw c.in-Ok.is c.put_argument.ensures

@@ -6,4 +6,4 @@ use Rattle.item_lines.proofs.put_event.Goals as goal
 pub returns : goal.returns
 unfolding event_shown
 returns c =
-    c.put_event_start-second.ensures then c.put_referents-third.ensures then c.put_number-last.ensures then c.put_extra.ensures
+    c.put_event_start.ensures then c.put_referents.ensures then c.put_number.ensures then c.put_extra.ensures

@@ -6,4 +6,4 @@ use Rattle.item_lines.proofs.put_event_start.Goals as goal
 pub returns : goal.returns
 unfolding event_start
 returns c =
-    c.put_bytes-first.ensures then c.put_number-last.ensures then c.put_timestamp.ensures
+    rw (← c.from.ensures) (c.put_bytes.ensures then c.put_number.ensures then c.put_timestamp.ensures)

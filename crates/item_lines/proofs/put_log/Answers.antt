@@ -7,4 +7,4 @@ pub returns : goal.returns
 unfolding log_shown
 returns c =
     let message = rw c.text.ensures at c.put_text_bytes.ensures in
-    c.put_bytes-first.ensures then c.put_timestamp-second.ensures then c.put_referent-last.ensures then message
+    c.put_bytes.ensures then c.put_timestamp.ensures then c.put_referent.ensures then message

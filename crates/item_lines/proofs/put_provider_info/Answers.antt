@@ -6,4 +6,4 @@ use Rattle.item_lines.proofs.put_provider_info.Goals as goal
 pub returns : goal.returns
 unfolding provider_info_line
 returns c =
-    c.put_bytes-first.ensures then c.put_number-second.ensures then c.put_text_bytes-last.ensures then c.put_bytes.ensures
+    rw (← c.from.ensures) (c.put_bytes.ensures then c.put_number.ensures then c.put_text_bytes.ensures then c.put_bytes-2.ensures)

@@ -6,4 +6,4 @@ use Rattle.item_lines.proofs.put_referents.Goals as goal
 pub returns : goal.returns
 unfolding referents_shown
 returns c =
-    c.put_referent-next.ensures then c.put_referent-last.ensures then c.put_referent.ensures
+    c.put_referent.ensures then c.put_referent-2.ensures then c.put_referent-3.ensures

@@ -6,4 +6,4 @@ use Rattle.item_lines.proofs.put_report.Goals as goal
 pub returns : goal.returns
 unfolding report_line
 returns c =
-    c.put_own-last.ensures then c.put_bytes.ensures
+    c.put_own.ensures then c.put_bytes.ensures

@@ -6,4 +6,4 @@ use Rattle.item_lines.proofs.put_skipped.Goals as goal
 pub returns : goal.returns
 unfolding skipped_line
 returns c =
-    c.put_bytes-first.ensures then c.put_number-second.ensures then c.put_number-last.ensures then c.put_bytes.ensures
+    rw (← c.from.ensures) (c.put_bytes.ensures then c.put_number.ensures then c.put_number-2.ensures then c.put_bytes-2.ensures)

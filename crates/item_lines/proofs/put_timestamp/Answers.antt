@@ -6,4 +6,4 @@ use Rattle.item_lines.proofs.put_timestamp.Goals as goal
 pub returns : goal.returns
 unfolding timestamp_shown
 returns c =
-    c.put_provider-second.ensures then c.put_number-last.ensures then c.put_number.ensures
+    c.put_provider.ensures then c.put_number.ensures then c.put_number-2.ensures

@@ -1,33 +1,22 @@
--- `copy` meets its contract: each turn writes one byte more (more_copied).
-use Prim.Native.Nat.{ℕ, ◌+◌}
-use mathlib.Core.Path.{◌≡◌, refl, ap, ◌∙◌}
-use mathlib.Core.List.{List}
-use lib.ListN.{set, get_or, take, length-set}
+-- `copy` meets its contract: as many bytes as fit are copied (puts_copied).
+use Prim.Native.Nat.{◌+◌, ◌-◌, min}
+use mathlib.Core.Path.{◌≡◌}
+use lib.ListN.{length, take, length-take}
 use native.Mathlib.Omega.{arith}
-use Rattle.words.specs.Stream.{overwritten}
-use Rattle.words.proofs.Streams.{none-overwritten}
-use Rattle.lines.proofs.Puts.{more_copied}
-use borrow.Author.Rules.{rules}
+use Rattle.words.proofs.Streams.{part_written}
+use Rattle.lines.proofs.Puts.{puts_past, puts_copied}
 use Rattle.lines.proofs.copy.Goals as goal
 
-pub loop-i-init : goal.loop-i-init
-loop-i-init c = (search rules, refl, none-overwritten c.args.out.now c.args.at c.args.bytes.now)
-
-pub loop-i-preserved : goal.loop-i-preserved
-loop-i-preserved c = (
-  omega arith,
-  simp length-set c.loop-i.invariant.1,
-  ap (λ (out : List ℕ). set out (c.args.at + c.loop-i.i) (get_or c.args.bytes.now c.loop-i.i 0)) c.loop-i.invariant.2
-      ∙ more_copied c.args.out.now c.args.at c.args.bytes.now c.loop-i.i (omega arith) (omega arith),
-)
+pub returns-then-buffer-place : goal.returns-then-buffer-place
+returns-then-buffer-place c = puts_past c.args.buffer.now c.args.place c.args.bytes.now c.if-buffer-place.true
 
 pub returns : goal.returns
 returns c =
-    let all : c.loop-i.i ≡ c.args.n = omega arith in
-    c.loop-i.invariant.2 ∙ ap (λ (i : ℕ). overwritten c.args.out.now c.args.at (take i c.args.bytes.now)) all
-
-pub overflow_add-out : goal.overflow_add-out
-overflow_add-out c = omega arith
-
-pub bounds-out-at : goal.bounds-out-at
-bounds-out-at c = omega arith
+    let out = c.args.buffer.now in
+    let at = c.args.place in
+    let n = c.min-n.result in
+    let bytes = take n c.args.bytes.now in
+    let fits : n ≡ min (length out - at) (length c.args.bytes.now) = omega (arith, c.min-n.ensures) in
+    let long : length bytes ≡ at + n - at = omega (arith, length-take n c.args.bytes.now, fits) in
+    puts_copied out at c.args.bytes.now n fits
+    (part_written out at (at + n - at) c.copy_from_slice.new.self bytes c.copy_from_slice.ensures.after long)

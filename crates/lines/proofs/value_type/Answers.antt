@@ -4,7 +4,7 @@ use Rattle.lines.proofs.value_type.Goals as goal
 
 pub returns-in-Scalar : goal.returns-in-Scalar
 unfolding value_type
-returns-in-Scalar c = rw c.in-Scalar.is c.scalar_type.ensures
+returns-in-Scalar c = rw c.in-Scalar.is c.argument_type.ensures
 
 pub returns-in-Text : goal.returns-in-Text
 unfolding value_type

@@ -10,7 +10,7 @@ unfolding input_listing input_tables trace_line
 returns-then-input-gt32768 c =
     let long = lt-ltb _ _ c.if-input-gt32768.true in
     record {
-      puts = rw long (c.put_bytes-last.ensures then c.put_end.ensures);
+      puts = rw long (c.put_bytes.ensures then c.put_end.ensures);
       tables_after = rw long;
     }
 

@@ -1,26 +1,27 @@
--- `list_record` meets its contract: the answer's line and its arguments, in the state and the tables that the step hands back.
-use Prim.Native.Nat.{ℕ}
-use mathlib.Core.Path.{ap, ◌∙◌}
-use mathlib.Core.List.{List, ◌++◌}
+-- `list_record` meets its contract: the answer's line and its arguments, in the state and the tables that the step hands back (lines_of_step).
+use mathlib.Core.Path.{sym, ◌∙◌}
+use mathlib.Core.Bool.{true, false}
 use Rattle.format.specs.Limits.{small_format}
-use Rattle.reader.specs.declared.Reply.{Reply}
-use Rattle.reader.specs.Step.{step_reply}
-use Rattle.item_lines.specs.Line.{answer_line}
-use Rattle.listings.specs.Listing.{answer_arguments, is_end, step_lines}
-use Rattle.lines.proofs.Puts.{◌then◌, puts_same}
+use Rattle.lines.proofs.Puts.{◌then◌, adds_same}
+use Rattle.listings.proofs.Turns.{next_by, lines_of_step}
 use Rattle.listings.proofs.list_record.Goals as goal
 
-pub returns : goal.returns
-unfolding step_lines
-returns c =
-    let answered = step_reply small_format c.args.archive.now c.args.tables.now c.args.state in
-    let lines : List ℕ → Reply → List ℕ =
-    λ t r. answer_line c.args.archive.now r.answer ++ answer_arguments small_format c.args.archive.now t r.state r.answer in
-    let by-reply = ap (lines c.step-reply.new.tables) c.step-reply.ensures.value in
-    let by-tables = ap (λ (t : List ℕ). lines t answered) c.step-reply.ensures.tables_after in
+pub returns-then-is_end : goal.returns-then-is_end
+returns-then-is_end c =
+    let reply = c.step-reply.ensures in
+    let lines = lines_of_step small_format c.args.archive.now c.args.tables.now c.args.state c.step-reply.result c.step-reply.new.tables in
     record {
-      puts = puts_same (c.put_answer-arguments.ensures then c.put_answer_arguments-last.ensures) (by-reply ∙ by-tables);
-      state_value = ap (λ (r : Reply). r.state) c.step-reply.ensures.value;
-      ended_value = c.is_end.ensures ∙ ap (λ (r : Reply). is_end r.answer) c.step-reply.ensures.value;
-      tables_after = c.step-reply.ensures.tables_after;
+      puts = adds_same (c.put_answer.ensures then c.put_answer_arguments.ensures) (lines reply.value reply.tables_after);
+      value = next_by c.step-reply.result _ true reply.value (sym c.if-is_end.true ∙ c.is_end.ensures);
+      tables_after = reply.tables_after;
+    }
+
+pub returns : goal.returns
+returns c =
+    let reply = c.step-reply.ensures in
+    let lines = lines_of_step small_format c.args.archive.now c.args.tables.now c.args.state c.step-reply.result c.step-reply.new.tables in
+    record {
+      puts = adds_same (c.put_answer.ensures then c.put_answer_arguments.ensures) (lines reply.value reply.tables_after);
+      value = next_by c.step-reply.result _ false reply.value (sym c.if-is_end.false ∙ c.is_end.ensures);
+      tables_after = reply.tables_after;
     }

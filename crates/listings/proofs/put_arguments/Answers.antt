@@ -1,21 +1,19 @@
 -- `put_arguments` meets its contract: each turn puts the line of one argument more (arguments_turn).
 use Prim.Native.Nat.{◌<◌, ◌-◌, ◌+◌}
-use mathlib.Core.Path.{◌≡◌, refl, ap}
+use mathlib.Core.Path.{◌≡◌, ap}
 use native.Mathlib.Omega.{arith}
-use lib.ListN.{length}
 use Rattle.format.specs.Limits.{small_format}
 use Rattle.item_lines.specs.Line.{asked_line}
 use Rattle.listings.specs.Listing.{argument_lines}
-use Rattle.lines.proofs.Puts.{puts_same, leaves_all, leaves_less, leaves_none, leaves_same}
+use Rattle.lines.proofs.Puts.{adds_same, leaves_all, leaves_less, leaves_none, leaves_same}
 use Rattle.listings.proofs.Turns.{arguments_turn}
-use borrow.Author.Rules.{rules}
 use Rattle.listings.proofs.put_arguments.Goals as goal
 
 pub loop-number-init : goal.loop-number-init
 loop-number-init c =
     let lines = argument_lines small_format c.args.archive.now c.args.tables.now c.args.state c.args.place 0 in
     let all : c.args.count ≡ c.args.count - 0 = omega arith in
-    (omega arith, refl, leaves_same (leaves_all c.args.out.now c.args.at (lines c.args.count)) (ap lines all))
+    leaves_same (leaves_all c.args.out.now (lines c.args.count)) (ap lines all)
 
 pub loop-number-preserved : goal.loop-number-preserved
 loop-number-preserved c =
@@ -23,13 +21,11 @@ loop-number-preserved c =
     let here = c.loop-number in
     let lines = argument_lines small_format archive c.args.tables.now c.args.state c.args.place in
     let test : 0 < c.args.count - here.number = omega arith in
-    let kept : length c.put_asked-last.new.out ≡ length here.out = search rules in
     let less : c.args.count - here.number - 1 ≡ c.args.count - (here.number + 1) = omega arith in
-    let turn =
-    arguments_turn small_format archive c.args.tables.now c.args.state c.args.place here.number (c.args.count - here.number) test in
-    let line = puts_same c.put_asked-last.ensures (ap (asked_line archive) c.argument-asked.ensures) in
-    let left = leaves_less (leaves_same here.invariant.2 turn) line in
-    (omega arith, omega arith, leaves_same left (ap (lines (here.number + 1)) less))
+    let turn = arguments_turn small_format archive c.args.tables.now c.args.state c.args.place here.number (c.args.count - here.number) test in
+    let line = adds_same c.put_asked.ensures (ap (asked_line archive) c.argument-asked.ensures) in
+    let left = leaves_less (leaves_same here.invariant turn) line in
+    leaves_same left (ap (lines (here.number + 1)) less)
 
 pub returns : goal.returns
 unfolding argument_lines
@@ -37,4 +33,4 @@ returns c =
     let here = c.loop-number in
     let lines = argument_lines small_format c.args.archive.now c.args.tables.now c.args.state c.args.place here.number in
     let none : c.args.count - here.number ≡ 0 = omega arith in
-    leaves_none (leaves_same here.invariant.2 (ap lines none))
+    leaves_none (leaves_same here.invariant (ap lines none))

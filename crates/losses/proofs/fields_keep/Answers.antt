@@ -15,6 +15,6 @@ returns-then-both_padding_zero c = rw (
   c.if-both_padding_zero.true,
 ) c.both_padding_zero-then-both_padding_zero.ensures
 
-pub returns : goal.returns
+pub returns-else-both_padding_zero : goal.returns-else-both_padding_zero
 unfolding fields_keep
-returns c = rw (eq-eqb _ _ c.if-reserved-ne0.false, ← c.both_padding_zero.ensures, c.if-both_padding_zero.false)
+returns-else-both_padding_zero c = rw (eq-eqb _ _ c.if-reserved-ne0.false, ← c.both_padding_zero.ensures, c.if-both_padding_zero.false)

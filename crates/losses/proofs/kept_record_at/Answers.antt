@@ -11,19 +11,19 @@ use Rattle.losses.proofs.kept_record_at.Goals as goal
 pub slice_bounds-kept_content_of-end : goal.slice_bounds-kept_content_of-end
 slice_bounds-kept_content_of-end c =
     let w = extent_read c.args.f (take (length c.args.archive.now - c.args.place) (drop c.args.place c.args.archive.now))
-    c.in-Bytes.size (sym c.extent_of-extent.ensures ∙ c.in-Bytes.is) in
-    sym (length-take-le c.in-Bytes.size (take (length c.args.archive.now - c.args.place) (drop c.args.place c.args.archive.now))
+    c.in-Ok.size (sym c.extent_of.ensures ∙ c.in-Ok.is) in
+    sym (length-take-le c.in-Ok.size (take (length c.args.archive.now - c.args.place) (drop c.args.place c.args.archive.now))
     w.inside)
 
 pub kept_content_of-requires : goal.kept_content_of-requires
 unfolding record_of
 kept_content_of-requires c =
     let rest = drop c.args.place c.args.archive.now in
-    let e = rw (part_from c.args.place c.args.archive.now) at (sym c.extent_of-extent.ensures ∙ c.in-Bytes.is) in
-    let w = extent_read c.args.f rest c.in-Bytes.size e in
-    let long = length-take-le c.in-Bytes.size rest w.inside in
+    let e = rw (part_from c.args.place c.args.archive.now) at (sym c.extent_of.ensures ∙ c.in-Ok.is) in
+    let w = extent_read c.args.f rest c.in-Ok.size e in
+    let long = length-take-le c.in-Ok.size rest w.inside in
     let all = length-drop c.args.place c.args.archive.now in
-    let z : c.args.place + c.in-Bytes.size - c.args.place ≡ c.in-Bytes.size = omega arith in
+    let z : c.args.place + c.in-Ok.size - c.args.place ≡ c.in-Ok.size = omega arith in
     rw (part_from c.args.place c.args.archive.now) (
       omega (arith, long, w.some),
       omega (arith, long, w.inside, all, c.requires.0),
@@ -34,16 +34,16 @@ kept_content_of-requires c =
 pub overflow_add-result : goal.overflow_add-result
 overflow_add-result c =
     let rest = drop c.args.place c.args.archive.now in
-    let e = rw (part_from c.args.place c.args.archive.now) at (sym c.extent_of-extent.ensures ∙ c.in-Bytes.is) in
-    let w = extent_read c.args.f rest c.in-Bytes.size e in
+    let e = rw (part_from c.args.place c.args.archive.now) at (sym c.extent_of.ensures ∙ c.in-Ok.is) in
+    let w = extent_read c.args.f rest c.in-Ok.size e in
     omega (arith, w.inside, length-drop c.args.place c.args.archive.now, c.requires.0)
 
-pub returns-in-Refused : goal.returns-in-Refused
+pub returns-in-Err : goal.returns-in-Err
 unfolding record_of
-returns-in-Refused c = let e = simp part_from at (sym c.extent_of-extent.ensures ∙ c.in-Refused.is) in rw e
+returns-in-Err c = let e = simp part_from at (sym c.extent_of.ensures ∙ c.in-Err.is) in rw (e, c.number.ensures)
 
-pub returns-in-Bytes : goal.returns-in-Bytes
+pub returns-in-Ok : goal.returns-in-Ok
 unfolding record_of
-returns-in-Bytes c =
-    let e = simp part_from at (sym c.extent_of-extent.ensures ∙ c.in-Bytes.is) in
+returns-in-Ok c =
+    let e = simp part_from at (sym c.extent_of.ensures ∙ c.in-Ok.is) in
     rw (e, ← (simp part_from at c.kept_content_of.ensures))

@@ -8,8 +8,8 @@ use Rattle.records.proofs.Layouts.{layout_fits, fields_read}
 use Rattle.losses.proofs.Kept.{kept-report}
 use Rattle.losses.proofs.kept_report_of.Goals as goal
 
-pub take_fields-fields-requires : goal.take_fields-fields-requires
-take_fields-fields-requires c =
+pub take_fields-requires : goal.take_fields-requires
+take_fields-requires c =
     (rw c.layout_of-layout.ensures (layout_fits c.word.result), omega (arith, c.requires.0), omega (arith, c.requires.1))
 
 pub overflow_mul-at : goal.overflow_mul-at
@@ -29,19 +29,19 @@ last_word-last-requires c =
 
 pub report_with-requires : goal.report_with-requires
 report_with-requires c =
-    let s = fields_read c.args.f c.layout_of-layout.result c.args.source.now c.args.place c.in-Fields.first c.in-Fields.second
-    c.in-Fields.third c.in-Fields.stream c.in-Fields.next (omega (arith, c.requires.0)) (sym
-    c.take_fields-fields.ensures ∙ c.in-Fields.is) in
+    let s = fields_read c.args.f c.layout_of-layout.result c.args.source.now c.args.place c.in-Ok.fields.first c.in-Ok.fields.second
+    c.in-Ok.fields.third c.in-Ok.fields.stream c.in-Ok.fields.next (omega (arith, c.requires.0)) (sym
+    c.take_fields.ensures ∙ c.in-Ok.is) in
     rw (← c.word.ensures, ← c.layout_of-layout.ensures) (omega (arith, s.starts, s.ends))
 
-pub returns-in-Refused : goal.returns-in-Refused
+pub returns-in-Err : goal.returns-in-Err
 unfolding report_of
-returns-in-Refused c =
-    simp (← c.word.ensures, ← c.layout_of-layout.ensures, ← c.take_fields-fields.ensures, c.in-Refused.is)
+returns-in-Err c =
+    simp (c.number.ensures, ← c.word.ensures, ← c.layout_of-layout.ensures, ← c.take_fields.ensures, c.in-Err.is)
 
-pub returns-in-Fields : goal.returns-in-Fields
-returns-in-Fields c =
-    let is = kept-report c.args.f c.args.source.now c.args.place c.layout_of-layout.result c.in-Fields.first c.in-Fields.second
-    c.in-Fields.third c.in-Fields.stream c.in-Fields.next c.requires.0 (sym
-    (c.layout_of-layout.ensures ∙ ap layout_of c.word.ensures)) (sym c.take_fields-fields.ensures ∙ c.in-Fields.is) c.requires.2 in
+pub returns-in-Ok : goal.returns-in-Ok
+returns-in-Ok c =
+    let is = kept-report c.args.f c.args.source.now c.args.place c.layout_of-layout.result c.in-Ok.fields.first c.in-Ok.fields.second
+    c.in-Ok.fields.third c.in-Ok.fields.stream c.in-Ok.fields.next c.requires.0 (sym
+    (c.layout_of-layout.ensures ∙ ap layout_of c.word.ensures)) (sym c.take_fields.ensures ∙ c.in-Ok.is) c.requires.2 in
     rw (c.report_with.ensures, c.last_word-last.ensures) (sym is)

@@ -10,6 +10,6 @@ pub returns-then-words_keep : goal.returns-then-words_keep
 unfolding stream_keeps
 returns-then-words_keep c = simp (← c.padding_zero.ensures, c.if-words_keep.true, ← c.words_keep.ensures, ← c.stream_words.ensures)
 
-pub returns : goal.returns
+pub returns-else-words_keep : goal.returns-else-words_keep
 unfolding stream_keeps
-returns c = simp (c.if-words_keep.false, ← c.words_keep.ensures, ← c.stream_words.ensures)
+returns-else-words_keep c = simp (c.if-words_keep.false, ← c.words_keep.ensures, ← c.stream_words.ensures)

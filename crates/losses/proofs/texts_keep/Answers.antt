@@ -8,8 +8,7 @@ use Rattle.losses.proofs.texts_keep.Goals as goal
 
 pub word-header-requires : goal.word-header-requires
 word-header-requires c =
-    let s = texts_stand c.args.f c.args.rest.now c.args.place c.args.name c.args.value
-    c.args.size c.requires.1 in
+    let s = texts_stand c.args.f c.args.rest.now c.args.place c.args.texts.name c.args.texts.value c.args.texts.size c.requires.1 in
     omega (arith, s.some)
 
 pub returns-then-variant-ge10 : goal.returns-then-variant-ge10
@@ -30,35 +29,35 @@ returns-then-reserved_bits-ne0 c =
 
 pub inline_bytes-requires : goal.inline_bytes-requires
 inline_bytes-requires c =
-    let s = texts_stand c.args.f c.args.rest.now c.args.place c.args.name c.args.value c.args.size c.requires.1 in
+    let s = texts_stand c.args.f c.args.rest.now c.args.place c.args.texts.name c.args.texts.value c.args.texts.size c.requires.1 in
     omega (arith, s.enough, c.requires.0)
 
 pub inline_bytes-requires-2 : goal.inline_bytes-requires-2
 inline_bytes-requires-2 c =
-    let s = texts_stand c.args.f c.args.rest.now c.args.place c.args.name c.args.value c.args.size c.requires.1 in
+    let s = texts_stand c.args.f c.args.rest.now c.args.place c.args.texts.name c.args.texts.value c.args.texts.size c.requires.1 in
     omega (arith, s.enough, c.requires.0)
 
-pub overflow_add-texts : goal.overflow_add-texts
-overflow_add-texts c =
-    let s = texts_stand c.args.f c.args.rest.now c.args.place c.args.name c.args.value c.args.size c.requires.1 in
+pub overflow_add-inline : goal.overflow_add-inline
+overflow_add-inline c =
+    let s = texts_stand c.args.f c.args.rest.now c.args.place c.args.texts.name c.args.texts.value c.args.texts.size c.requires.1 in
     omega (arith, s.enough, c.requires.0, c.inline_bytes.ensures, c.inline_bytes-2.ensures)
 
-pub overflow_add-texts-2 : goal.overflow_add-texts-2
-overflow_add-texts-2 c =
-    let s = texts_stand c.args.f c.args.rest.now c.args.place c.args.name c.args.value c.args.size c.requires.1 in
+pub overflow_add-inline-2 : goal.overflow_add-inline-2
+overflow_add-inline-2 c =
+    let s = texts_stand c.args.f c.args.rest.now c.args.place c.args.texts.name c.args.texts.value c.args.texts.size c.requires.1 in
     omega (arith, s.enough, c.requires.0, c.inline_bytes.ensures, c.inline_bytes-2.ensures)
 
-pub overflow_add-texts-3 : goal.overflow_add-texts-3
-overflow_add-texts-3 c =
-    let s = texts_stand c.args.f c.args.rest.now c.args.place c.args.name c.args.value c.args.size c.requires.1 in
+pub overflow_add-inline-3 : goal.overflow_add-inline-3
+overflow_add-inline-3 c =
+    let s = texts_stand c.args.f c.args.rest.now c.args.place c.args.texts.name c.args.texts.value c.args.texts.size c.requires.1 in
     let held = rw (c.field-variant.ensures, c.word-header.ensures) at c.held_bytes.ensures in
     omega (arith, s.enough, c.requires.0, c.inline_bytes.ensures, c.inline_bytes-2.ensures, held)
 
-pub returns-then-size-texts : goal.returns-then-size-texts
+pub returns-then-texts-inline : goal.returns-then-texts-inline
 unfolding texts_keep
-returns-then-size-texts c =
+returns-then-texts-inline c =
     simp (
-      ne_eqb _ _ c.if-size-texts.true,
+      ne_eqb _ _ c.if-texts-inline.true,
       ← c.held_bytes.ensures,
       ← c.inline_bytes.ensures,
       ← c.inline_bytes-2.ensures,
@@ -71,7 +70,7 @@ returns-then-size-texts c =
 
 pub texts_padding_zero-requires : goal.texts_padding_zero-requires
 texts_padding_zero-requires c =
-    let s = texts_stand c.args.f c.args.rest.now c.args.place c.args.name c.args.value c.args.size c.requires.1 in
+    let s = texts_stand c.args.f c.args.rest.now c.args.place c.args.texts.name c.args.texts.value c.args.texts.size c.requires.1 in
     (c.requires.0, s.name-inside, rw (← c.word-header.ensures, ← c.field-variant.ensures) at s.value-inside)
 
 pub returns : goal.returns
@@ -79,7 +78,7 @@ unfolding texts_keep
 returns c =
     simp (
       ← c.texts_padding_zero.ensures,
-      eq-eqb _ _ c.if-size-texts.false,
+      eq-eqb _ _ c.if-texts-inline.false,
       ← c.held_bytes.ensures,
       ← c.inline_bytes.ensures,
       ← c.inline_bytes-2.ensures,

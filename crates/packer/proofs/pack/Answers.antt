@@ -1,6 +1,6 @@
 -- `packer::pack` meets its contract: what the first pass counted is the written length (lent_measured), so the second pass writes exactly that.
 use native.Mathlib.Omega.{arith}
-use mathlib.Core.Path.{refl, ◌∙◌}
+use mathlib.Core.Path.{◌∙◌}
 use Rattle.first_pass.proofs.Counting.{left_tally}
 use Rattle.tables.proofs.Tables.{small_format_lem}
 use Rattle.packer.proofs.Room.{lent_wide, lent_measured}
@@ -18,51 +18,47 @@ pub table_words-stretch-requires : goal.table_words-stretch-requires
 table_words-stretch-requires c =
     small_format_lem c.args.f c.requires.0
 
-pub count_all-count-requires : goal.count_all-count-requires
-count_all-count-requires c =
+pub count_all-requires : goal.count_all-requires
+count_all-requires c =
     (small_format_lem c.args.f c.requires.0, c.requires.1, c.requires.2, c.requires.3)
 
 pub measure-keys-requires : goal.measure-keys-requires
 measure-keys-requires c =
-    let n = rw c.in-Words.is at c.count_all-count.ensures.count_is in
-    let tallies = left_tally c.args.f c.args.archive.now _ n.0 c.count_all-count.ensures.slots_left in
-    lent_wide c.args.f c.args.archive.now c.count_all-count.new.room _ c.table_words-stretch.result c.table_words-stretch.ensures tallies
+    let n = rw c.in_ok-fixed.was at c.count_all.ensures.count_is in
+    let tallies = left_tally c.args.f c.args.archive.now _ n.0 c.count_all.ensures.slots_left in
+    lent_wide c.args.f c.args.archive.now c.count_all.new.room _ c.table_words-stretch.result c.table_words-stretch.ensures tallies
 
 pub overflow_add-fixed : goal.overflow_add-fixed
 overflow_add-fixed c =
-    let n = rw c.in-Words.is at c.count_all-count.ensures.count_is in
-    let tallies = left_tally c.args.f c.args.archive.now _ n.0 c.count_all-count.ensures.slots_left in
+    let n = rw c.in_ok-fixed.was at c.count_all.ensures.count_is in
+    let tallies = left_tally c.args.f c.args.archive.now _ n.0 c.count_all.ensures.slots_left in
     let m =
-    lent_measured c.args.f c.args.archive.now c.count_all-count.new.room c.in-Words.fixed c.measure-keys.result c.table_words-stretch.result
+    lent_measured c.args.f c.args.archive.now c.count_all.new.room c.in_ok-fixed.fixed c.measure-keys.result c.table_words-stretch.result
     c.requires.0 (λ i. omega (arith, c.type_inv.archive i)) c.requires.1 n.0 tallies n.1 c.table_words-stretch.ensures c.measure-keys.ensures.0 in
     omega (arith, m.1)
 
 pub overflow_mul-fixed : goal.overflow_mul-fixed
 overflow_mul-fixed c =
-    let n = rw c.in-Words.is at c.count_all-count.ensures.count_is in
-    let tallies = left_tally c.args.f c.args.archive.now _ n.0 c.count_all-count.ensures.slots_left in
+    let n = rw c.in_ok-fixed.was at c.count_all.ensures.count_is in
+    let tallies = left_tally c.args.f c.args.archive.now _ n.0 c.count_all.ensures.slots_left in
     let m =
-    lent_measured c.args.f c.args.archive.now c.count_all-count.new.room c.in-Words.fixed c.measure-keys.result c.table_words-stretch.result
+    lent_measured c.args.f c.args.archive.now c.count_all.new.room c.in_ok-fixed.fixed c.measure-keys.result c.table_words-stretch.result
     c.requires.0 (λ i. omega (arith, c.type_inv.archive i)) c.requires.1 n.0 tallies n.1 c.table_words-stretch.ensures c.measure-keys.ensures.0 in
     omega (arith, m.1)
 
 pub write-requires : goal.write-requires
-write-requires c = by_clause (let n = rw c.in-Words.is at c.count_all-count.ensures.count_is in
-    let tallies = left_tally c.args.f c.args.archive.now _ n.0 c.count_all-count.ensures.slots_left in
+write-requires c = by_clause (let n = rw c.in_ok-fixed.was at c.count_all.ensures.count_is in
+    let tallies = left_tally c.args.f c.args.archive.now _ n.0 c.count_all.ensures.slots_left in
     let m =
-    lent_measured c.args.f c.args.archive.now c.count_all-count.new.room c.in-Words.fixed c.measure-keys.result c.table_words-stretch.result
+    lent_measured c.args.f c.args.archive.now c.count_all.new.room c.in_ok-fixed.fixed c.measure-keys.result c.table_words-stretch.result
     c.requires.0 (λ i. omega (arith, c.type_inv.archive i)) c.requires.1 n.0 tallies n.1 c.table_words-stretch.ensures c.measure-keys.ensures.0 in
-    ((c.requires.0, c.requires.1, n.0, m.0), (omega (arith, c.requires.2, c.count_all-count.ensures.room_len_unchanged.0), tallies)))
+    ((c.requires.0, c.requires.1, n.0, m.0), (omega (arith, c.requires.2, c.count_all.ensures.room_len_unchanged.0), tallies)))
 
-pub returns-in-Refused : goal.returns-in-Refused
-returns-in-Refused c = by_clauses_of_value_output_after_room_len_unchanged (let n = rw c.in-Refused.is at c.count_all-count.ensures.count_is in
-    rw n (refl, (refl, c.count_all-count.ensures.room_len_unchanged)))
-
-pub returns-in-Words : goal.returns-in-Words
-returns-in-Words c = by_clauses_of_value_output_after_room_len_unchanged (let n = rw c.in-Words.is at c.count_all-count.ensures.count_is in
-    let tallies = left_tally c.args.f c.args.archive.now _ n.0 c.count_all-count.ensures.slots_left in
+pub returns : goal.returns
+returns c = by_clauses_of_value_output_after_room_len_unchanged (let n = rw c.in_ok-fixed.was at c.count_all.ensures.count_is in
+    let tallies = left_tally c.args.f c.args.archive.now _ n.0 c.count_all.ensures.slots_left in
     let m =
-    lent_measured c.args.f c.args.archive.now c.count_all-count.new.room c.in-Words.fixed c.measure-keys.result c.table_words-stretch.result
+    lent_measured c.args.f c.args.archive.now c.count_all.new.room c.in_ok-fixed.fixed c.measure-keys.result c.table_words-stretch.result
     c.requires.0 (λ i. omega (arith, c.type_inv.archive i)) c.requires.1 n.0 tallies n.1 c.table_words-stretch.ensures c.measure-keys.ensures.0 in
     rw (n.0, ← m.0) (
       c.write.ensures.value,
@@ -70,9 +66,9 @@ returns-in-Words c = by_clauses_of_value_output_after_room_len_unchanged (let n 
         c.write.ensures.output_after,
         (
           c.write.ensures.room_len_unchanged.0
-              ∙ c.count_all-count.ensures.room_len_unchanged.0,
+              ∙ c.count_all.ensures.room_len_unchanged.0,
           c.write.ensures.room_len_unchanged.1
-              ∙ c.count_all-count.ensures.room_len_unchanged.1,
+              ∙ c.count_all.ensures.room_len_unchanged.1,
         ),
       ),
     ))

@@ -5,7 +5,6 @@ use borrow.Author.Tests.{lt-ltb, le-ltb}
 use Rattle.packer.specs.Pack.{written_reply}
 use Rattle.tables.proofs.Tables.{small_format_lem}
 use Rattle.packer.proofs.Room.{choices_ready}
-use borrow.Author.Rules.{rules}
 use Rattle.packer.proofs.write.Goals as goal
 
 -- the clauses, of their product
@@ -18,7 +17,7 @@ by_clauses_of_asks_chosen w = record { asks = w.0; chosen = w.1 }
 
 pub returns-then-output-long : goal.returns-then-output-long
 unfolding written_reply
-returns-then-output-long c = by_clause (rw (lt-ltb _ _ c.if-output-long.true) (search rules))
+returns-then-output-long c = by_clause (rw (lt-ltb _ _ c.if-output-long.true, c.at.ensures) (refl, (refl, (refl, refl))))
 
 pub table_words-stretch-requires : goal.table_words-stretch-requires
 table_words-stretch-requires c =

@@ -1,13 +1,13 @@
 -- Uses as keys of the tally. A context is named by its number in the state at the archive's end, so that a use is one key along the whole run.
 use Rattle.std.specs.Prelude.{ℕ, zero, suc, ◌+◌, ◌/◌, [], List, ◌∷◌, ◌++◌, length, replicate}
+use Rattle.std.specs.Prelude.{Some, None}
+use Rattle.std.specs.Prelude as code
 use Rattle.std.proofs.Math.Option.{Option, none, some}
 use Rattle.words.specs.Word.{word_bytes}
 use Rattle.indexing.specs.Models.Indexes.{Indexes, chosen_key}
 use Rattle.format.specs.declared.Format.{Format}
 use Rattle.records.specs.Item.{thread, Key, text_key, thread_key, Use}
 use Rattle.contexts.specs.declared.State.{State}
-use Rattle.contexts.specs.declared.Found.{Found}
-use Rattle.contexts.specs.declared.Found.TheVariants.{At, Nothing}
 use Rattle.contexts.specs.Context.{find_id, opening}
 use Rattle.tables.specs.Table.{table_words}
 use Rattle.reader.specs.Step.{step_reply, step_tables}
@@ -16,9 +16,10 @@ use Rattle.rule.specs.Refusal.{run_of, items_of}
 use Rattle.tally.specs.Models.Slots.{label_of}
 
 -- the number of a provider's context in a state; an id that has none gets a number that no context has
-abbrev pub slot_or : Found → ℕ → ℕ
-slot_or (At i) id = i + 1
-slot_or Nothing id = 9 + id
+-- (`code.Option` is the Option that code answers)
+abbrev pub slot_or : code.Option ℕ → ℕ → ℕ
+slot_or (Some i) id = i + 1
+slot_or None id = 9 + id
 
 unfoldable pub context_in : State → Option ℕ → ℕ
 context_in s none = 0

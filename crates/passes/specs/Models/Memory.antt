@@ -1,5 +1,5 @@
 -- What a pass remembers: for an entry of the reading tables, by its position, the slot of the key that the entry stands for.
-use Rattle.std.specs.Prelude.{ℕ, ◌+◌, ◌<◌, ◌≤◌, ◌≡◌, List, eqb, ltb}
+use Rattle.std.specs.Prelude.{ℕ, ◌<◌, ◌≤◌, ◌≡◌, List, eqb, ltb, Option, Some, None}
 use Rattle.words.specs.Word.{pick}
 use Rattle.format.specs.declared.Format.{Format}
 use Rattle.format.specs.declared.Reference.{Reference}
@@ -12,12 +12,12 @@ use Rattle.contexts.specs.declared.State.{State}
 use Rattle.tables.specs.declared.Resolved.TheVariants.{Known}
 use Rattle.tables.specs.Table.{table_words, highest_of, position, resolved}
 use Rattle.tally.specs.declared.Slot.TheVariants.{Here}
-use Rattle.tally.specs.Models.Slots.{label_of, key_of, find_of, slot_word, remembered_at, remembering}
+use Rattle.tally.specs.Models.Slots.{label_of, key_of, find_of, here_slot, remembered_at, remembering}
 
--- one more than the slot of the bytes that a record registers, or 0
-unfoldable pub registered_slot : Format → List ℕ → List ℕ → ℕ → ℕ → ℕ → ℕ → ℕ
+-- the slot of the bytes that a record registers, where they have one
+unfoldable pub registered_slot : Format → List ℕ → List ℕ → ℕ → ℕ → ℕ → ℕ → Option ℕ
 registered_slot f archive slots context table place long =
-    pick (eqb long 0) 0 (slot_word (find_of archive (table_words f) slots (key_of archive place (label_of context table long))))
+    pick (eqb long 0) None (here_slot (find_of archive (table_words f) slots (key_of archive place (label_of context table long))))
 
 -- the slots after an entry was set: what is remembered for it is the slot of its new bytes
 unfoldable pub renewed_by : Format → List ℕ → List ℕ → State → Effect → List ℕ
@@ -39,17 +39,17 @@ RenewFits f (Enter id) = Unit {0}
 RenewFits f (SetRate rate) = Unit {0}
 RenewFits f (Register table index place long) = (index ≤ highest_of f table) × (2 ≤ table) × (table ≤ 3) × (long < 65536)
 
--- one more than the slot that is remembered for what a reference names, or 0; nothing is remembered for what stands inline
-unfoldable pub recalled : Format → List ℕ → ℕ → ℕ → Reference → ℕ
-recalled f slots context table (Inline place long) = 0
+-- the slot that is remembered for what a reference names; nothing is remembered for what stands inline
+unfoldable pub recalled : Format → List ℕ → ℕ → ℕ → Reference → Option ℕ
+recalled f slots context table (Inline place long) = None
 recalled f slots context table (Index index) =
-    pick (ltb (highest_of f table) index) 0 (remembered_at (table_words f) slots (position f context table index))
+    pick (ltb (highest_of f table) index) None (remembered_at (table_words f) slots (position f context table index))
 
--- the slots that remember a word for it
-unfoldable pub noted : Format → List ℕ → ℕ → ℕ → Reference → ℕ → List ℕ
-noted f slots context table (Inline place long) word = slots
-noted f slots context table (Index index) word =
-    pick (ltb (highest_of f table) index) slots (remembering (table_words f) slots (position f context table index) word)
+-- the slots that remember a slot, or none, for it
+unfoldable pub noted : Format → List ℕ → ℕ → ℕ → Reference → Option ℕ → List ℕ
+noted f slots context table (Inline place long) slot = slots
+noted f slots context table (Index index) slot =
+    pick (ltb (highest_of f table) index) slots (remembering (table_words f) slots (position f context table index) slot)
 
 -- the slot remembered for a reference: it stands for bytes, and the slot is that of their key
 pub record Recalled (f : Format) (archive tables slots : List ℕ) (context table until : ℕ) (reference : Reference) (s : ℕ) : Type 0 where
@@ -63,5 +63,5 @@ pub record Recalled (f : Format) (archive tables slots : List ℕ) (context tabl
 abbrev pub Remembers : Format → List ℕ → List ℕ → List ℕ → ℕ → Type 0
 Remembers f archive tables slots until =
     (context table index s : ℕ) → context ≤ 8 → 2 ≤ table → table ≤ 3 → index ≤ highest_of f table
-    → remembered_at (table_words f) slots (position f context table index) ≡ s + 1
+    → remembered_at (table_words f) slots (position f context table index) ≡ Some s
     → Recalled f archive tables slots context table until (Index index) s

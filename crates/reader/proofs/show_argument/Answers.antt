@@ -5,12 +5,13 @@ use Rattle.reader.proofs.show_argument.Goals as goal
 
 pub returns-then-is_bad : goal.returns-then-is_bad
 unfolding none_bad shown_value is_bad resolved
-returns-then-is_bad c = simp (c.if-is_bad.true, ← c.is_bad.ensures, ← c.resolve-named.ensures)
+returns-then-is_bad c = simp (c.at-foreign.ensures, c.if-is_bad.true, ← c.is_bad.ensures, ← c.resolve-named.ensures)
 
 pub returns-then-is_bad-2 : goal.returns-then-is_bad-2
 unfolding none_bad shown_value is_bad resolved
 returns-then-is_bad-2 c =
     simp (
+      c.at-foreign.ensures,
       c.if-is_bad-2.true,
       ← c.is_bad-in-Text.ensures,
       ← c.resolve-held.ensures,

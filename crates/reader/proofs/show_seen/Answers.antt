@@ -3,10 +3,10 @@ use Rattle.reader.specs.Models.Replies.{seen_reply}
 use Rattle.reader.specs.Step.{stopping}
 use Rattle.reader.proofs.show_seen.Goals as goal
 
-pub returns-in-Refused : goal.returns-in-Refused
+pub returns-in-Err : goal.returns-in-Err
 unfolding seen_reply stopping
-returns-in-Refused c = simp (← c.stop.ensures, c.in-Refused.is)
+returns-in-Err c = simp (← c.stop.ensures, c.in-Err.is)
 
-pub returns-in-Report : goal.returns-in-Report
+pub returns-in-Ok : goal.returns-in-Ok
 unfolding seen_reply
-returns-in-Report c = simp (← c.move_to.ensures, c.in-Report.is)
+returns-in-Ok c = simp (← c.move_to.ensures, c.in-Ok.is)

@@ -28,14 +28,14 @@ slice_bounds-rest-start c =
 
 pub slice_bounds-step_record-end : goal.slice_bounds-step_record-end
 slice_bounds-step_record-end c =
-    let e = simp part_from at (sym c.extent_of-extent.ensures ∙ c.in-Bytes.is) in
-    let h = source_here c.args.f c.args.archive.now c.args.s.place c.in-Bytes.size e in
+    let e = simp part_from at (sym c.extent_of.ensures ∙ c.in-Ok.is) in
+    let h = source_here c.args.f c.args.archive.now c.args.s.place c.in-Ok.size e in
     simp part_from (sym h.long)
 
 pub step_record-requires : goal.step_record-requires
 step_record-requires c =
-    let e = simp part_from at (sym c.extent_of-extent.ensures ∙ c.in-Bytes.is) in
-    let h = source_here c.args.f c.args.archive.now c.args.s.place c.in-Bytes.size e in
+    let e = simp part_from at (sym c.extent_of.ensures ∙ c.in-Ok.is) in
+    let h = source_here c.args.f c.args.archive.now c.args.s.place c.in-Ok.size e in
     let b = belongs_facts c.args.s (length c.args.archive.now) c.requires.3 in
     simp (part_from, h.long) (
       c.requires.0,
@@ -51,15 +51,15 @@ step_record-requires c =
       ),
     )
 
-pub returns-in-Refused : goal.returns-in-Refused
+pub returns-in-Err : goal.returns-in-Err
 unfolding place_decision stopping changed
-returns-in-Refused c = by_clause (let e = simp part_from at (sym c.extent_of-extent.ensures ∙ c.in-Refused.is) in
-    simp (ne_eqb _ _ c.if-place-archive.false, cut_decides c.args.f c.args.archive.now c.args.tables.now c.args.s c.in-Refused.number e)
-    (c.stop-in-Refused.ensures, refl))
+returns-in-Err c = by_clause (let e = simp part_from at (sym c.extent_of.ensures ∙ c.in-Err.is) in
+    simp (ne_eqb _ _ c.if-place-archive.false, cut_decides c.args.f c.args.archive.now c.args.tables.now c.args.s c.in-Err.reason e, ← c.number.ensures)
+    (c.stop-in-Err.ensures, refl))
 
-pub returns-in-Bytes : goal.returns-in-Bytes
+pub returns-in-Ok : goal.returns-in-Ok
 unfolding place_decision
-returns-in-Bytes c = by_clause (let e = simp part_from at (sym c.extent_of-extent.ensures ∙ c.in-Bytes.is) in
-    let h = source_here c.args.f c.args.archive.now c.args.s.place c.in-Bytes.size e in
+returns-in-Ok c = by_clause (let e = simp part_from at (sym c.extent_of.ensures ∙ c.in-Ok.is) in
+    let h = source_here c.args.f c.args.archive.now c.args.s.place c.in-Ok.size e in
     simp (ne_eqb _ _ c.if-place-archive.false, h.is)
     (simp (part_from, h.long) at c.step_record.ensures.value, simp (part_from, h.long) at c.step_record.ensures.tables_after))

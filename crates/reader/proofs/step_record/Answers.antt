@@ -21,10 +21,6 @@ see_report-seen-requires c =
     let k : (layout_of (word_at c.args.f.order c.args.source.now 0)).read ≡ true =
     rw (← c.word.ensures, ← c.layout_of-layout.ensures) c.if-layout.true in
     let read = report_content c.args.f c.args.source.now c.args.s.place k in (
-      c.requires.0,
-      omega (arith, c.requires.1),
-      c.requires.2,
-      c.requires.4,
       c.requires.5.0,
       c.requires.5.1,
       omega (
@@ -43,7 +39,7 @@ returns-then-layout c = by_clause (let k : (layout_of (word_at c.args.f.order c.
 ) c.if-layout.true in
     let r = read_replies c.args.f c.args.archive.now c.args.tables.now c.args.s c.args.source.now (c.args.s.place + length
     c.args.source.now) c.requires.5.1 k in
-    rw (r.0, r.1, ← c.provider_of.ensures, ← c.rate_of.ensures, ← c.see_report-seen.ensures) (c.show_seen.ensures, refl))
+    rw (r.0, r.1, ← c.provider_of-provider.ensures, ← c.rate_of.ensures, ← c.see_report-seen.ensures) (c.show_seen.ensures, refl))
 
 pub content_of-requires : goal.content_of-requires
 content_of-requires c =

@@ -7,6 +7,6 @@ pub returns-then-variant-eq1 : goal.returns-then-variant-eq1
 unfolding has_extra
 returns-then-variant-eq1 c = simp (eq-eqb _ _ c.if-variant-eq1.true)
 
-pub returns : goal.returns
+pub returns-else-variant-eq1 : goal.returns-else-variant-eq1
 unfolding has_extra
-returns c = simp (ne_eqb _ _ c.if-variant-eq1.false)
+returns-else-variant-eq1 c = simp (ne_eqb _ _ c.if-variant-eq1.false)

@@ -6,7 +6,7 @@ use Rattle.records.proofs.initialization_of.Goals as goal
 
 pub returns-then-end-place : goal.returns-then-end-place
 unfolding initialization_of take_parts take_part take_words
-returns-then-end-place c = simp (lt-ltb _ _ c.if-end-place.true)
+returns-then-end-place c = simp (c.number.ensures, lt-ltb _ _ c.if-end-place.true)
 
 pub returns : goal.returns
 unfolding initialization_of take_parts take_part take_words

@@ -7,6 +7,6 @@ pub returns-then-field-eq4 : goal.returns-then-field-eq4
 unfolding is_event
 returns-then-field-eq4 c = simp (← c.field-then-field-eq4.ensures, eq-eqb _ _ c.if-field-eq4.true, ← c.field.ensures)
 
-pub returns : goal.returns
+pub returns-else-field-eq4 : goal.returns-else-field-eq4
 unfolding is_event
-returns c = simp (ne_eqb _ _ c.if-field-eq4.false, ← c.field.ensures)
+returns-else-field-eq4 c = simp (ne_eqb _ _ c.if-field-eq4.false, ← c.field.ensures)

@@ -55,6 +55,7 @@ pub returns-then-field-eq4 : goal.returns-then-field-eq4
 unfolding metadata_of
 returns-then-field-eq4 c =
     simp (
+      c.number.ensures,
       c.if-starts_with_magic.false,
       ← c.starts_with_magic.ensures,
       eq-eqb _ _ c.if-field-eq4.true,

@@ -3,12 +3,12 @@ use Rattle.records.specs.Record.{provider_info_of}
 use Rattle.format.specs.Part.{take_parts, take_part}
 use Rattle.records.proofs.provider_info_of.Goals as goal
 
-pub returns-in-Refused : goal.returns-in-Refused
+pub returns-in-Err : goal.returns-in-Err
 unfolding provider_info_of take_parts take_part
-returns-in-Refused c =
-    simp (c.in-Refused.is, ← c.take_stream-stream.ensures, ← c.field-length.ensures, ← c.word-header.ensures)
+returns-in-Err c =
+    simp (c.number.ensures, c.in-Err.is, ← c.take_stream.ensures, ← c.field-length.ensures, ← c.word-header.ensures)
 
-pub returns-in-Part : goal.returns-in-Part
+pub returns-in-Ok : goal.returns-in-Ok
 unfolding provider_info_of take_parts take_part
-returns-in-Part c =
-    simp (← c.field.ensures, c.in-Part.is, ← c.take_stream-stream.ensures, ← c.field-length.ensures, ← c.word-header.ensures)
+returns-in-Ok c =
+    simp (← c.field.ensures, c.in-Ok.is, ← c.take_stream.ensures, ← c.field-length.ensures, ← c.word-header.ensures)

@@ -11,14 +11,15 @@ returns-then-index-eq0 c = simp (eq-eqb _ _ c.if-index-eq0.true, ← c.field-len
 pub returns-then-f-index : goal.returns-then-f-index
 unfolding string_of take_parts take_part
 returns-then-f-index c =
-    simp (lt-ltb _ _ c.if-f-index.true, ne_eqb _ _ c.if-index-eq0.false, ← c.field-length.ensures, ← c.field-index.ensures, ← c.word-header.ensures)
+    simp (c.number.ensures, lt-ltb _ _ c.if-f-index.true, ne_eqb _ _ c.if-index-eq0.false, ← c.field-length.ensures, ← c.field-index.ensures, ← c.word-header.ensures)
 
-pub returns-in-Refused : goal.returns-in-Refused
+pub returns-in-Err : goal.returns-in-Err
 unfolding string_of take_parts take_part
-returns-in-Refused c =
+returns-in-Err c =
     simp (
-      c.in-Refused.is,
-      ← c.take_stream-stream.ensures,
+      c.number-in-Err.ensures,
+      c.in-Err.is,
+      ← c.take_stream.ensures,
       le-ltb _ _ c.if-f-index.false,
       ne_eqb _ _ c.if-index-eq0.false,
       ← c.field-length.ensures,
@@ -26,12 +27,12 @@ returns-in-Refused c =
       ← c.word-header.ensures,
     )
 
-pub returns-in-Part : goal.returns-in-Part
+pub returns-in-Ok : goal.returns-in-Ok
 unfolding string_of take_parts take_part
-returns-in-Part c =
+returns-in-Ok c =
     simp (
-      c.in-Part.is,
-      ← c.take_stream-stream.ensures,
+      c.in-Ok.is,
+      ← c.take_stream.ensures,
       le-ltb _ _ c.if-f-index.false,
       ne_eqb _ _ c.if-index-eq0.false,
       ← c.field-length.ensures,

@@ -8,12 +8,12 @@ pub returns-then-index-eq0 : goal.returns-then-index-eq0
 unfolding thread_of take_parts take_part
 returns-then-index-eq0 c = simp (eq-eqb _ _ c.if-index-eq0.true, ← c.field-index.ensures, ← c.word-header.ensures)
 
-pub returns-in-Refused : goal.returns-in-Refused
+pub returns-in-Err : goal.returns-in-Err
 unfolding thread_of take_parts take_part
-returns-in-Refused c =
-    simp (c.in-Refused.is, ← c.take_words-pair.ensures, ne_eqb _ _ c.if-index-eq0.false, ← c.field-index.ensures, ← c.word-header.ensures)
+returns-in-Err c =
+    simp (c.number.ensures, c.in-Err.is, ← c.take_words.ensures, ne_eqb _ _ c.if-index-eq0.false, ← c.field-index.ensures, ← c.word-header.ensures)
 
-pub returns-in-Part : goal.returns-in-Part
+pub returns-in-Ok : goal.returns-in-Ok
 unfolding thread_of take_parts take_part
-returns-in-Part c =
-    simp (c.in-Part.is, ← c.take_words-pair.ensures, ne_eqb _ _ c.if-index-eq0.false, ← c.field-index.ensures, ← c.word-header.ensures)
+returns-in-Ok c =
+    simp (c.in-Ok.is, ← c.take_words.ensures, ne_eqb _ _ c.if-index-eq0.false, ← c.field-index.ensures, ← c.word-header.ensures)

@@ -1,4 +1,4 @@
-use Prim.Native.Nat.{◌+◌}
+use Prim.Native.Nat.{◌+◌, ◌-◌}
 use mathlib.Core.Path.{◌≡◌}
 use lib.ListN.{length}
 use Rattle.arguments.specs.Argument.{arguments_read}
@@ -6,10 +6,8 @@ use Rattle.rewriting.specs.Models.Write.{tables_in, slots_in}
 use Rattle.rewriting.proofs.Spelling.{Walk}
 use Rattle.rewriting.proofs.put_arguments.Given as goal
 
-abbrev pub invariant-loop-left : goal.invariant-loop-left
-invariant-loop-left l = Walk l.f l.archive (tables_in l.f l.room) (slots_in l.f l.room) l.context l.until (arguments_read l.f l.count
-    l.part l.place) l.initial.out l.start (arguments_read l.f l.left l.rest l.from) l.out l.at
+abbrev pub invariant-loop : goal.invariant-loop
+invariant-loop l =
+    Walk l.initial.out l.archive (tables_in l.initial.out.format l.room) (slots_in l.initial.out.format l.room) l.context l.until
+    (arguments_read l.initial.out.format l.count l.part l.place) l.out (arguments_read l.initial.out.format (l.count - l.counter) l.rest l.from)
     × (l.from + length l.rest ≡ l.place + length l.part)
-
-abbrev pub decreases-loop-left : goal.decreases-loop-left
-decreases-loop-left l = l.left

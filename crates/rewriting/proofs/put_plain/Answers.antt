@@ -1,22 +1,19 @@
 -- `rewriting::put_plain` meets its contract: content by content, the record is the one of its item, and nothing where it shows none. Assumes nothing.
+use mathlib.Core.Path.{sym}
 use native.Mathlib.Omega.{arith}
 use Rattle.passes.specs.Models.Item.{plain_item}
 use Rattle.words.specs.Stream.{magic as magic_bytes}
 use Rattle.records.specs.Item.{magic}
 use Rattle.encoding.proofs.Headers.{length-plain}
 use Rattle.encoding.proofs.EncodedItems.{magic_record}
-use Rattle.encoding.proofs.Parts.{nothing_written}
+use Rattle.encoding.proofs.Writing.{writes_none, writes_same}
 use Rattle.rewriting.proofs.put_plain.Goals as goal
 
--- the clauses, of their product
-by_clause : {A B : Type 0} → A × B → record { out_after : A; value : B }
-by_clause w = record { out_after = w.0; value = w.1 }
-
 pub put_magic-requires : goal.put_magic-requires
-unfolding plain_item
+unfolding plain_item magic_bytes
 put_magic-requires c =
     let room = rw c.in-Magic.is at c.requires.1 in
-    omega (arith, room, length-plain c.args.f magic)
+    omega (arith, room, length-plain c.args.out.now.format magic)
 
 pub put_provider_info-requires : goal.put_provider_info-requires
 unfolding plain_item
@@ -40,47 +37,44 @@ put_initialization-requires c =
 
 pub returns-in-Magic : goal.returns-in-Magic
 unfolding plain_item magic_bytes
-returns-in-Magic c = by_clause (rw (c.in-Magic.is, magic_record c.args.f (λ key. 0)) (c.put_magic.ensures.out_after, c.put_magic.ensures.value))
+returns-in-Magic c = rw c.in-Magic.is (writes_same c.put_magic.ensures (sym (magic_record c.args.out.now.format (λ key. 0))))
 
 pub returns-in-ProviderInfo : goal.returns-in-ProviderInfo
 unfolding plain_item
-returns-in-ProviderInfo c = by_clause (rw c.in-ProviderInfo.is (
-  rw c.text.ensures at c.put_provider_info.ensures.out_after,
-  rw c.text.ensures at c.put_provider_info.ensures.value,
-))
+returns-in-ProviderInfo c = rw c.in-ProviderInfo.is (rw c.text.ensures at c.put_provider_info.ensures)
 
 pub returns-in-Section : goal.returns-in-Section
 unfolding plain_item
-returns-in-Section c = by_clause (rw c.in-Section.is (c.put_section.ensures.out_after, c.put_section.ensures.value))
+returns-in-Section c = rw c.in-Section.is c.put_section.ensures
 
 pub returns-in-ProviderEvent : goal.returns-in-ProviderEvent
 unfolding plain_item
-returns-in-ProviderEvent c = by_clause (rw c.in-ProviderEvent.is (c.put_provider_event.ensures.out_after, c.put_provider_event.ensures.value))
+returns-in-ProviderEvent c = rw c.in-ProviderEvent.is c.put_provider_event.ensures
 
 pub returns-in-Initialization : goal.returns-in-Initialization
 unfolding plain_item
-returns-in-Initialization c = by_clause (rw c.in-Initialization.is (c.put_initialization.ensures.out_after, c.put_initialization.ensures.value))
+returns-in-Initialization c = rw c.in-Initialization.is c.put_initialization.ensures
 
 pub returns-in-Report : goal.returns-in-Report
 unfolding plain_item
-returns-in-Report c = by_clause (rw c.in-Report.is (nothing_written c.args.out.now c.args.at, omega arith))
+returns-in-Report c = rw c.in-Report.is (writes_none c.args.out.now)
 
 pub returns-in-Refused : goal.returns-in-Refused
 unfolding plain_item
-returns-in-Refused c = by_clause (rw c.in-Refused.is (nothing_written c.args.out.now c.args.at, omega arith))
+returns-in-Refused c = rw c.in-Refused.is (writes_none c.args.out.now)
 
 pub returns-in-String : goal.returns-in-String
 unfolding plain_item
-returns-in-String c = by_clause (rw c.in-String.is (nothing_written c.args.out.now c.args.at, omega arith))
+returns-in-String c = rw c.in-String.is (writes_none c.args.out.now)
 
 pub returns-in-Thread : goal.returns-in-Thread
 unfolding plain_item
-returns-in-Thread c = by_clause (rw c.in-Thread.is (nothing_written c.args.out.now c.args.at, omega arith))
+returns-in-Thread c = rw c.in-Thread.is (writes_none c.args.out.now)
 
 pub returns-in-Ignored : goal.returns-in-Ignored
 unfolding plain_item
-returns-in-Ignored c = by_clause (rw c.in-Ignored.is (nothing_written c.args.out.now c.args.at, omega arith))
+returns-in-Ignored c = rw c.in-Ignored.is (writes_none c.args.out.now)
 
 pub returns-in-Skipped : goal.returns-in-Skipped
 unfolding plain_item
-returns-in-Skipped c = by_clause (absurd (rw c.in-Skipped.is at c.requires.0))
+returns-in-Skipped c = absurd (rw c.in-Skipped.is at c.requires.0)

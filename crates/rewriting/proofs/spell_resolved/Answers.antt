@@ -11,21 +11,30 @@ use Rattle.rewriting.specs.Models.Write.{spelled_of}
 use Rattle.rewriting.proofs.Spelling.{slots_wide}
 use Rattle.rewriting.proofs.spell_resolved.Goals as goal
 
-pub slice_bounds-resolve-end : goal.slice_bounds-resolve-end
-slice_bounds-resolve-end c =
+pub slice_bounds-registrations-end : goal.slice_bounds-registrations-end
+slice_bounds-registrations-end c =
     sym (length-take-le c.table_words-words.result c.args.room.now (omega (arith, c.table_words-words.ensures, c.requires.0.wide)))
 
-pub resolve-resolved-requires : goal.resolve-resolved-requires
-resolve-resolved-requires c =
+pub invariant_of-registrations-clause-addressed : goal.invariant_of-registrations-clause-addressed
+invariant_of-registrations-clause-addressed c = c.requires.0.limits
+
+pub invariant_of-registrations-clause-bounded : goal.invariant_of-registrations-clause-bounded
+invariant_of-registrations-clause-bounded c = omega (arith, c.requires.0.short)
+
+pub invariant_of-registrations-clause-lent : goal.invariant_of-registrations-clause-lent
+invariant_of-registrations-clause-lent c =
     let long = length-take-le c.table_words-words.result c.args.room.now (omega (arith, c.table_words-words.ensures, c.requires.0.wide)) in
-    (c.requires.0.limits, omega (arith, c.requires.0.short), omega (arith, long, c.table_words-words.ensures), c.requires.0.low)
+    omega (arith, long, c.table_words-words.ensures)
+
+pub invariant_of-registrations-clause-one_of_nine : goal.invariant_of-registrations-clause-one_of_nine
+invariant_of-registrations-clause-one_of_nine c = c.requires.0.low
 
 pub label_of-label-requires : goal.label_of-label-requires
 label_of-label-requires c =
     let known = reference-fits c.args.f c.args.archive.now (take c.table_words-words.result c.args.room.now) c.args.context
     c.args.lookup.table c.args.until
     c.args.lookup.reference c.requires.1.reference c.requires.0.short in
-    (c.requires.0.low, c.requires.1.low, c.requires.1.high, (subst KnownFits (sym c.resolve-resolved.ensures ∙ c.in-Known.is) known).1)
+    (c.requires.0.low, c.requires.1.low, c.requires.1.high, (subst KnownFits (sym c.resolve.ensures ∙ c.in-Known.is) known).1)
 
 pub index_of-index-requires : goal.index_of-index-requires
 unfolding label_of
@@ -33,7 +42,7 @@ index_of-index-requires c =
     let known = reference-fits c.args.f c.args.archive.now (take c.table_words-words.result c.args.room.now) c.args.context
     c.args.lookup.table c.args.until
     c.args.lookup.reference c.requires.1.reference c.requires.0.short in
-    let low = (subst KnownFits (sym c.resolve-resolved.ensures ∙ c.in-Known.is) known).1 in (
+    let low = (subst KnownFits (sym c.resolve.ensures ∙ c.in-Known.is) known).1 in (
       slots_wide c.args.f c.table_words-words.result c.args.room.now c.requires.0.limits c.table_words-words.ensures c.requires.0.wide,
       omega (arith, c.label_of-label.ensures, low, c.requires.0.low, c.requires.1.low, c.requires.1.high),
     )
@@ -41,12 +50,12 @@ index_of-index-requires c =
 pub returns-in-Bad : goal.returns-in-Bad
 unfolding spelled_of
 returns-in-Bad c =
-    rw (← c.table_words-words.ensures, ← c.resolve-resolved.ensures, c.in-Bad.is)
+    rw (← c.table_words-words.ensures, ← c.resolve.ensures, c.in-Bad.is)
 
 pub returns-in-Unresolved : goal.returns-in-Unresolved
 unfolding spelled_of
 returns-in-Unresolved c =
-    rw (← c.table_words-words.ensures, ← c.resolve-resolved.ensures, c.in-Unresolved.is)
+    rw (← c.table_words-words.ensures, ← c.resolve.ensures, c.in-Unresolved.is)
 
 pub returns-in-Known : goal.returns-in-Known
 unfolding spelled_of
@@ -54,7 +63,7 @@ returns-in-Known c =
     let index = rw (part_from c.table_words-words.result c.args.room.now) at c.index_of-index.ensures in
     rw (
       ← c.table_words-words.ensures,
-      ← c.resolve-resolved.ensures,
+      ← c.resolve.ensures,
       c.in-Known.is,
       ← c.table_words-words.ensures,
       ← c.label_of-label.ensures,

@@ -1,46 +1,28 @@
 -- `is_good` meets its contract: each answer is what the definition gives under the tests that led there. Assumes nothing.
-use native.Mathlib.Omega.{arith}
-use Rattle.sheets.proofs.Turns.{whole_told}
-use borrow.Author.Tests.{lt-ltb, lt-leb, le-ltb, le-leb}
+use Rattle.std.proofs.Common.{arith, sym}
+use Rattle.std.proofs.lemmas.Bool.Decides.{nat_tests}
 use Rattle.sheets.specs.Sheet.{is_good}
+use Rattle.sheets.proofs.Turns.{whole-ends}
 use Rattle.sheets.proofs.is_good.Goals as goal
 
-pub number-requires : goal.number-requires
-number-requires c =
-    let g = whole_told _ _ c.is_whole.ensures c.if-is_whole.true in omega arith
-
-pub returns-then-longest-number : goal.returns-then-longest-number
+pub returns-then-not-is_whole : goal.returns-then-not-is_whole
 unfolding is_good
-returns-then-longest-number c = simp (lt-leb _ _ c.if-longest-number.true, ← c.number.ensures.0, c.if-is_whole.true, ← c.is_whole.ensures)
+returns-then-not-is_whole c = rw (← c.if-not-is_whole.ensures)
 
 pub number-index-requires : goal.number-index-requires
 number-index-requires c =
-    let g = whole_told _ _ c.is_whole.ensures c.if-is_whole.true in omega arith
+    let ends = whole-ends _ _ (sym c.if-not-is_whole.ensures) in omega arith
 
-pub returns-then-index-before : goal.returns-then-index-before
-unfolding is_good
-returns-then-index-before c =
-    simp (
-      le-ltb c.args.before c.number-index.result (omega arith),
-      ← c.number-index.ensures.0,
-      le-leb _ _ c.if-longest-number.false,
-      ← c.number.ensures.0,
-      c.if-is_whole.true,
-      ← c.is_whole.ensures,
-    )
+pub number-requires : goal.number-requires
+number-requires c =
+    let ends = whole-ends _ _ (sym c.if-not-is_whole.ensures) in omega arith
 
-pub returns-then-is_whole : goal.returns-then-is_whole
+pub returns-then-before-index : goal.returns-then-before-index
 unfolding is_good
-returns-then-is_whole c =
-    simp (
-      lt-ltb c.args.before c.number-index.result (omega arith),
-      ← c.number-index.ensures.0,
-      le-leb _ _ c.if-longest-number.false,
-      ← c.number.ensures.0,
-      c.if-is_whole.true,
-      ← c.is_whole.ensures,
-    )
+returns-then-before-index c =
+    rw (← c.if-not-is_whole.ensures, ← c.number-index.ensures.0, ← c.number.ensures.0) (grind (arith, nat_tests))
 
-pub returns : goal.returns
+pub returns-else-before-index : goal.returns-else-before-index
 unfolding is_good
-returns c = simp (c.if-is_whole.false, ← c.is_whole.ensures)
+returns-else-before-index c =
+    rw (← c.if-not-is_whole.ensures, ← c.number-index.ensures.0, ← c.number.ensures.0) (grind (arith, nat_tests))

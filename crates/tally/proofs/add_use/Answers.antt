@@ -2,8 +2,7 @@
 -- below the capacity (here_below, free_below). Assumes nothing.
 use mathlib.Core.Path.{refl}
 use native.Mathlib.Omega.{arith}
-use mir.Facts.{Fits-32_64}
-use borrow.Author.Tests.{lt-ltb, le-ltb}
+use borrow.Author.Tests.{lt-ltb}
 use Rattle.tally.proofs.Laws.{here_below, free_below}
 use Rattle.tally.proofs.add_use.Goals as goal
 
@@ -15,20 +14,9 @@ pub use_again-requires : goal.use_again-requires
 use_again-requires c =
     (c.requires.0, here_below _ _ c.requires.0 c.find-slot.ensures c.in-Here.is)
 
-pub overflow_add-result : goal.overflow_add-result
-overflow_add-result c =
-    let low = here_below _ _ c.requires.0 c.find-slot.ensures c.in-Here.is in omega (arith, low, c.requires.0.low)
-
-pub overflow_cast-keys : goal.overflow_cast-keys
-overflow_cast-keys c = Fits-32_64 (c.type_inv.slots _)
-
 pub fill-requires : goal.fill-requires
 fill-requires c =
     (c.requires.0, free_below _ _ c.requires.0 c.find-slot.ensures c.in-Free.is, c.requires.1, c.requires.2)
-
-pub overflow_add-result-then-keys-most : goal.overflow_add-result-then-keys-most
-overflow_add-result-then-keys-most c =
-    let low = free_below _ _ c.requires.0 c.find-slot.ensures c.in-Free.is in omega (arith, low, c.requires.0.low)
 
 pub returns-then-keys-most : goal.returns-then-keys-most
 returns-then-keys-most c = by_clause (let low = free_below _ _ c.requires.0 c.find-slot.ensures c.in-Free.is in
@@ -37,9 +25,3 @@ returns-then-keys-most c = by_clause (let low = free_below _ _ c.requires.0 c.fi
 pub returns-in-Here : goal.returns-in-Here
 returns-in-Here c = by_clause (let low = here_below _ _ c.requires.0 c.find-slot.ensures c.in-Here.is in
     simp (← c.find-slot.ensures, c.in-Here.is) ((refl, omega (arith, low, c.requires.0.low)), c.use_again.ensures))
-
-pub returns-else-keys-most : goal.returns-else-keys-most
-returns-else-keys-most c = by_clause (simp (← c.find-slot.ensures, c.in-Free.is, le-ltb _ _ c.if-keys-most.false) ((refl, omega arith), refl))
-
-pub returns-in-Full : goal.returns-in-Full
-returns-in-Full c = by_clause (simp (← c.find-slot.ensures, c.in-Full.is) ((refl, omega arith), refl))

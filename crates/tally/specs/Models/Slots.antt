@@ -2,7 +2,7 @@
 -- its key and, above 24 bits, the key's mark; word s of the second has the length of the key's bytes and, above 16 bits, its uses. A place of 0 is a
 -- free slot. The last 18 words of these two are no slots: in the second they count the distinct keys of each mark. The third stretch remembers slots:
 -- its word at a number that the caller chooses has one more than a slot, or 0.
-use Rattle.std.specs.Prelude.{ℕ, zero, suc, ◌+◌, ◌-◌, ◌*◌, ◌/◌, ◌%◌, ◌^◌, List, ◌∷◌, Bool, true, false, drop, get_or, set, eqb, ltb}
+use Rattle.std.specs.Prelude.{ℕ, zero, suc, ◌+◌, ◌-◌, ◌*◌, ◌/◌, ◌%◌, ◌^◌, List, ◌∷◌, Bool, true, false, drop, get_or, set, eqb, ltb, Option, Some, None}
 use Rattle.words.specs.Word.{pick}
 use Rattle.words.specs.Stream.{stream_words, same_bytes, part_of}
 use Rattle.registering.specs.Registers.{registers}
@@ -108,18 +108,26 @@ abbrev pub filled : ℕ → List ℕ → ℕ → ℕ → ℕ → List ℕ
 filled stretch slots place label s =
     set (set (set slots s (first_word place label)) (stretch + s) (with_uses 1 label)) (counter_at stretch (label / 65536)) (raised (count_at stretch slots label))
 
--- one more than the slot that a search found for a key, or 0
-abbrev pub slot_word : Slot → ℕ
-slot_word (Here s) = s + 1
-slot_word (Free s) = 0
-slot_word Full = 0
+-- the slot of a key that was searched for, where it has one
+abbrev pub here_slot : Slot → Option ℕ
+here_slot (Here s) = Some s
+here_slot (Free s) = None
+here_slot Full = None
 
--- what is remembered under a number, and the table that remembers a word under it
-abbrev pub remembered_at : ℕ → List ℕ → ℕ → ℕ
-remembered_at stretch slots entry = get_or slots (2 * stretch + entry) 0
+-- the word that stands for a slot, one more than it, or 0 for none; and what a word stands for
+abbrev pub slot_word : Option ℕ → ℕ
+slot_word None = 0
+slot_word (Some s) = s + 1
 
-abbrev pub remembering : ℕ → List ℕ → ℕ → ℕ → List ℕ
-remembering stretch slots entry word = set slots (2 * stretch + entry) word
+abbrev pub slot_of_word : ℕ → Option ℕ
+slot_of_word word = pick (eqb word 0) None (Some (word - 1))
+
+-- the slot that is remembered under a number, and the table that remembers a slot, or none, under it
+abbrev pub remembered_at : ℕ → List ℕ → ℕ → Option ℕ
+remembered_at stretch slots entry = slot_of_word (get_or slots (2 * stretch + entry) 0)
+
+abbrev pub remembering : ℕ → List ℕ → ℕ → Option ℕ → List ℕ
+remembering stretch slots entry slot = set slots (2 * stretch + entry) (slot_word slot)
 
 -- whether one use more is counted of the key whose slot is given: a new key only where fewer than `most` of its mark were
 abbrev pub is_added : ℕ → List ℕ → ℕ → ℕ → Slot → Bool
@@ -127,11 +135,11 @@ is_added stretch slots label most (Here s) = true
 is_added stretch slots label most (Free s) = ltb (count_at stretch slots label) most
 is_added stretch slots label most Full = false
 
--- one more than the slot that the key then has, or 0
-abbrev pub added_slot : ℕ → List ℕ → ℕ → ℕ → Slot → ℕ
-added_slot stretch slots label most (Here s) = s + 1
-added_slot stretch slots label most (Free s) = pick (ltb (count_at stretch slots label) most) (s + 1) 0
-added_slot stretch slots label most Full = 0
+-- the slot that the key then has
+abbrev pub added_slot : ℕ → List ℕ → ℕ → ℕ → Slot → Option ℕ
+added_slot stretch slots label most (Here s) = Some s
+added_slot stretch slots label most (Free s) = pick (ltb (count_at stretch slots label) most) (Some s) None
+added_slot stretch slots label most Full = None
 
 -- the table after it
 abbrev pub added : ℕ → List ℕ → ℕ → ℕ → ℕ → Slot → List ℕ

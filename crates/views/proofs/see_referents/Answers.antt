@@ -8,12 +8,13 @@ use Rattle.views.proofs.see_referents.Goals as goal
 pub returns-then-is_bad : goal.returns-then-is_bad
 unfolding seen_found none_bad
 returns-then-is_bad c =
-    simp (c.if-is_bad.true, ← c.is_bad.ensures, ← c.resolve-c.ensures, ← c.resolve-b.ensures, ← c.resolve-a.ensures)
+    simp (c.number.ensures, c.if-is_bad.true, ← c.is_bad.ensures, ← c.resolve-c.ensures, ← c.resolve-b.ensures, ← c.resolve-a.ensures)
 
 pub returns-then-is_bad-2 : goal.returns-then-is_bad-2
 unfolding seen_found none_bad
 returns-then-is_bad-2 c =
     simp (
+      c.number-then-is_bad-2.ensures,
       c.if-is_bad-2.true,
       ← c.is_bad-2.ensures,
       c.if-is_bad.false,
@@ -27,6 +28,7 @@ pub returns-then-is_bad-3 : goal.returns-then-is_bad-3
 unfolding seen_found none_bad
 returns-then-is_bad-3 c =
     simp (
+      c.number-then-is_bad-3.ensures,
       c.if-is_bad-3.true,
       ← c.is_bad-3.ensures,
       c.if-is_bad-2.false,
@@ -40,8 +42,8 @@ returns-then-is_bad-3 c =
 
 pub shown_report-requires : goal.shown_report-requires
 shown_report-requires c =
-    let i = referents_inside c.args.f c.args.archive.now c.args.tables.now c.args.context c.args.place c.args.place c.args.report
-    c.requires.4 c.requires.4 c.requires.5 in
+    let i = referents_inside c.args.registrations.now.format c.args.registrations.now.archive.now c.args.registrations.now.words.now c.args.registrations.now.context c.args.registrations.now.until c.args.registrations.now.until c.args.report
+    c.requires.0 c.requires.0 c.requires.1 in
     rw (c.resolve-a.ensures, c.resolve-b.ensures, c.resolve-c.ensures) (i.0, i.1, i.2)
 
 pub returns-then-found : goal.returns-then-found
@@ -65,6 +67,7 @@ pub returns : goal.returns
 unfolding seen_found none_bad
 returns c =
     simp (
+      c.number-2.ensures,
       c.if-found.false,
       c.if-is_bad-3.false,
       ← c.is_bad-3.ensures,

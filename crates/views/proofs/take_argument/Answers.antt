@@ -12,35 +12,35 @@ use Rattle.views.specs.Models.Numbered.{argument_in}
 use Rattle.views.proofs.Numbered.{sought_stands, argument_sought}
 use Rattle.views.proofs.take_argument.Goals as goal
 
-pub take_fields-fields-requires : goal.take_fields-fields-requires
-take_fields-fields-requires c = (rw c.requires.0 (layout_fits _), c.requires.2, omega (arith, c.requires.3))
+pub take_fields-requires : goal.take_fields-requires
+take_fields-requires c = (rw c.requires.0 (layout_fits _), c.requires.2, omega (arith, c.requires.3))
 
 pub overflow_sub-from : goal.overflow_sub-from
 overflow_sub-from c =
-    let s = fields_read c.args.f c.args.layout c.args.source.now c.args.at _ _ _ _ _ c.requires.2 (sym c.take_fields-fields.ensures
-    ∙ c.in-Fields.is) in omega (arith, s.starts)
+    let s = fields_read c.args.f c.args.layout c.args.source.now c.args.at _ _ _ _ _ c.requires.2 (sym c.take_fields.ensures
+    ∙ c.in-Ok.is) in omega (arith, s.starts)
 
 pub slice_bounds-seek-count : goal.slice_bounds-seek-count
 slice_bounds-seek-count c =
-    let s = fields_read c.args.f c.args.layout c.args.source.now c.args.at _ _ _ _ _ c.requires.2 (sym c.take_fields-fields.ensures
-    ∙ c.in-Fields.is) in omega (arith, s.starts, s.ends)
+    let s = fields_read c.args.f c.args.layout c.args.source.now c.args.at _ _ _ _ _ c.requires.2 (sym c.take_fields.ensures
+    ∙ c.in-Ok.is) in omega (arith, s.starts, s.ends)
 
 pub slice_bounds-seek-start : goal.slice_bounds-seek-start
 slice_bounds-seek-start c =
-    let s = fields_read c.args.f c.args.layout c.args.source.now c.args.at _ _ _ _ _ c.requires.2 (sym c.take_fields-fields.ensures
-    ∙ c.in-Fields.is) in omega (arith, s.starts, s.ends)
+    let s = fields_read c.args.f c.args.layout c.args.source.now c.args.at _ _ _ _ _ c.requires.2 (sym c.take_fields.ensures
+    ∙ c.in-Ok.is) in omega (arith, s.starts, s.ends)
 
-pub seek-sought-requires : goal.seek-sought-requires
-seek-sought-requires c =
-    let s = fields_read c.args.f c.args.layout c.args.source.now c.args.at _ _ _ _ _ c.requires.2 (sym c.take_fields-fields.ensures
-    ∙ c.in-Fields.is) in
-    (simp part_from (omega (arith, c.requires.3, s.starts, s.ends, length-drop (c.in-Fields.next - c.args.at) c.args.source.now)), c.requires.1)
+pub seek-requires : goal.seek-requires
+seek-requires c =
+    let s = fields_read c.args.f c.args.layout c.args.source.now c.args.at _ _ _ _ _ c.requires.2 (sym c.take_fields.ensures
+    ∙ c.in-Ok.is) in
+    (simp part_from (omega (arith, c.requires.3, s.starts, s.ends, length-drop (c.in-Ok.fields.next - c.args.at) c.args.source.now)), c.requires.1)
 
-pub last_word-more-requires : goal.last_word-more-requires
-last_word-more-requires c =
-    let i = sought_stands c.args.f c.args.layout c.args.source.now c.args.at c.args.number c.requires.2 (sym c.take_fields-fields.ensures
-    ∙ c.in-Fields.is)
-    (simp part_from at (sym c.seek-sought.ensures ∙ c.in-End.is)) in
+pub last_word-requires : goal.last_word-requires
+last_word-requires c =
+    let i = sought_stands c.args.f c.args.layout c.args.source.now c.args.at c.args.number c.requires.2 (sym c.take_fields.ensures
+    ∙ c.in-Ok.is)
+    (simp part_from at (sym c.seek.ensures ∙ c.in-Ok-seek.is)) in
     let b : c.args.layout.behind ≤ 1 = rw c.requires.0 (layout_fits _).behind in (
       omega (arith, i.begins, i.behind),
       i.ends,
@@ -53,58 +53,58 @@ last_word-more-requires c =
 
 pub overflow_sub-before : goal.overflow_sub-before
 overflow_sub-before c =
-    let i = sought_stands c.args.f c.args.layout c.args.source.now c.args.at c.args.number c.requires.2 (sym c.take_fields-fields.ensures
-    ∙ c.in-Fields.is)
-    (simp part_from at (sym c.seek-sought.ensures ∙ c.in-End.is)) in omega (arith, i.begins, i.starts)
+    let i = sought_stands c.args.f c.args.layout c.args.source.now c.args.at c.args.number c.requires.2 (sym c.take_fields.ensures
+    ∙ c.in-Ok.is)
+    (simp part_from at (sym c.seek.ensures ∙ c.in-Ok-seek.is)) in omega (arith, i.begins, i.starts)
 
 pub slice_bounds-argument_of-count : goal.slice_bounds-argument_of-count
 slice_bounds-argument_of-count c =
-    let i = sought_stands c.args.f c.args.layout c.args.source.now c.args.at c.args.number c.requires.2 (sym c.take_fields-fields.ensures
-    ∙ c.in-Fields.is)
-    (simp part_from at (sym c.seek-sought.ensures ∙ c.in-End.is)) in omega (arith, i.begins, i.starts, i.inside)
+    let i = sought_stands c.args.f c.args.layout c.args.source.now c.args.at c.args.number c.requires.2 (sym c.take_fields.ensures
+    ∙ c.in-Ok.is)
+    (simp part_from at (sym c.seek.ensures ∙ c.in-Ok-seek.is)) in omega (arith, i.begins, i.starts, i.inside)
 
 pub slice_bounds-argument_of-start : goal.slice_bounds-argument_of-start
 slice_bounds-argument_of-start c =
-    let i = sought_stands c.args.f c.args.layout c.args.source.now c.args.at c.args.number c.requires.2 (sym c.take_fields-fields.ensures
-    ∙ c.in-Fields.is)
-    (simp part_from at (sym c.seek-sought.ensures ∙ c.in-End.is)) in omega (arith, i.begins, i.starts, i.inside)
+    let i = sought_stands c.args.f c.args.layout c.args.source.now c.args.at c.args.number c.requires.2 (sym c.take_fields.ensures
+    ∙ c.in-Ok.is)
+    (simp part_from at (sym c.seek.ensures ∙ c.in-Ok-seek.is)) in omega (arith, i.begins, i.starts, i.inside)
 
 pub argument_of-requires : goal.argument_of-requires
 argument_of-requires c =
-    let i = sought_stands c.args.f c.args.layout c.args.source.now c.args.at c.args.number c.requires.2 (sym c.take_fields-fields.ensures
-    ∙ c.in-Fields.is)
-    (simp part_from at (sym c.seek-sought.ensures ∙ c.in-End.is)) in simp part_from (omega (
+    let i = sought_stands c.args.f c.args.layout c.args.source.now c.args.at c.args.number c.requires.2 (sym c.take_fields.ensures
+    ∙ c.in-Ok.is)
+    (simp part_from at (sym c.seek.ensures ∙ c.in-Ok-seek.is)) in simp part_from (omega (
       arith,
       c.requires.3,
       i.begins,
       i.starts,
       i.inside,
       length-drop
-          (c.in-End.start - c.args.at) c.args.source.now,
+          (c.in-Ok-seek.sought.start - c.args.at) c.args.source.now,
     ))
 
-pub returns-in-Refused : goal.returns-in-Refused
+pub returns-in_default : goal.returns-in_default
 unfolding argument_in report_of
-returns-in-Refused c =
-    simp (← c.requires.0, ← c.take_fields-fields.ensures, c.in-Refused.is)
+returns-in_default c =
+    simp (← c.requires.0, ← c.take_fields.ensures, c.in_default.is)
 
-pub returns-in-Refused-sought : goal.returns-in-Refused-sought
+pub returns-in_default-seek : goal.returns-in_default-seek
 unfolding argument_in report_of
-returns-in-Refused-sought c =
-    let w = sought_refused c.args.f c.args.layout.count c.args.number (drop (c.in-Fields.next - c.args.at) c.args.source.now)
-    c.in-Fields.next _ (simp part_from at (sym c.seek-sought.ensures ∙ c.in-Refused-sought.is)) in
-    simp (← c.requires.0, ← c.take_fields-fields.ensures, c.in-Fields.is, w)
+returns-in_default-seek c =
+    let w = sought_refused c.args.f c.args.layout.count c.args.number (drop (c.in-Ok.fields.next - c.args.at) c.args.source.now)
+    c.in-Ok.fields.next _ (simp part_from at (sym c.seek.ensures ∙ c.in_default-seek.is)) in
+    simp (← c.requires.0, ← c.take_fields.ensures, c.in-Ok.is, w)
 
-pub returns-in-Refused-more : goal.returns-in-Refused-more
+pub returns-in_default-last_word : goal.returns-in_default-last_word
 unfolding argument_in report_of
-returns-in-Refused-more c =
-    let w = sought_ended c.args.f c.args.layout.count c.args.number (drop (c.in-Fields.next - c.args.at) c.args.source.now)
-    c.in-Fields.next _ _ (simp part_from at (sym c.seek-sought.ensures ∙ c.in-End.is)) in
-    simp (← c.requires.0, ← c.take_fields-fields.ensures, c.in-Fields.is, w.0, ← c.last_word-more.ensures, c.in-Refused-more.is)
+returns-in_default-last_word c =
+    let w = sought_ended c.args.f c.args.layout.count c.args.number (drop (c.in-Ok.fields.next - c.args.at) c.args.source.now)
+    c.in-Ok.fields.next _ _ (simp part_from at (sym c.seek.ensures ∙ c.in-Ok-seek.is)) in
+    simp (← c.requires.0, ← c.take_fields.ensures, c.in-Ok.is, w.0, ← c.last_word.ensures, c.in_default-last_word.is)
 
-pub returns-in-Word : goal.returns-in-Word
-returns-in-Word c =
+pub returns : goal.returns
+returns c =
     simp part_from at c.argument_of.ensures ∙ sym (argument_sought c.args.f c.args.layout c.args.source.now c.args.at c.args.number c.requires.2 (sym
-    c.requires.0) c.requires.1 (sym c.take_fields-fields.ensures ∙ c.in-Fields.is) (simp part_from at (sym c.seek-sought.ensures
-    ∙ c.in-End.is)) (sym c.last_word-more.ensures
-    ∙ c.in-Word.is))
+    c.requires.0) c.requires.1 (sym c.take_fields.ensures ∙ c.in-Ok.is) (simp part_from at (sym c.seek.ensures
+    ∙ c.in-Ok-seek.is)) (sym c.last_word.ensures
+    ∙ c.in-Ok-last_word.is))

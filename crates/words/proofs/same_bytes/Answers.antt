@@ -1,6 +1,6 @@
 -- `same_bytes` meets its contract: each turn compares one word and leaves the bytes behind it (words_same), and behind the turns the last word decides (last_decides).
-use Prim.Native.Nat.{◌-◌}
-use mathlib.Core.Path.{refl, sym, ◌∙◌}
+use Prim.Native.Nat.{◌+◌, ◌-◌, ◌*◌}
+use mathlib.Core.Path.{◌≡◌, refl, sym, ◌∙◌}
 use native.Mathlib.Omega.{arith}
 use lib.ListN.{length}
 use Rattle.words.proofs.Words.{AllBytes}
@@ -12,29 +12,27 @@ pub returns-then-a-b : goal.returns-then-a-b
 returns-then-a-b c =
     sym (same_length c.args.a.now c.args.b.now (λ e. omega (arith, e, c.if-a-b.true)))
 
-pub returns-then-a-lt8 : goal.returns-then-a-lt8
-returns-then-a-lt8 c = c.same_each.ensures
-
 pub loop-i-init : goal.loop-i-init
-loop-i-init c = (search rules, refl)
+loop-i-init c = refl
 
 pub returns-then-little_word : goal.returns-then-little_word
 returns-then-little_word c =
-    sym (words_differ c.args.a.now c.args.b.now c.loop-i.i (λ e. c.if-little_word.true (c.little_word.ensures ∙ e
+    sym (words_differ c.args.a.now c.args.b.now (8 * c.loop-i.i) (λ e. c.if-little_word.true (c.little_word.ensures ∙ e
     ∙ sym c.little_word-in-loop-i.ensures)))
 
 pub loop-i-preserved : goal.loop-i-preserved
 loop-i-preserved c =
-    let p : AllBytes c.args.a.now = λ j. (c.type_inv.a j).fits in
-    let q : AllBytes c.args.b.now = λ j. (c.type_inv.b j).fits in (
-      omega arith,
-      c.loop-i.invariant.1 ∙ words_same c.args.a.now c.args.b.now p q c.loop-i.i (omega arith) (omega arith)
-          (sym c.little_word.ensures ∙ c.if-little_word.false ∙ c.little_word-in-loop-i.ensures),
-    )
+    let p : AllBytes c.args.a.now = search rules in
+    let q : AllBytes c.args.b.now = search rules in
+    let next : 8 * (c.loop-i.i + 1) ≡ 8 * c.loop-i.i + 8 = omega arith in
+    rw next
+    (c.loop-i.invariant
+    ∙ words_same c.args.a.now c.args.b.now p q (8 * c.loop-i.i) (omega arith) (omega arith)
+    (sym c.little_word.ensures ∙ c.if-little_word.false ∙ c.little_word-in-loop-i.ensures))
 
 pub returns : goal.returns
 returns c =
-    let p : AllBytes c.args.a.now = λ j. (c.type_inv.a j).fits in
-    let q : AllBytes c.args.b.now = λ j. (c.type_inv.b j).fits in
+    let p : AllBytes c.args.a.now = search rules in
+    let q : AllBytes c.args.b.now = search rules in
     rw (c.little_word-2.ensures, c.little_word-3.ensures)
-    (last_decides c.args.a.now c.args.b.now p q (length c.args.a.now - 8) c.loop-i.i (omega arith) (omega arith) (omega arith) c.loop-i.invariant.1)
+    (last_decides c.args.a.now c.args.b.now p q (length c.args.a.now - 8) (8 * c.loop-i.i) (omega arith) (omega arith) (omega arith) c.loop-i.invariant)

@@ -1,5 +1,0 @@
--- `contexts::set_rate` meets its contract: only the current context's rate is another. Assumes nothing.
-use Rattle.contexts.proofs.set_rate.Goals as goal
-
-pub returns : goal.returns
-returns c = simp c.with_rate-changed.ensures

@@ -1,5 +1,0 @@
--- `records::is_log` meets its contract: the type is compared. Assumes nothing.
-use Rattle.records.proofs.is_log.Goals as goal
-
-pub returns : goal.returns
-returns c = simp (← c.field.ensures)
