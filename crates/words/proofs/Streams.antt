@@ -1,13 +1,14 @@
 -- Bytes written at a place, and streams with their padding.
 -- Assumes nothing.
-use Prim.Native.Nat.{ℕ, ◌+◌, ◌*◌, ◌≤◌}
+use Prim.Native.Nat.{ℕ, suc, ◌+◌, ◌*◌, ◌<◌, ◌≤◌}
 use mathlib.Core.Path.{◌≡◌, ◌∙◌}
 use mathlib.Core.List.{List, ◌++◌, append_assoc, []}
 use mathlib.Core.Bool.{true}
 use native.Mathlib.Nat.{add_assoc}
+use native.Mathlib.Numerals.{add-one}
 use native.Mathlib.Omega.{arith}
-use lib.ListN.{length, take, drop, replicate, length-append, length-drop, length-replicate}
-use lib.Seq.{length-take-le, take_at, drop_at, drop-drop, drop-append_seam, sets, sets-eq, paste-zero}
+use lib.ListN.{length, get_or, set, take, drop, replicate, length-append, length-drop, length-replicate}
+use lib.Seq.{length-take-le, take_all, take_at, drop_at, drop-drop, drop-append_seam, sets, sets-eq, paste-zero, paste-suc}
 use borrow.Rule.Slice.PartMut.{put_mid}
 use Rattle.words.specs.Stream.{stream_words, padding_of, padded, overwritten, all_zero}
 use Rattle.words.proofs.Words.{At}
@@ -80,6 +81,24 @@ stores_written out place bytes h = sets-eq bytes out place h ∙ append_assoc (t
 -- writing no bytes leaves a buffer as it is
 pub none-overwritten : (out : List ℕ) (place : ℕ) (bytes : List ℕ) → out ≡ overwritten out place (take 0 bytes)
 none-overwritten out place bytes = paste-zero out place bytes ∙ append_assoc (take place out) [] (drop (place + 0) out)
+
+-- a loop that writes byte by byte: a turn's store writes one byte more
+pub more_written : (out : List ℕ) (place : ℕ) (bytes : List ℕ) (i : ℕ) → place + length bytes ≤ length out → i < length bytes
+    → set (overwritten out place (take i bytes)) (place + i) (get_or bytes i 0) ≡ overwritten out place (take (i + 1) bytes)
+more_written out place bytes i h l =
+    rw (
+      length-take-le i bytes (omega arith),
+      length-take-le (i + 1) bytes (omega arith),
+      ← append_assoc (take place out) (take i bytes) (drop (place + i) out),
+      paste-suc out place bytes i 0 (omega arith) l,
+      add-one i,
+      append_assoc (take place out) (take (suc i) bytes) (drop (place + suc i) out),
+    )
+
+-- a loop that writes byte by byte: all is written behind the last turn
+pub all_written : (out : List ℕ) (place : ℕ) (bytes : List ℕ) (i : ℕ) → length bytes ≤ i
+    → overwritten out place (take i bytes) ≡ overwritten out place bytes
+all_written out place bytes i h = rw (take_all i bytes h)
 
 -- a part of a buffer, after bytes of its length were put into it, is those bytes written at its place
 pub part_written : (out : List ℕ) (place k : ℕ) (part bytes : List ℕ) → part ≡ bytes → length bytes ≡ k

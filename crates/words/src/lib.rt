@@ -93,14 +93,16 @@ pub fn stream_words(n: usize) -> usize
     n / 8 + (n % 8 + 7) / 8
 }
 
-// The stream of these bytes, written at a byte place with its padding.
+// The stream of these bytes, written at a byte place with its padding. A loop writes the bytes: `copy_from_slice` makes an archive for C need
+// `memmove` from outside.
 pub fn put_stream(out: &mut [u8], place: usize, bytes: &[u8])
     requires { place + 8 * stream_words (length bytes.now) ≤ length out.old }
     ensures { out.new ≡ overwritten out.old place (padded bytes.now) }
 {
-    let end = place + bytes.len();
-    out[place..end].copy_from_slice(bytes);
-    out[end..place + 8 * stream_words(bytes.len())].fill(0);
+    for i in 0..bytes.len() {
+        out[place + i] = bytes[i];
+    }
+    out[place + bytes.len()..place + 8 * stream_words(bytes.len())].fill(0);
 }
 
 // The part of some bytes that has this place and length, or the empty part where that is not inside them.
@@ -114,6 +116,20 @@ pub fn part(bytes: &[u8], place: usize, length: usize) -> &[u8]
     &bytes[0..0]
 }
 
+// Whether two byte slices of one length are the same: byte by byte, as those of less than eight bytes are compared. `==` takes up to twice as
+// long where they have less than three.
+fn same_each(a: &[u8], b: &[u8]) -> bool
+    requires { length a.now ≡ length b.now }
+    ensures { result ≡ same_bytes a.now b.now }
+{
+    for i in 0..a.len() {
+        if a[i] != b[i] {
+            return false;
+        }
+    }
+    true
+}
+
 // Whether two byte slices are the same: word by word, where the last word may overlap the one before it. `==` alone takes more instructions
 // where they have 8 to 32 bytes, as most texts have.
 pub fn same_bytes(a: &[u8], b: &[u8]) -> bool
@@ -123,7 +139,7 @@ pub fn same_bytes(a: &[u8], b: &[u8]) -> bool
         return false;
     }
     if a.len() < 8 {
-        return a == b;
+        return same_each(a, b);
     }
     for i in 0..(a.len() - 1) / 8 {
         if little_word(a, 8 * i) != little_word(b, 8 * i) {
