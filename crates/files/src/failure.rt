@@ -4,7 +4,7 @@ ghost use Rattle.files.specs.Output.{Says};
 
 use crate::output::write;
 use std::io;
-use std::io::Write;
+use std::io::{ErrorKind, Write};
 
 // How many bytes of an error's text are the system's own. Behind them std writes the error's number, and then zeros follow.
 fn text_length(text: &[u8]) -> usize
@@ -19,7 +19,7 @@ fn text_length(text: &[u8]) -> usize
 }
 
 // Writes a line: what failed, as the caller names it, a colon and the system's text.
-pub fn fail<W: Write>(errors: &mut W, what: &[u8], error: &io::Error) -> io::Result<()>
+pub fn fail<W: Write>(errors: &mut W, what: &[u8], error: &io::Error) -> Result<(), ErrorKind>
     ensures { Says (W.contents errors.old) (W.contents errors.new) (is_ok result) what.now }
 {
     let mut text = [0u8; 320];

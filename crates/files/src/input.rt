@@ -3,8 +3,7 @@
 ghost use Rattle.std.specs.Prelude.{◌≡◌};
 ghost use Rattle.files.specs.Input.{Reads, ReadsBytes, Takes, TakesBytes};
 
-use std::io;
-use std::io::Read;
+use std::io::{ErrorKind, Read};
 
 // Why not all of the bytes that were asked for came: the input ended before the first, or anything else.
 #[derive(Clone, Copy)]
@@ -13,17 +12,19 @@ pub enum ReadError {
     Failed,
 }
 
-// How many bytes came until the buffer was full or the input ended. A read that a signal interrupts is one that failed.
-pub fn read<R: Read>(reader: &mut R, buffer: &mut [u8]) -> io::Result<usize>
+// How many bytes came until the buffer was full or the input ended. A read that a signal interrupts is one that failed. Of
+// std's error its kind is answered, so that the answer is a plain value.
+pub fn read<R: Read>(reader: &mut R, buffer: &mut [u8]) -> Result<usize, ErrorKind>
     ensures reads { Reads buffer.old result buffer.new }
     ensures takes { Takes (R.remaining reader.old) (R.remaining reader.new) result buffer.new }
 {
     let mut n = 0;
     // No `for`: how far a read comes is known only behind it.
     while n < buffer.len() {
-        match reader.read(&mut buffer[n..])? {
-            0 => return Ok(n),
-            more => n += more,
+        match reader.read(&mut buffer[n..]) {
+            Ok(0) => return Ok(n),
+            Ok(more) => n += more,
+            Err(error) => return Err(error.kind()),
         }
     }
     Ok(n)

@@ -5,4 +5,4 @@ use Rattle.files.proofs.input.read.Goals as goal
 
 pub loop-n-preserved : goal.loop-n-preserved
 loop-n-preserved g c =
-    (search rules, search rules, more_consumed _ _ _ _ _ _ _ _ (search rules) c.in_ok-more.ensures.bound.0 c.loop-n.invariant.2 c.in_ok-more.ensures.bytes.0)
+    (search rules, search rules, more_consumed _ _ _ _ _ _ _ _ (search rules) c.in-Ok.ensures.bound.0 c.loop-n.invariant.2 c.in-Ok.ensures.bytes.0)

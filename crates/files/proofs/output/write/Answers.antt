@@ -5,4 +5,4 @@ use Rattle.files.proofs.output.write.Goals as goal
 
 pub loop-done-preserved : goal.loop-done-preserved
 loop-done-preserved g c =
-    (search rules, more_appended _ _ _ _ _ _ _ (search rules) c.loop-done.invariant.1 c.in_ok-more.ensures.bytes)
+    (search rules, more_appended _ _ _ _ _ _ _ (search rules) c.loop-done.invariant.1 c.in-Ok.ensures.bytes)
