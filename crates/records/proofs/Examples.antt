@@ -6,7 +6,6 @@ use mathlib.Core.Bool.{true}
 use lib.ListN.{take, drop}
 use Rattle.words.specs.Word.{word_at, little, little_at, bytes_of}
 use Rattle.words.specs.Stream.{magic, starts_with_magic}
-use Rattle.format.specs.declared.Reason.TheVariants.{Malformed, LongText}
 use Rattle.format.specs.declared.Reference.TheVariants.{Inline, Index}
 use Rattle.format.specs.Limits.{small_format}
 use Rattle.format.specs.Header.{record_words, extent_of}
@@ -17,8 +16,8 @@ use Rattle.arguments.specs.Argument.{header_scalar, holds_word, word_scalar, arg
 use Rattle.arguments.specs.Loss.{value_bytes, reserved_bits, value_padding_zero, argument_keeps, arguments_keep}
 use Rattle.records.specs.declared.Own.TheVariants.{Event as EventOwn, Log as LogOwn}
 use Rattle.records.specs.declared.Report.{Report}
-use Rattle.records.specs.declared.Content.TheVariants.{Magic, String, Report as ReportRead}
-use Rattle.records.specs.Layout.{has_extra, extra_words, is_event, event_layout, log_layout, layout_of, event_of, log_of, own_of, take_fields, last_word, report_of, refused_by}
+use Rattle.records.specs.declared.Content.TheVariants.{Magic, String, Refused, Report as ReportRead}
+use Rattle.records.specs.Layout.{has_extra, extra_words, is_event, event_layout, log_layout, layout_of, event_of, log_of, own_of, take_fields, last_word, report_of}
 use Rattle.records.specs.Models.Layouts.{report_arguments}
 use Rattle.records.specs.Record.{provider_info_of, metadata_of, initialization_of, string_of, thread_of, content_of, record_of, record_at}
 use Rattle.records.specs.Loss.{words_keep, stream_keeps, report_keeps, record_keeps}
@@ -88,8 +87,8 @@ pub record Table : Type 0 where
   pub nine_keeps : record_keeps small_format (drop 24 nine) 24 (ReportRead nine_event) ≡ true
   pub log_indexed : record_at small_format logs 8 ≡ record { content = ReportRead indexed_log; next = 32 }
   pub log_silent : record_at small_format logs 32 ≡ record { content = ReportRead silent_log; next = 64 }
-  pub log_small : record_at small_format short 0 ≡ record { content = refused_by Malformed; next = 8 }
-  pub log_long : record_at small_format short 8 ≡ record { content = refused_by LongText; next = 24 }
+  pub log_small : record_at small_format short 0 ≡ record { content = Refused 6; next = 8 }
+  pub log_long : record_at small_format short 8 ≡ record { content = Refused 7; next = 24 }
   pub log_keeps : record_keeps small_format (take 24 (drop 8 logs)) 8 (ReportRead indexed_log) ≡ true
 
 pub table : Table
