@@ -13,7 +13,7 @@ pub enum ReadError {
 }
 
 // How many bytes came until the buffer was full or the input ended. A read that a signal interrupts is one that failed. Of
-// std's error its kind is answered, so that the answer is a plain value.
+// std's error its kind is answered, so that answers can be compared.
 pub fn read<R: Read>(reader: &mut R, buffer: &mut [u8]) -> Result<usize, ErrorKind>
     ensures reads { Reads buffer.old result buffer.new }
     ensures takes { Takes (R.remaining reader.old) (R.remaining reader.new) result buffer.new }
